@@ -1,0 +1,96 @@
+-- The answers of the three jobs, and the lent buffer.
+use Prim.Native.Nat.{ℕ, _+_, _-_}
+use mathlib.Core.Bool.{Bool, true, false, cond, _&&_}
+use mathlib.Core.List.{List, []}
+use lib.ListN.{length, take, drop}
+use lib.Seq.{paste}
+use lib.Dec.{leb}
+use Rattle.format.specs.Lists.{flat}
+use Rattle.format.specs.Field.{Kind, kinds}
+use Rattle.format.specs.Digits.{number}
+use Rattle.format.specs.Token.{tokens}
+use Rattle.format.specs.Name.{isWireName}
+use Rattle.format.specs.Judge.{Judged, rejected, described, judged}
+use Rattle.format.specs.Run.{shown, readField, Parts, refused, parts, partsOf, maxRdata, textOfParts, readRun}
+
+-- 0 and the octets; or a refusal's number and place.
+pub data Answer : Type 0 where
+  done : List ℕ → Answer
+  refusal : ℕ → ℕ → Answer
+
+abbrev pub maxText : ℕ
+maxText = 1048576
+
+-- what follows where a test holds; else refusal n at place 0
+abbrev pub orRefusal : ℕ → Bool → Answer → Answer
+orRefusal n true a = a
+orRefusal n false a = refusal n 0
+
+abbrev pub ofStanza : Judged → (List Kind → Answer) → Answer
+ofStanza (rejected n i) f = refusal n i
+ofStanza (described d) f = f (kinds (d .fields))
+
+abbrev pub ofParts : Parts → (List (List ℕ) → Answer) → Answer
+ofParts (refused n i) f = refusal n i
+ofParts (parts ps) f = f ps
+
+-- 6: "the run's first field is below 1, or first less 1 plus length is over the stanza's field count"
+abbrev pub isRun : ℕ → ℕ → List Kind → Bool
+isRun first len ks = leb 1 first && leb (first - 1 + len) (length ks)
+
+abbrev pub run : ℕ → ℕ → List Kind → List Kind
+run first len ks = take len (drop (first - 1) ks)
+
+-- Printing, want of room apart. Order: 1; the stanza's; 6; 8 and 9; 10.
+unfoldable pub printing : List ℕ → ℕ → ℕ → List ℕ → Answer
+printing stanza first len rdata =
+    orRefusal 1 (leb (length rdata) maxRdata) (
+    ofStanza (judged stanza) (λ ks.
+    orRefusal 6 (isRun first len ks) (
+    ofParts (partsOf (run first len ks) rdata) (λ ps.
+    done (textOfParts shown (run first len ks) ps)))))
+
+-- Reading, want of room apart. Order: 1; the stanza's; 6; 7; 8 and 9; 10; 11.
+unfoldable pub reads : List ℕ → ℕ → ℕ → List ℕ → List ℕ → Answer
+reads stanza first len origin text =
+    orRefusal 1 (leb (length text) maxText) (
+    ofStanza (judged stanza) (λ ks.
+    orRefusal 6 (isRun first len ks) (
+    orRefusal 7 (isWireName origin) (
+    ofParts (readRun (λ k ts. readField k origin ts) (run first len ks) (tokens text)) (λ ps.
+    orRefusal 11 (leb (length (flat ps)) maxRdata) (
+    done (flat ps)))))))
+
+-- 12: "the result is longer than the room"; place: "octets needed"
+abbrev pub ifRoom : ℕ → Answer → Answer
+ifRoom room (done t) = cond (leb (length t) room) (done t) (refusal 12 (length t))
+ifRoom room (refusal n i) = refusal n i
+
+-- "A place past the end means no room there."
+abbrev pub room : List ℕ → ℕ → ℕ
+room out at = length out - at
+
+-- A call's answer (its number, and the place or the count) and every lent octet afterwards.
+pub record Outcome : Type 0 where
+  pub number : ℕ
+  pub place : ℕ
+  pub lent : List ℕ
+
+-- "A refusal returns a number and a place, and no lent octet differs afterwards. Success returns 0 and the octet count .. only that many octets after it change."
+abbrev pub outcome : List ℕ → ℕ → Answer → Outcome
+outcome out at (done t) = record { number = 0; place = length t; lent = paste out at t (length t) }
+outcome out at (refusal n i) = record { number = n; place = i; lent = out }
+
+unfoldable pub print : List ℕ → ℕ → ℕ → List ℕ → List ℕ → ℕ → Outcome
+print stanza first len rdata out at = outcome out at (ifRoom (room out at) (printing stanza first len rdata))
+
+unfoldable pub read : List ℕ → ℕ → ℕ → List ℕ → List ℕ → List ℕ → ℕ → Outcome
+read stanza first len origin text out at = outcome out at (ifRoom (room out at) (reads stanza first len origin text))
+
+-- "for judging alone, the field count"; nothing is lent
+abbrev pub judgeOutcome : Judged → Outcome
+judgeOutcome (rejected n i) = record { number = n; place = i; lent = [] }
+judgeOutcome (described d) = record { number = 0; place = length (d .fields); lent = [] }
+
+unfoldable pub judge : List ℕ → Outcome
+judge stanza = judgeOutcome (judged stanza)

@@ -1,0 +1,16 @@
+-- EUI48, EUI64: "six or eight pairs of hex digits, either case, with hyphens between; printed lower case".
+use Prim.Native.Nat.{ℕ}
+use Prim.Native.Char.{code}
+use mathlib.Core.List.{List, map}
+use mathlib.Core.Option.{Option}
+use Rattle.format.specs.Lists.{eachOf, parted}
+use Rattle.format.specs.Octets.{ascii}
+use Rattle.format.specs.Digits.{digits, lowerDigit}
+use Rattle.format.specs.Address.{exactly, splitOn}
+use Rattle.format.specs.Hex.{hexPair}
+
+abbrev pub euiText : List ℕ → List ℕ
+euiText xs = parted (ascii "-") (map (λ x. map lowerDigit (digits 16 2 x)) xs)
+
+abbrev pub readEui : ℕ → List ℕ → Option (List ℕ)
+readEui w t = exactly w (eachOf hexPair (splitOn (code "-") t))

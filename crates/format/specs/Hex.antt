@@ -1,0 +1,26 @@
+-- X and X[C]: "even number of digits"; "read either case and print upper".
+use Prim.Native.Nat.{ℕ}
+use mathlib.Core.Bool.{cond}
+use mathlib.Core.List.{List, [], _∷_, map}
+use mathlib.Core.Option.{Option, none, some}
+use lib.ListN.{length}
+use lib.Dec.{eqb}
+use Rattle.format.specs.Lists.{_>>=_, consBoth, eachOf, flatMap}
+use Rattle.format.specs.Digits.{digits, number, upperDigit, digitValue}
+use Rattle.format.specs.Text.{counted}
+
+abbrev pub hexText : List ℕ → List ℕ
+hexText xs = flatMap (λ x. map upperDigit (digits 16 2 x)) xs
+
+-- an octet of two hex digits
+abbrev pub hexPair : List ℕ → Option ℕ
+hexPair t = cond (eqb (length t) 2) (eachOf (digitValue 16) t >>= λ ds. some (number 16 ds)) none
+
+abbrev pub fromHex : List ℕ → Option (List ℕ)
+fromHex [] = some []
+fromHex (a ∷ []) = none
+fromHex (a ∷ b ∷ t) = consBoth (hexPair (a ∷ b ∷ [])) (fromHex t)
+
+-- "X[C]: count 1 to 255"
+abbrev pub readCountedHex : List ℕ → Option (List ℕ)
+readCountedHex t = fromHex t >>= counted 1

@@ -1,0 +1,62 @@
+-- Octets: numbers below 256, and the classes of them that document 01 names.
+use Prim.Native.Nat.{ℕ, _+_, _<_}
+use Prim.Native.Char.{code}
+use mathlib.Core.Bool.{Bool, true, false, cond, _&&_, _||_}
+use mathlib.Core.List.{List, [], _∷_}
+use lib.Dec.{leb, eqb}
+use Rattle.format.specs.Lists.{anyOf}
+use Prim.Native.String.{String, [] as none, _∷_ as _then_}
+
+-- every number of a list is below b
+abbrev pub Below : ℕ → List ℕ → Type 0
+Below b [] = Unit {0}
+Below b (x ∷ xs) = (x < b) × Below b xs
+
+-- a list of octets, as every slice of octets is
+abbrev pub Octets : List ℕ → Type 0
+Octets xs = Below 256 xs
+
+-- the octets of an ASCII text
+abbrev pub ascii : String → List ℕ
+ascii none = []
+ascii (c then s) = code c ∷ ascii s
+
+abbrev pub inRange : ℕ → ℕ → ℕ → Bool
+inRange lo hi x = leb lo x && leb x hi
+
+abbrev pub among : ℕ → List ℕ → Bool
+among x xs = anyOf (eqb x) xs
+
+-- "Blank means space or tab."
+abbrev pub blank : ℕ → Bool
+blank x = eqb x (code " ") || eqb x 9
+
+abbrev pub digit : ℕ → Bool
+digit x = inRange (code "0") (code "9") x
+
+abbrev pub letter : ℕ → Bool
+letter x = inRange (code "A") (code "Z") x || inRange (code "a") (code "z") x
+
+abbrev pub alphanumeric : ℕ → Bool
+alphanumeric x = letter x || digit x
+
+-- letters, digits, hyphens
+abbrev pub nameOctet : ℕ → Bool
+nameOctet x = letter x || digit x || eqb x (code "-")
+
+-- the same octets
+abbrev pub sameOctets : List ℕ → List ℕ → Bool
+sameOctets [] [] = true
+sameOctets [] (y ∷ ys) = false
+sameOctets (x ∷ xs) [] = false
+sameOctets (x ∷ xs) (y ∷ ys) = eqb x y && sameOctets xs ys
+
+-- "letters' case ignored"
+abbrev pub lowered : ℕ → ℕ
+lowered x = cond (inRange (code "A") (code "Z") x) (x + 32) x
+
+abbrev pub sameWord : List ℕ → List ℕ → Bool
+sameWord [] [] = true
+sameWord [] (y ∷ ys) = false
+sameWord (x ∷ xs) [] = false
+sameWord (x ∷ xs) (y ∷ ys) = eqb (lowered x) (lowered y) && sameWord xs ys
