@@ -92,14 +92,14 @@ pub data Doubled : Type 0 where
   single : Doubled
   double : List ℕ → List ℕ → Doubled
 
-abbrev pub before : ℕ → Doubled → Doubled
-before x single = single
-before x (double s t) = double (x ∷ s) t
+abbrev pub intoBefore : ℕ → Doubled → Doubled
+intoBefore x single = single
+intoBefore x (double s t) = double (x ∷ s) t
 
 abbrev pub atDoubleColon : List ℕ → Doubled
 atDoubleColon [] = single
 atDoubleColon (x ∷ []) = single
-atDoubleColon (x ∷ y ∷ xs) = let later = before x (atDoubleColon (y ∷ xs)) in cond (eqb x (code ":") && eqb y (code ":")) (double [] xs) later
+atDoubleColon (x ∷ y ∷ xs) = let later = intoBefore x (atDoubleColon (y ∷ xs)) in cond (eqb x (code ":") && eqb y (code ":")) (double [] xs) later
 
 -- "RFC 4291 forms, .. `::` for one or more groups"
 abbrev pub eightGroups : List ℕ → Doubled → Option (List ℕ)

@@ -2,11 +2,12 @@
 use Prim.Native.Nat.{ℕ, zero, suc, _+_, _*_}
 use mathlib.Core.Bool.{cond}
 use mathlib.Core.List.{List, [], _∷_, _++_, map}
+use mathlib.Core.Option.{Option, some}
 use lib.ListN.{length}
-use Rattle.format.specs.Lists.{parted}
+use Rattle.format.specs.Lists.{_>>=_, eachOf, parted}
 use Rattle.format.specs.Octets.{ascii, among}
 use Rattle.format.specs.Digits.{digits, number}
-use Rattle.format.specs.Rrtype.{typeText}
+use Rattle.format.specs.Token.{Token}
 
 -- the set bits, numbered from n
 abbrev pub ifSet : ℕ → ℕ → List ℕ → List ℕ
@@ -37,9 +38,9 @@ typesFrom (atOctet n m) (x ∷ xs) = setBits n (digits 2 8 x) ++ typesFrom (atOc
 abbrev pub types : List ℕ → List ℕ
 types xs = typesFrom atWindow xs
 
--- "prints rising"
-abbrev pub bitmapText : List ℕ → List ℕ
-bitmapText xs = parted (ascii " ") (map typeText (types xs))
+-- "prints rising": `text` writes one type
+abbrev pub bitmapText : (ℕ → List ℕ) → List ℕ → List ℕ
+bitmapText text xs = parted (ascii " ") (map text (types xs))
 
 -- "Text lists types in any order, repeats allowed": bit n of the picture of a list of types
 abbrev pub bitOf : List ℕ → ℕ → ℕ
@@ -79,3 +80,7 @@ blocksFrom ts w (suc k) = blockOf w (withoutLastZeros (windowOctets ts w)) ++ bl
 
 abbrev pub blocks : List ℕ → List ℕ
 blocks ts = blocksFrom ts 0 256
+
+-- `value` reads one type
+abbrev pub readBitmap : (Token → Option ℕ) → List Token → Option (List ℕ)
+readBitmap value ts = eachOf value ts >>= λ l. some (blocks l)

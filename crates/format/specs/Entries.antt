@@ -1,9 +1,8 @@
 -- The answers of the three jobs, and the lent buffer.
 use Prim.Native.Nat.{ℕ, _+_, _-_}
 use mathlib.Core.Bool.{Bool, true, false, cond, _&&_}
-use mathlib.Core.List.{List, []}
+use mathlib.Core.List.{List, [], _++_}
 use lib.ListN.{length, take, drop}
-use lib.Seq.{paste}
 use lib.Dec.{leb}
 use Rattle.format.specs.Lists.{flat}
 use Rattle.format.specs.Field.{Kind, kinds}
@@ -51,8 +50,8 @@ printing stanza first len rdata =
     done (textOfParts shown (run first len ks) ps)))))
 
 -- Reading, want of room apart. Order: 1; the stanza's; 6; 7; 8 and 9; 10; 11.
-unfoldable pub reads : List ℕ → ℕ → ℕ → List ℕ → List ℕ → Answer
-reads stanza first len origin text =
+unfoldable pub reading : List ℕ → ℕ → ℕ → List ℕ → List ℕ → Answer
+reading stanza first len origin text =
     orRefusal 1 (leb (length text) maxText) (
     ofStanza (judged stanza) (λ ks.
     orRefusal 6 (isRun first len ks) (
@@ -76,16 +75,20 @@ pub record Outcome : Type 0 where
   pub place : ℕ
   pub lent : List ℕ
 
+-- octets stored from a place on
+abbrev pub stored : List ℕ → ℕ → List ℕ → List ℕ
+stored out at t = take at out ++ t ++ drop (at + length t) out
+
 -- "A refusal returns a number and a place, and no lent octet differs afterwards. Success returns 0 and the octet count .. only that many octets after it change."
 abbrev pub outcome : List ℕ → ℕ → Answer → Outcome
-outcome out at (done t) = record { number = 0; place = length t; lent = paste out at t (length t) }
+outcome out at (done t) = record { number = 0; place = length t; lent = stored out at t }
 outcome out at (refusal n i) = record { number = n; place = i; lent = out }
 
 unfoldable pub print : List ℕ → ℕ → ℕ → List ℕ → List ℕ → ℕ → Outcome
 print stanza first len rdata out at = outcome out at (ifRoom (room out at) (printing stanza first len rdata))
 
 unfoldable pub read : List ℕ → ℕ → ℕ → List ℕ → List ℕ → List ℕ → ℕ → Outcome
-read stanza first len origin text out at = outcome out at (ifRoom (room out at) (reads stanza first len origin text))
+read stanza first len origin text out at = outcome out at (ifRoom (room out at) (reading stanza first len origin text))
 
 -- "for judging alone, the field count"; nothing is lent
 abbrev pub judgeOutcome : Judged → Outcome

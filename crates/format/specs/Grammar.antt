@@ -42,8 +42,9 @@ abbrev pub freeTextAt : ℕ → List ℕ → Option Part
 freeTextAt end [] = some (partAt end [] [])
 freeTextAt end (x ∷ t) = provided (blank x && allOf (inRange 0x20 0xFE) t) (partAt end t t)
 
--- The header: its type number, and its free text.
+-- The header: the type's name and number, and the free text.
 pub record Header : Type 0 where
+  pub typeName : Part
   pub typeNo : ℕ
   pub headerText : Part
 
@@ -71,7 +72,7 @@ headerLine end t = do
     n ← ifDecimal (span digit u)
     r ← afterOptions (n .rest)
     text ← freeTextAt end r
-    some (record { typeNo = n .value; headerText = text })
+    some (record { typeName = partAt end t (named .front); typeNo = n .value; headerText = text })
 
 -- "A qualifier is a name, or name`=`digits."
 pub data Qualifier : Type 0 where

@@ -14,7 +14,7 @@ use Rattle.format.specs.Hex.{hexText}
 use Rattle.format.specs.Lines.{linesOf}
 use Rattle.format.specs.Judge.{Judged, rejected, described, judged}
 use Rattle.format.specs.Run.{bareOf}
-use Rattle.format.specs.Entries.{Answer, done, refusal, reads}
+use Rattle.format.specs.Entries.{Answer, done, refusal, reading}
 
 -- A section's lines, and the lines after it.
 pub record Section : Type 0 where
@@ -66,7 +66,7 @@ fieldCount (described d) = length (d .fields)
 
 -- every record is read under all the fields; "a refused stanza is reported at each record"
 abbrev pub recordLine : Job → List ℕ → List ℕ
-recordLine j t = answerLine (reads (j .stanza) 1 (fieldCount (judged (j .stanza))) (j .origin) t)
+recordLine j t = answerLine (reading (j .stanza) 1 (fieldCount (judged (j .stanza))) (j .origin) t)
 
 -- "A job that breaks this writes only `bad job`"
 abbrev pub written : Option Job → List ℕ

@@ -20,8 +20,8 @@ pub record Description : Type 0 where
 
 -- Before the header, or after it with the fields so far.
 pub data Progress : Type 0 where
-  awaiting : Progress
-  reading : Description → Progress
+  beforeHeader : Progress
+  afterHeader : Description → Progress
 
 -- What a line does: a refusal's number, or how things stand after it.
 pub data Verdict : Type 0 where
@@ -41,7 +41,7 @@ abbrev pub withField : Description → Field → Verdict
 withField d f =
     cond (afterTail (d .fields) || anyOf (sameName f) (d .fields)) (faulty 4)
     (cond (leb 64 (length (d .fields))) (faulty 5)
-    (goesOn (reading (record { header = d .header; fields = d .fields ++ f ∷ [] }))))
+    (goesOn (afterHeader (record { header = d .header; fields = d .fields ++ f ∷ [] }))))
 
 abbrev pub ofMeaning : Description → FieldLine → Meaning → Verdict
 ofMeaning d l unknown = faulty 3
@@ -55,12 +55,12 @@ ofFieldLine d (some l) = ofMeaning d l (meaning (l .keyword) (l .qualifiers))
 -- "a type number outside 1 to 65,535"
 abbrev pub ofHeader : Option Header → Verdict
 ofHeader none = faulty 2
-ofHeader (some h) = cond (inRange 1 65535 (h .typeNo)) (goesOn (reading (record { header = h; fields = [] }))) (faulty 4)
+ofHeader (some h) = cond (inRange 1 65535 (h .typeNo)) (goesOn (afterHeader (record { header = h; fields = [] }))) (faulty 4)
 
 -- "The header starts in column 1"; "A field line starts with one or more spaces or tabs"
 abbrev pub contentLine : Progress → Bool → ℕ → List ℕ → Verdict
-contentLine awaiting indented end t = cond indented (faulty 2) (ofHeader (headerLine end t))
-contentLine (reading d) indented end t = cond indented (ofFieldLine d (fieldLine end t)) (faulty 2)
+contentLine beforeHeader indented end t = cond indented (faulty 2) (ofHeader (headerLine end t))
+contentLine (afterHeader d) indented end t = cond indented (ofFieldLine d (fieldLine end t)) (faulty 2)
 
 -- "Blank lines and those whose first nonblank is `#` only count for numbering"
 abbrev pub ignored : List ℕ → Bool
@@ -80,8 +80,8 @@ pub data Judged : Type 0 where
 
 -- "no header or no field line exists": 2 at 0
 abbrev pub atEnd : Progress → Judged
-atEnd awaiting = rejected 2 0
-atEnd (reading d) = cond (null (d .fields)) (rejected 2 0) (described d)
+atEnd beforeHeader = rejected 2 0
+atEnd (afterHeader d) = cond (null (d .fields)) (rejected 2 0) (described d)
 
 abbrev pub afterLine : Verdict → ℕ → (Progress → Judged) → Judged
 afterLine (faulty n) i f = rejected n i
@@ -96,4 +96,4 @@ abbrev pub maxStanza : ℕ
 maxStanza = 8192
 
 unfoldable pub judged : List ℕ → Judged
-judged stanza = cond (leb (length stanza) maxStanza) (judgedFrom 1 awaiting (lines stanza)) (rejected 1 0)
+judged stanza = cond (leb (length stanza) maxStanza) (judgedFrom 1 beforeHeader (lines stanza)) (rejected 1 0)

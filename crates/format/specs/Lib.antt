@@ -21,3 +21,4 @@ pub mod Judge
 pub mod Run
 pub mod Entries
 pub mod Job
+pub mod Demands

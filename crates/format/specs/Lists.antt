@@ -63,10 +63,13 @@ parted s [] = []
 parted s (t ∷ []) = t
 parted s (t ∷ u ∷ ts) = t ++ s ++ parted s (u ∷ ts)
 
+abbrev pub consFirst : {A : Type 0} → A → List (List A) → List (List A)
+consFirst x [] = []
+consFirst x (t ∷ ts) = (x ∷ t) ∷ ts
+
 abbrev pub parting : {A : Type 0} → Bool → A → List (List A) → List (List A)
 parting true x ts = [] ∷ ts
-parting false x [] = []
-parting false x (t ∷ ts) = (x ∷ t) ∷ ts
+parting false x ts = consFirst x ts
 
 -- the parts between the elements that pass: one more than those
 abbrev pub split : {A : Type 0} → (A → Bool) → List A → List (List A)

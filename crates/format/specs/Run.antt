@@ -13,7 +13,7 @@ use Rattle.format.specs.Digits.{number}
 use Rattle.format.specs.Number.{symbolOrDecimal, readInteger}
 use Rattle.format.specs.Token.{Token, bare, quoted, broken}
 use Rattle.format.specs.Rrtype.{typeText, typeNumber, readType}
-use Rattle.format.specs.Bitmap.{bitmapText, blocks}
+use Rattle.format.specs.Bitmap.{bitmapText, readBitmap}
 use Rattle.format.specs.Address.{dottedText, readA, groups, colons, readAA, aaaaText, readAAAA}
 use Rattle.format.specs.Text.{pieces, stringText, readString, notEmpty, readRaw}
 use Rattle.format.specs.Name.{nameText, readName}
@@ -26,7 +26,7 @@ use Rattle.format.specs.Time.{timeText, readTime}
 unfoldable pub shown : Kind → List ℕ → List ℕ
 shown (int w l) p = symbolOrDecimal l (number 256 p)
 shown rrtype p = typeText (number 256 p)
-shown bitmap p = bitmapText p
+shown bitmap p = bitmapText typeText p
 shown a4 p = dottedText p
 shown aa p = colons (groups p)
 shown aaaa p = aaaaText (groups p)
@@ -75,7 +75,7 @@ joinedBares f (t ∷ ts) = gotOr (eachOf bareOf (t ∷ ts) >>= λ l. f (flat l) 
 unfoldable pub readField : Kind → List ℕ → List Token → Got
 readField (int w l) o ts = oneBare (readInteger w l) ts
 readField rrtype o ts = oneBare readType ts
-readField bitmap o ts = gotOr (eachOf (λ t. bareOf t >>= typeNumber) ts >>= λ l. some (blocks l)) []
+readField bitmap o ts = gotOr (readBitmap (λ t. bareOf t >>= typeNumber) ts) []
 readField a4 o ts = oneBare readA ts
 readField aa o ts = oneBare readAA ts
 readField aaaa o ts = oneBare readAAAA ts

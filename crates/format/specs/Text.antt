@@ -5,15 +5,11 @@ use mathlib.Core.Bool.{not}
 use mathlib.Core.List.{List, [], _∷_, _++_, map}
 use mathlib.Core.Option.{Option, none, some}
 use lib.ListN.{length, drop}
-use Rattle.format.specs.Lists.{_>>=_, provided, null, flatMap}
+use Rattle.format.specs.Lists.{_>>=_, provided, null, flatMap, consFirst}
 use Rattle.format.specs.Octets.{ascii, inRange, among}
 use Rattle.format.specs.Token.{Token, bare, quoted, broken, octetOf, unescaped, escaped}
 
--- the counted strings of octets, of the first of which n octets are left
-abbrev pub consFirst : {A : Type 0} → A → List (List A) → List (List A)
-consFirst x [] = []
-consFirst x (t ∷ ts) = (x ∷ t) ∷ ts
-
+-- the pieces from where n octets of the first are left
 abbrev pub piecesFrom : ℕ → List ℕ → List (List ℕ)
 piecesFrom n [] = [] ∷ []
 piecesFrom zero (c ∷ xs) = [] ∷ piecesFrom c xs

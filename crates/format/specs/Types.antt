@@ -22,8 +22,8 @@ pub record TypeRow : Type 0 where
 abbrev pub row : String → Takes → TypeRow
 row k t = record { typeWord = ascii k; takes = t }
 
-abbrev pub plainly : Kind → Takes
-plainly k = words [] (λ given. some k)
+abbrev pub noWords : Kind → Takes
+noWords k = words [] (λ given. some k)
 
 abbrev pub hasWord : List (List ℕ) → List ℕ → Bool
 hasWord ws w = anyOf (sameOctets w) ws
@@ -46,13 +46,13 @@ abbrev pub typeRows : List TypeRow
 typeRows =
     row "I1" (symbols 1) ∷ row "I2" (symbols 2) ∷ row "I4" (symbols 4) ∷
     row "R" (words (ascii "L" ∷ []) (λ given. some (cond (null given) rrtype bitmap))) ∷
-    row "A" (plainly a4) ∷ row "AA" (plainly aa) ∷ row "AAAA" (plainly aaaa) ∷
+    row "A" (noWords a4) ∷ row "AA" (noWords aa) ∷ row "AAAA" (noWords aaaa) ∷
     row "N" (words (ascii "C" ∷ ascii "A" ∷ ascii "L" ∷ ascii "O" ∷ []) (λ given. some (nameKind given))) ∷
     row "S" (words (ascii "M" ∷ ascii "X" ∷ []) stringKind) ∷
-    row "B32" (plainly b32) ∷ row "B64" (plainly b64) ∷
+    row "B32" (noWords b32) ∷ row "B64" (noWords b64) ∷
     row "X" (words (ascii "C" ∷ []) (λ given. some (cond (null given) hex hexc))) ∷
-    row "T" (plainly time) ∷
-    row "EUI48" (plainly (eui 6)) ∷ row "EUI64" (plainly (eui 8)) ∷ row "X6" (plainly (eui 6)) ∷ row "X8" (plainly (eui 8)) ∷ []
+    row "T" (noWords time) ∷
+    row "EUI48" (noWords (eui 6)) ∷ row "EUI64" (noWords (eui 8)) ∷ row "X6" (noWords (eui 6)) ∷ row "X8" (noWords (eui 8)) ∷ []
 
 -- what a type takes, if it is known
 abbrev pub takesOf : List TypeRow → List ℕ → Option Takes
@@ -60,15 +60,15 @@ takesOf [] k = none
 takesOf (r ∷ rs) k = cond (sameOctets k (r .typeWord)) (some (r .takes)) (takesOf rs k)
 
 -- a word that some type takes is known
-abbrev pub takesWord : List ℕ → TypeRow → Bool
-takesWord w r = wordsOfRow (r .takes)
-  where
-    wordsOfRow : Takes → Bool
-    wordsOfRow (symbols n) = false
-    wordsOfRow (words ws f) = hasWord ws w
+abbrev pub wordsOf : Takes → List (List ℕ)
+wordsOf (symbols w) = []
+wordsOf (words ws f) = ws
+
+abbrev pub knownWord : List ℕ → Bool
+knownWord w = anyOf (λ r. hasWord (wordsOf (r .takes)) w) typeRows
 
 abbrev pub unknownWord : Qualifier → Bool
-unknownWord (word w) = not (anyOf (takesWord w) typeRows)
+unknownWord (word w) = not (knownWord w)
 unknownWord (symbol s) = false
 
 -- the symbols, if there is nothing else: "a symbol number too big for its field"

@@ -1,0 +1,5 @@
+pub mod Finite
+pub mod Digits
+pub mod Wire
+pub mod Token
+pub mod Field
