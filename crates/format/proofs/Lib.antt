@@ -3,3 +3,5 @@ pub mod Digits
 pub mod Wire
 pub mod Token
 pub mod Field
+pub mod Number
+pub mod Rrtype
