@@ -5,3 +5,5 @@ pub mod Token
 pub mod Field
 pub mod Number
 pub mod Rrtype
+pub mod Hex
+pub mod Eui

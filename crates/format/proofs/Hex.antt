@@ -1,0 +1,56 @@
+-- X and X[C]: read back, bounded, accepted.
+use Prim.Native.Nat.{ℕ, _*_, _<_}
+use mathlib.Core.Path.{_≡_, refl, ap, _∙_, ap₂}
+use mathlib.Core.List.{List, [], _∷_, _++_, map}
+use mathlib.Core.Option.{Option, some}
+use native.Mathlib.Omega.{arith}
+use lib.ListN.{length, drop, length-drop}
+use Rattle.format.specs.Lists.{_>>=_, consBoth}
+use Rattle.format.specs.Octets.{Octets}
+use Rattle.format.specs.Wire.{count}
+use Rattle.format.specs.Field.{hex, hexc}
+use Rattle.format.specs.Digits.{digits, number, upperDigit, digitValue}
+use Rattle.format.specs.Token.{between, scanned}
+use Rattle.format.specs.Text.{withCount, counted}
+use Rattle.format.specs.Hex.{hexText, hexPair, fromHex, readCountedHex}
+use Rattle.format.specs.Run.{shown, got, oneBare, readField}
+use Rattle.format.proofs.Digits.{digits-below, number-digits, chars-back}
+use Rattle.format.proofs.Wire.{end-some}
+use Rattle.format.proofs.Token.{Parted, Plainly, chars-plain, plain-append}
+use Rattle.format.proofs.Field.{Back, FieldLaws, bind-some, bare-back, all-back, bare-accepted, all-accepted, counted-accepted, Counted, is-counted, counted-octets, counted-some}
+
+pair-reads : (x : ℕ) → x < 256 → hexPair (map upperDigit (digits 16 2 x)) ≡ some x
+pair-reads x h = ap (λ (o : Option (List ℕ)). o >>= λ ds. some (number 16 ds)) (chars-back upperDigit (digitValue 16) 16 refl (digits 16 2 x) (digits-below 16 2 x (omega arith))) ∙ ap some (number-digits 16 2 x (omega arith) h)
+
+hex-reads : (p : List ℕ) → Octets p → fromHex (hexText p) ≡ some p
+hex-reads [] b = refl
+hex-reads (x ∷ p) b = ap₂ consBoth (pair-reads x (b .0)) (hex-reads p (b .1))
+
+hex-plain : (p : List ℕ) → Plainly (hexText p)
+hex-plain [] = tt
+hex-plain (x ∷ p) = plain-append (map upperDigit (digits 16 2 x)) (hexText p) (chars-plain upperDigit 16 refl (digits 16 2 x) (digits-below 16 2 x (omega arith))) (hex-plain p)
+
+hex-length : (p : List ℕ) → length (hexText p) ≡ 2 * length p
+hex-length [] = refl
+hex-length (x ∷ p) = omega (arith, hex-length p)
+
+pub hex-laws : FieldLaws hex
+unfolding Back shown readField
+hex-laws = record {
+  back = λ o p b e r q t. let n = end-some p e in all-back fromHex (hexText p) p r (omega (arith, hex-length p)) (hex-plain p) (hex-reads p b) n (t refl);
+  bound = λ p b e. omega (arith, hex-length p);
+  accepted = λ o n ts us p e. all-accepted fromHex ts us p e;
+}
+
+pub hexc-laws : FieldLaws hexc
+unfolding Back shown readField
+hexc-laws = record {
+  back = λ o p b e r q t. back p r (counted-octets 1 p e) b q;
+  bound = λ p b e. omega (arith, hex-length (drop 1 p), length-drop 1 p);
+  accepted = λ o n ts us p e. bare-accepted (count 1) readCountedHex (λ t p e. let (u, a, b) = bind-some (fromHex t) (counted 1) p e in counted-accepted 1 u p b) ts us p e;
+}
+  where
+    back : (p r : List ℕ) → Counted 1 p → Octets p → Parted r → oneBare readCountedHex (scanned between (hexText (drop 1 p) ++ r)) ≡ got p (scanned between r)
+    back p r (is-counted xs c l) b q =
+        let d : Octets (withCount xs) = rw c at b in
+        rw c (bare-back readCountedHex (hexText xs) (withCount xs) r (omega (arith, hex-length xs)) (hex-plain xs) (rw (hex-reads xs (d .1)) (counted-some 1 xs l (omega (arith, d .0)))) q)
