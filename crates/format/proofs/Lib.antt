@@ -7,3 +7,5 @@ pub mod Number
 pub mod Rrtype
 pub mod Hex
 pub mod Eui
+pub mod Address
+pub mod Time

@@ -72,7 +72,7 @@ afterRun m [] = []
 afterRun m (g ∷ gs) = cond (eqb (zerosAt (g ∷ gs)) m) (drop m (g ∷ gs)) (afterRun m gs)
 
 abbrev pub aaaaText : List ℕ → List ℕ
-aaaaText gs = cond (ltb (longestZeros gs) 2) (colons gs) (colons (beforeRun (longestZeros gs) gs) ++ ascii "::" ++ colons (afterRun (longestZeros gs) gs))
+aaaaText gs = cond (ltb (longestZeros gs) 2) (colons gs) (colons (beforeRun (longestZeros gs) gs) ++ (ascii "::" ++ colons (afterRun (longestZeros gs) gs)))
 
 -- "a dotted tail by A's rule included": the last text may be dotted where the Bool says so
 abbrev pub lastGroups : Bool → List ℕ → Option (List ℕ)

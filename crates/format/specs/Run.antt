@@ -126,7 +126,7 @@ accepts ks xs = leb (length xs) maxRdata && isParts (partsOf ks xs)
 abbrev pub joined : List ℕ → List ℕ → List ℕ
 joined [] t = t
 joined (x ∷ s) [] = x ∷ s
-joined (x ∷ s) (y ∷ t) = (x ∷ s) ++ ascii " " ++ (y ∷ t)
+joined (x ∷ s) (y ∷ t) = (x ∷ s) ++ (ascii " " ++ y ∷ t)
 
 -- A run's text is the same for any way to show a field.
 module _ (show : Kind → List ℕ → List ℕ) where
