@@ -16,11 +16,12 @@ use Rattle.format.specs.Number.{decimal}
 use Rattle.format.specs.Token.{between, scanned, plain}
 use Rattle.format.specs.Address.{smallNumber, exactly, splitOn, readA, groups, groupOctets, groupText, colons, groupOf, readAA, zerosAt, longestZeros, beforeRun, afterRun, aaaaText, groupsOf, sideOf, Doubled, single, double, intoBefore, atDoubleColon, eightGroups, readAAAA}
 use Rattle.format.specs.Run.{shown, got, oneBare, readField}
+use Rattle.format.proofs.Lists.{not-true, bind-some, provided-some}
 use Rattle.format.proofs.Finite.{at-each}
 use Rattle.format.proofs.Digits.{digits-below, digits-length, number-digits, digits-number, zeros-number, zeros-below, zeros-length, chars-back}
 use Rattle.format.proofs.Wire.{octets-taken}
-use Rattle.format.proofs.Token.{Parted, Plainly, not-true, chars-plain, plain-append}
-use Rattle.format.proofs.Field.{Back, FieldLaws, bind-some, provided-some, bare-back, width-accepted, pieces-bound, Free, split-last, split-more, Separated, separated-read, separated-plain, separated-long, octets-separated, exact, exactly-length, separated-back}
+use Rattle.format.proofs.Token.{Parted, Plainly, chars-plain, plain-append}
+use Rattle.format.proofs.Field.{Back, FieldLaws, bare-back, width-accepted, pieces-bound, Free, split-last, split-more, Separated, separated-read, separated-plain, separated-long, octets-separated, exact, exactly-length, separated-back}
 use Rattle.format.proofs.Number.{decimal-10}
 
 -- A

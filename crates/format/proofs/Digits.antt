@@ -13,11 +13,8 @@ use Rattle.format.specs.Lists.{eachOf}
 use Rattle.format.specs.Octets.{Below}
 use Rattle.format.specs.Digits.{digits, numberFrom, number, withoutZeros, upperDigit, digitValue}
 use Rattle.format.specs.Number.{decimal, decimalOf}
+use Rattle.format.proofs.Lists.{below-append}
 use Rattle.format.proofs.Finite.{allBelow, at-each}
-
-pub below-append : (b : ℕ) (ds es : List ℕ) → Below b ds → Below b es → Below b (ds ++ es)
-below-append b [] es h k = k
-below-append b (d ∷ ds) es h k = (h .0, below-append b ds es (h .1) k)
 
 pub digits-below : (b w n : ℕ) → 0 < b → Below b (digits b w n)
 digits-below b zero n h = tt

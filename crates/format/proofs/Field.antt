@@ -18,10 +18,11 @@ use Rattle.format.specs.Text.{withCount, counted, notEmpty}
 use Rattle.format.specs.Name.{isWireName}
 use Rattle.format.specs.Run.{shown, got, gotOr, bareOf, oneToken, oneBare, joinedBares, readField}
 use Rattle.format.specs.Entries.{read}
-use Rattle.format.proofs.Finite.{and-left, and-right, allBelow, at-each}
+use Rattle.format.proofs.Lists.{and-left, and-right, not-true, bind-some, provided-some}
+use Rattle.format.proofs.Finite.{allBelow, at-each}
 use Rattle.format.proofs.Digits.{gives-back, gives-some}
 use Rattle.format.proofs.Wire.{Came, stops, goes, came, at-end, need-takes, takes-width, takes-count, takes-end}
-use Rattle.format.proofs.Token.{Parted, at-end-of-text, plainly, Plainly, not-true, bare-scanned, none-scanned, plain-append}
+use Rattle.format.proofs.Token.{Parted, at-end-of-text, plainly, Plainly, bare-scanned, none-scanned, plain-append}
 
 -- the field's text, and then nothing or a space and more, reads to its octets
 unfoldable pub Back : Kind → List ℕ → List ℕ → Type 0
@@ -36,15 +37,6 @@ pub record FieldLaws (k : Kind) : Type 0 where
   pub back : (o p : List ℕ) → Octets p → taken (start k) p ≡ took (length p) → Back k o p
   pub bound : (p : List ℕ) → Octets p → taken (start k) p ≡ took (length p) → length (shown k p) ≤ 4 * length p + cap (tail k)
   pub accepted : (o : List ℕ) → isWireName o ≡ true → (ts us : List Token) (p : List ℕ) → readField k o ts ≡ got p us → taken (start k) p ≡ took (length p)
-
--- options
-pub bind-some : {A B : Type 0} (o : Option A) (f : A → Option B) (y : B) → (o >>= f) ≡ some y → (x : A) × (o ≡ some x) × (f x ≡ some y)
-bind-some none f y e = let z : _≡_ {A = ℕ} 0 1 = cc in absurd (omega arith)
-bind-some (some x) f y e = (x, refl, e)
-
-pub provided-some : {A : Type 0} (b : Bool) (x y : A) → provided b x ≡ some y → (b ≡ true) × (x ≡ y)
-provided-some true x y e = (refl, cc)
-provided-some false x y e = let z : _≡_ {A = ℕ} 0 1 = cc in absurd (omega arith)
 
 -- one bare token of plain octets
 pub bare-back : (f : List ℕ → Option (List ℕ)) (t p r : List ℕ) → 1 ≤ length t → Plainly t → f t ≡ some p → Parted r

@@ -1,18 +1,11 @@
 -- A rule for all numbers below a bound, by one test that antt computes.
 use Prim.Native.Nat.{ℕ, zero, suc, _<_}
 use mathlib.Core.Path.{_≡_, refl}
-use mathlib.Core.Bool.{Bool, true, false, not, _&&_, _||_}
+use mathlib.Core.Bool.{Bool, true, false, _&&_}
 use native.Mathlib.Omega.{arith}
 use lib.Dec.{ltb}
 use borrow.Author.Tests.{ltb-true, ltb-false}
-
-pub and-left : (a b : Bool) → a && b ≡ true → a ≡ true
-and-left true b h = refl
-and-left false b h = h
-
-pub and-right : (a b : Bool) → a && b ≡ true → b ≡ true
-and-right true b h = h
-and-right false b h = cc
+use Rattle.format.proofs.Lists.{and-left, and-right}
 
 abbrev pub allBelow : (ℕ → Bool) → ℕ → Bool
 allBelow f zero = true
@@ -25,7 +18,3 @@ at-each f (suc n) h x l = by (ltb x n) refl (λ k. at-each f n (and-right (f n) 
     by : (b : Bool) → ltb x n ≡ b → (x < n → f x ≡ true) → f x ≡ true
     by true e ih = ih (ltb-true x n e)
     by false e ih = let q : x ≡ n = omega (arith, ltb-false x n e) in rw q (and-left (f n) (allBelow f n) h)
-
-pub implied : (a b : Bool) → not a || b ≡ true → a ≡ true → b ≡ true
-implied true b h e = h
-implied false b h e = cc

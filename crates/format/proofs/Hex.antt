@@ -14,10 +14,11 @@ use Rattle.format.specs.Token.{between, scanned}
 use Rattle.format.specs.Text.{withCount, counted}
 use Rattle.format.specs.Hex.{hexText, hexPair, fromHex, readCountedHex}
 use Rattle.format.specs.Run.{shown, got, oneBare, readField}
+use Rattle.format.proofs.Lists.{bind-some}
 use Rattle.format.proofs.Digits.{digits-below, number-digits, chars-back}
 use Rattle.format.proofs.Wire.{end-some}
 use Rattle.format.proofs.Token.{Parted, Plainly, chars-plain, plain-append}
-use Rattle.format.proofs.Field.{Back, FieldLaws, bind-some, bare-back, all-back, bare-accepted, all-accepted, counted-accepted, Counted, is-counted, counted-octets, counted-some}
+use Rattle.format.proofs.Field.{Back, FieldLaws, bare-back, all-back, bare-accepted, all-accepted, counted-accepted, Counted, is-counted, counted-octets, counted-some}
 
 pair-reads : (x : ℕ) → x < 256 → hexPair (map upperDigit (digits 16 2 x)) ≡ some x
 pair-reads x h = ap (λ (o : Option (List ℕ)). o >>= λ ds. some (number 16 ds)) (chars-back upperDigit (digitValue 16) 16 refl (digits 16 2 x) (digits-below 16 2 x (omega arith))) ∙ ap some (number-digits 16 2 x (omega arith) h)

@@ -1,3 +1,4 @@
+pub mod Lists
 pub mod Finite
 pub mod Digits
 pub mod Wire

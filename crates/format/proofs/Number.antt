@@ -20,11 +20,12 @@ use Rattle.format.specs.Grammar.{isName}
 use Rattle.format.specs.Types.{sameSymbol}
 use Rattle.format.specs.Run.{shown, readField}
 use Rattle.format.specs.Demands.{soundSymbol, soundKind, Integers}
-use Rattle.format.proofs.Finite.{and-left, and-right, at-each, implied}
+use Rattle.format.proofs.Lists.{and-left, and-right, or-left, or-right, not-true, implied, bind-some}
+use Rattle.format.proofs.Finite.{at-each}
 use Rattle.format.proofs.Digits.{digits-below, digits-length, number-digits, digits-number, zeros-below, zeros-length, decimal-back, number-bound}
 use Rattle.format.proofs.Wire.{octets-taken}
-use Rattle.format.proofs.Token.{plainly, Plainly, not-true, chars-plain}
-use Rattle.format.proofs.Field.{Back, FieldLaws, bind-some, bare-back, width-accepted}
+use Rattle.format.proofs.Token.{plainly, Plainly, chars-plain}
+use Rattle.format.proofs.Field.{Back, FieldLaws, bare-back, width-accepted}
 
 -- decimal
 pub decimal-plain : (n : ℕ) → Plainly (decimal n)
@@ -48,15 +49,6 @@ five-digits n h =
 pub decimal-5 : (n : ℕ) → n < 100000 → length (decimal n) ≤ 5
 decimal-5 n h =
     omega (arith, length-map (withoutZeros (digits 10 10 n)) upperDigit, ap length (five-digits n h), zeros-length (digits 10 5 n) (omega (arith, digits-length 10 5 n)) .1, digits-length 10 5 n)
-
--- names
-pub or-left : (a b : Bool) → a || b ≡ false → a ≡ false
-or-left true b h = h
-or-left false b h = refl
-
-pub or-right : (a b : Bool) → a || b ≡ false → b ≡ false
-or-right true b h = cc
-or-right false b h = h
 
 small-name : (x : ℕ) → nameOctet x ≡ true → x < 123
 small-name x h = by (ltb x 123) refl

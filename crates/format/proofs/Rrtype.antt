@@ -10,10 +10,11 @@ use Rattle.format.specs.Field.{rrtype}
 use Rattle.format.specs.Digits.{digits, number}
 use Rattle.format.specs.Rrtype.{typeText, typeNumber, readType}
 use Rattle.format.specs.Run.{shown, readField}
+use Rattle.format.proofs.Lists.{bind-some}
 use Rattle.format.proofs.Digits.{digits-length, decimal-back, number-bound}
 use Rattle.format.proofs.Wire.{octets-taken}
 use Rattle.format.proofs.Token.{Plainly}
-use Rattle.format.proofs.Field.{Back, FieldLaws, bind-some, bare-back, width-accepted}
+use Rattle.format.proofs.Field.{Back, FieldLaws, bare-back, width-accepted}
 use Rattle.format.proofs.Number.{decimal-plain, decimal-10, decimal-5, integers}
 
 pub type-plain : (n : ℕ) → Plainly (typeText n)

@@ -16,10 +16,11 @@ use Rattle.format.specs.Digits.{digits, number, upperDigit, digitValue}
 use Rattle.format.specs.Number.{decimalOf, below}
 use Rattle.format.specs.Time.{leap, monthLength, daysBefore, Day, dayFrom, dayOf, momentText, timeText, moment, momentOf, readTime}
 use Rattle.format.specs.Run.{shown, readField}
+use Rattle.format.proofs.Lists.{bind-some}
 use Rattle.format.proofs.Digits.{digits-length, number-digits, chars-back, number-bound}
 use Rattle.format.proofs.Wire.{octets-taken}
 use Rattle.format.proofs.Token.{chars-plain}
-use Rattle.format.proofs.Field.{Back, FieldLaws, bind-some, bare-back, width-accepted}
+use Rattle.format.proofs.Field.{Back, FieldLaws, bare-back, width-accepted}
 use Rattle.format.proofs.Number.{integers}
 
 -- the month of a day

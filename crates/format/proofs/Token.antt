@@ -1,6 +1,6 @@
 -- A printed token is scanned back, whatever follows after a space.
 use Prim.Native.Nat.{ℕ, _<_}
-use mathlib.Core.Path.{_≡_, refl, sym, _∙_}
+use mathlib.Core.Path.{_≡_, refl, _∙_}
 use mathlib.Core.Bool.{Bool, true, false, not, _&&_, _||_}
 use mathlib.Core.List.{List, [], _∷_, _++_, map, append-assoc, append-nil}
 use mathlib.Core.Option.{Option, none, some}
@@ -13,7 +13,8 @@ use Rattle.format.specs.Digits.{upperDigit, lowerDigit}
 use Rattle.format.specs.Token.{textOctet, quoteMark, guarded, Token, bare, quoted, Scan, between, inBare, inQuotes, closed, ScanMove, skip, keep, endBare, endQuoted, breaks, bareOctet, scanStep, intoFirst, afterScan, scanned, Item, octetOf, Escaping, outside, EscapeMove, moves, gives, badEscape, escapeStep, afterEscape, unescapedFrom}
 use Rattle.format.specs.Text.{stringEscape}
 use Rattle.format.specs.Name.{nameEscape, isDot}
-use Rattle.format.proofs.Finite.{and-left, and-right, allBelow, at-each}
+use Rattle.format.proofs.Lists.{and-left, and-right, or-left, not-true}
+use Rattle.format.proofs.Finite.{allBelow, at-each}
 
 -- what follows a token: nothing, or a space and more
 pub data Parted : List ℕ → Type 0 where
@@ -27,14 +28,6 @@ plainly x = not (blank x) && textOctet x && not (guarded x) && not (eqb x 92)
 abbrev pub Plainly : List ℕ → Type 0
 Plainly [] = Unit {0}
 Plainly (x ∷ xs) = (plainly x ≡ true) × Plainly xs
-
-pub not-true : (b : Bool) → not b ≡ true → b ≡ false
-not-true true h = sym h
-not-true false h = refl
-
-or-left : (a b : Bool) → a || b ≡ false → a ≡ false
-or-left true b h = h
-or-left false b h = refl
 
 module _ (x : ℕ) (h : plainly x ≡ true) where
   not-blank : blank x ≡ false

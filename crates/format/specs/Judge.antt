@@ -39,7 +39,7 @@ sameName f g = not (null (f .fieldName .octets)) && sameWord (f .fieldName .octe
 -- 4 before 5, "a 65th field line"
 abbrev pub withField : Description → Field → Verdict
 withField d f =
-    cond (afterTail (d .fields) || anyOf (sameName f) (d .fields)) (faulty 4)
+    cond (afterTail (d .fields) || anyOf (λ g. sameName g f) (d .fields)) (faulty 4)
     (cond (leb 64 (length (d .fields))) (faulty 5)
     (goesOn (afterHeader (record { header = d .header; fields = d .fields ++ f ∷ [] }))))
 

@@ -1,0 +1,95 @@
+-- Laws of tests, options and lists.
+use Prim.Native.Nat.{ℕ, zero, suc}
+use mathlib.Core.Path.{_≡_, refl, sym}
+use mathlib.Core.Bool.{Bool, true, false, not, _&&_, _||_}
+use mathlib.Core.List.{List, [], _∷_, _++_}
+use mathlib.Core.Option.{Option, none, some}
+use native.Mathlib.Omega.{arith}
+use lib.ListN.{take, drop}
+use Rattle.format.specs.Lists.{_>>=_, provided, consBoth, eachOf, anyOf, allOf, twice}
+use Rattle.format.specs.Octets.{Below}
+
+pub and-left : (a b : Bool) → a && b ≡ true → a ≡ true
+and-left true b h = refl
+and-left false b h = h
+
+pub and-right : (a b : Bool) → a && b ≡ true → b ≡ true
+and-right true b h = h
+and-right false b h = cc
+
+pub or-left : (a b : Bool) → a || b ≡ false → a ≡ false
+or-left true b h = h
+or-left false b h = refl
+
+pub or-right : (a b : Bool) → a || b ≡ false → b ≡ false
+or-right true b h = cc
+or-right false b h = h
+
+pub not-true : (b : Bool) → not b ≡ true → b ≡ false
+not-true true h = sym h
+not-true false h = refl
+
+pub implied : (a b : Bool) → not a || b ≡ true → a ≡ true → b ≡ true
+implied true b h e = h
+implied false b h e = cc
+
+-- what an option that came out was made of
+pub bind-some : {A B : Type 0} (o : Option A) (f : A → Option B) (y : B) → (o >>= f) ≡ some y → (x : A) × (o ≡ some x) × (f x ≡ some y)
+bind-some none f y e = let z : _≡_ {A = ℕ} 0 1 = cc in absurd (omega arith)
+bind-some (some x) f y e = (x, refl, e)
+
+pub provided-some : {A : Type 0} (b : Bool) (x y : A) → provided b x ≡ some y → (b ≡ true) × (x ≡ y)
+provided-some true x y e = (refl, cc)
+provided-some false x y e = let z : _≡_ {A = ℕ} 0 1 = cc in absurd (omega arith)
+
+-- a test of every value that a partial function gives
+pub each-all : {A B : Type 0} (f : A → Option B) (g : B → Bool) → ((x : A) (y : B) → f x ≡ some y → g y ≡ true) → (xs : List A) (ys : List B) → eachOf f xs ≡ some ys → allOf g ys ≡ true
+each-all f g h [] ys e = let q : [] ≡ ys = cc in rw (← q)
+each-all f g h (x ∷ xs) ys e = by (f x) refl (eachOf f xs) refl e (each-all f g h xs)
+  where
+    by : (o : Option _) → f x ≡ o → (p : Option (List _)) → eachOf f xs ≡ p → consBoth o p ≡ some ys → ((zs : List _) → eachOf f xs ≡ some zs → allOf g zs ≡ true) → allOf g ys ≡ true
+    by none a p b e ih = cc
+    by (some y) a none b e ih = cc
+    by (some y) a (some zs) b e ih = let q : y ∷ zs ≡ ys = cc in rw (← q, h x y a, ih zs b)
+
+-- lists with one more element
+pub all-snoc : {A : Type 0} (f : A → Bool) (xs : List A) (y : A) → allOf f xs ≡ true → f y ≡ true → allOf f (xs ++ y ∷ []) ≡ true
+all-snoc f [] y h k = rw k
+all-snoc f (x ∷ xs) y h k = rw (and-left (f x) (allOf f xs) h, all-snoc f xs y (and-right (f x) (allOf f xs) h) k)
+
+pub any-snoc : {A : Type 0} (f : A → Bool) (xs : List A) (y : A) → anyOf f xs ≡ false → f y ≡ false → anyOf f (xs ++ y ∷ []) ≡ false
+any-snoc f [] y h k = rw k
+any-snoc f (x ∷ xs) y h k = rw (or-left (f x) (anyOf f xs) h, any-snoc f xs y (or-right (f x) (anyOf f xs) h) k)
+
+pub twice-snoc : {A : Type 0} (same : A → A → Bool) (xs : List A) (y : A) → twice same xs ≡ false → anyOf (λ x. same x y) xs ≡ false → twice same (xs ++ y ∷ []) ≡ false
+twice-snoc same [] y h k = refl
+twice-snoc same (x ∷ xs) y h k =
+    rw (
+      any-snoc (same x) xs y (or-left (anyOf (same x) xs) (twice same xs) h) (or-left (same x y) (anyOf (λ x. same x y) xs) k),
+      twice-snoc same xs y (or-right (anyOf (same x) xs) (twice same xs) h) (or-right (same x y) (anyOf (λ x. same x y) xs) k),
+    )
+
+-- every number of a part is below the bound
+pub below-append : (b : ℕ) (ds es : List ℕ) → Below b ds → Below b es → Below b (ds ++ es)
+below-append b [] es h k = k
+below-append b (d ∷ ds) es h k = (h .0, below-append b ds es (h .1) k)
+
+pub below-take : (m n : ℕ) (xs : List ℕ) → Below m xs → Below m (take n xs)
+below-take m zero xs h = tt
+below-take m (suc n) [] h = tt
+below-take m (suc n) (x ∷ xs) h = (h .0, below-take m n xs (h .1))
+
+pub below-drop : (m n : ℕ) (xs : List ℕ) → Below m xs → Below m (drop n xs)
+below-drop m zero xs h = h
+below-drop m (suc n) [] h = tt
+below-drop m (suc n) (x ∷ xs) h = below-drop m n xs (h .1)
+
+pub all-take : {A : Type 0} (f : A → Bool) (n : ℕ) (xs : List A) → allOf f xs ≡ true → allOf f (take n xs) ≡ true
+all-take f zero xs h = refl
+all-take f (suc n) [] h = refl
+all-take f (suc n) (x ∷ xs) h = rw (and-left (f x) (allOf f xs) h, all-take f n xs (and-right (f x) (allOf f xs) h))
+
+pub all-drop : {A : Type 0} (f : A → Bool) (n : ℕ) (xs : List A) → allOf f xs ≡ true → allOf f (drop n xs) ≡ true
+all-drop f zero xs h = h
+all-drop f (suc n) [] h = refl
+all-drop f (suc n) (x ∷ xs) h = all-drop f n xs (and-right (f x) (allOf f xs) h)
