@@ -10,3 +10,4 @@ pub mod Hex
 pub mod Eui
 pub mod Address
 pub mod Time
+pub mod Judge
