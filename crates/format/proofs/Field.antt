@@ -16,7 +16,7 @@ use Rattle.format.specs.Token.{Token, bare, between, scanned, plain}
 use Rattle.format.specs.Address.{exactly, splitOn}
 use Rattle.format.specs.Text.{withCount, counted, notEmpty}
 use Rattle.format.specs.Name.{isWireName}
-use Rattle.format.specs.Run.{shown, got, gotOr, bareOf, oneToken, oneBare, joinedBares, readField}
+use Rattle.format.specs.Run.{shown, Got, got, gotOr, bareOf, oneToken, oneBare, joinedBares, readField}
 use Rattle.format.specs.Entries.{read}
 use Rattle.format.proofs.Lists.{and-left, and-right, not-true, bind-some, provided-some}
 use Rattle.format.proofs.Finite.{allBelow, at-each}
@@ -25,8 +25,11 @@ use Rattle.format.proofs.Wire.{Came, stops, goes, came, at-end, need-ta
 use Rattle.format.proofs.Token.{Parted, at-end-of-text, plainly, Plainly, bare-scanned, none-scanned, plain-append}
 
 -- the field's text, and then nothing or a space and more, reads to its octets
+abbrev pub BackBy : (Kind → List ℕ → List ℕ) → (Kind → List Token → Got) → Kind → List ℕ → Type 0
+BackBy show read k p = (r : List ℕ) → Parted r → (tail k ≡ true → r ≡ []) → read k (scanned between (show k p ++ r)) ≡ got p (scanned between r)
+
 unfoldable pub Back : Kind → List ℕ → List ℕ → Type 0
-Back k o p = (r : List ℕ) → Parted r → (tail k ≡ true → r ≡ []) → readField k o (scanned between (shown k p ++ r)) ≡ got p (scanned between r)
+Back k o p = BackBy shown (λ k ts. readField k o ts) k p
 
 -- A field's text is at most four octets for each of its own, and so many more: R[L] has up to 65,536 types.
 abbrev pub cap : Bool → ℕ

@@ -11,3 +11,10 @@ pub mod Eui
 pub mod Address
 pub mod Time
 pub mod Judge
+pub mod Run
+pub mod Cut
+pub mod Stub
+pub mod Fields
+pub mod Bound
+pub mod Demands
+pub mod Settled

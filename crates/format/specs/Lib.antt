@@ -22,3 +22,4 @@ pub mod Run
 pub mod Entries
 pub mod Job
 pub mod Demands
+pub mod Settled
