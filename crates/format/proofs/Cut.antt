@@ -13,8 +13,7 @@ use Rattle.format.specs.Wire.{took, taken}
 use Rattle.format.specs.Field.{Kind, start, tail}
 use Rattle.format.specs.Run.{shown, Parts, refused, parts, withFirst, partsOf, isParts, maxRdata, accepts, joined, textOf}
 use Rattle.format.specs.Demands.{tailsLast, Divides}
-use Rattle.format.specs.Settled.{alone}
-use Rattle.format.proofs.Wire.{fits, anyhow}
+use Rattle.format.proofs.Wire.{fits, alone, anyhow}
 use Rattle.format.proofs.Run.{not-tail, First, took-first, first, more, empty, part-count, accepted-parts, parts-accepted, text-append}
 
 abbrev pub NoTails : List Kind → Type 0

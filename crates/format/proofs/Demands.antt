@@ -19,7 +19,6 @@ use Rattle.format.specs.Judge.{Description, described, judged}
 use Rattle.format.specs.Run.{shown, readField, Parts, refused, parts, withFirst, afterTaking, partsOf, isParts, maxRdata, accepts, textOfParts, textIn, textOf, readRun}
 use Rattle.format.specs.Entries.{Answer, done, refusal, maxText, orRefusal, ofParts, isRun, run, printing, reading, ifRoom, room, outcome, print, read}
 use Rattle.format.specs.Demands.{tailsLast, soundKind, Sound, Prints, Divides, wholeList, secondList, Demand3, RoundTrip, Demand2, ReadAccepted}
-use Rattle.format.specs.Settled.{reads}
 use Rattle.format.proofs.Lists.{and-right, all-take, all-drop}
 use Rattle.format.proofs.Judge.{judges}
 use Rattle.format.proofs.Run.{first, parts-accepted, no-tail}

@@ -13,18 +13,20 @@ use Rattle.format.specs.Token.{Token, tokens}
 use Rattle.format.specs.Name.{isWireName}
 use Rattle.format.specs.Run.{shown, Got, noToken, readField, parts, partsOf, textOfParts, readRun}
 use Rattle.format.specs.Demands.{tailsLast, soundKind}
-use Rattle.format.specs.Settled.{alone}
 use Rattle.format.proofs.Lists.{and-left, and-right, below-take, below-drop}
-use Rattle.format.proofs.Wire.{fits}
+use Rattle.format.proofs.Wire.{fits, alone}
 use Rattle.format.proofs.Field.{Back, FieldLaws}
+use Rattle.format.proofs.Text.{str-laws, raw-laws, strs-laws}
+use Rattle.format.proofs.Name.{name-laws}
 use Rattle.format.proofs.Number.{int-laws}
 use Rattle.format.proofs.Rrtype.{rrtype-laws}
+use Rattle.format.proofs.Base.{b64-laws, b32-laws}
+use Rattle.format.proofs.Bitmap.{bitmap-laws}
 use Rattle.format.proofs.Hex.{hex-laws, hexc-laws}
 use Rattle.format.proofs.Eui.{eui-laws}
 use Rattle.format.proofs.Address.{a4-laws, aa-laws, aaaa-laws}
 use Rattle.format.proofs.Time.{time-laws}
 use Rattle.format.proofs.Run.{First, took-first, first, empty, Backs, run-back, run-accepted}
-use Rattle.format.proofs.Stub.{bitmap-laws, name-laws, str-laws, strs-laws, raw-laws, b32-laws, b64-laws}
 
 eui-width : (w : ℕ) → among w (6 ∷ 8 ∷ []) ≡ true → 1 ≤ w
 eui-width zero h = absurd (true≢false (sym h))

@@ -4,8 +4,12 @@ pub mod Digits
 pub mod Wire
 pub mod Token
 pub mod Field
+pub mod Text
+pub mod Name
 pub mod Number
 pub mod Rrtype
+pub mod Base
+pub mod Bitmap
 pub mod Hex
 pub mod Eui
 pub mod Address
@@ -13,7 +17,6 @@ pub mod Time
 pub mod Judge
 pub mod Run
 pub mod Cut
-pub mod Stub
 pub mod Fields
 pub mod Bound
 pub mod Demands

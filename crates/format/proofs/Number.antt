@@ -20,7 +20,6 @@ use Rattle.format.specs.Grammar.{isName}
 use Rattle.format.specs.Types.{sameSymbol}
 use Rattle.format.specs.Run.{shown, readField}
 use Rattle.format.specs.Demands.{soundSymbol, soundKind, Integers}
-use Rattle.format.specs.Settled.{reads}
 use Rattle.format.proofs.Lists.{and-left, and-right, or-left, or-right, not-true, implied, bind-some}
 use Rattle.format.proofs.Finite.{at-each}
 use Rattle.format.proofs.Digits.{digits-below, digits-length, number-digits, digits-number, zeros-below, zeros-length, decimal-back, number-bound}
