@@ -158,7 +158,7 @@ window-back ts w xs z e b h =
     let l : length (xs ++ replicate z 0) ≡ 32 = omega (arith, length-append xs (replicate z 0), length-replicate {A = ℕ} z 0) in
     rw l at (octets-back ts (w * 256) (xs ++ replicate z 0) (below-append 256 xs (replicate z 0) b (zeros-octets z))
     (bits-back ts (w * 256) (bits 8 (xs ++ replicate z 0)) (bits-below 8 (xs ++ replicate z 0))
-        (λ i m k. h i m (omega (arith, bits-length 8 (xs ++ replicate z 0))) ∙ ap (among i) (sym (set-zeros xs z (w * 256))))))
+    (λ i m k. h i m (omega (arith, bits-length 8 (xs ++ replicate z 0))) ∙ ap (among i) (sym (set-zeros xs z (w * 256))))))
 
 -- so windows are the blocks of a set that has their types, and no others there
 blocks-back : (ts : List ℕ) (w k : ℕ) (p : List ℕ) → Windows w k p → ((i : ℕ) → w * 256 ≤ i → i < (w + k) * 256 → among i ts ≡ among i (types p)) → blocksFrom ts w k ≡ p

@@ -58,6 +58,37 @@ run-fit d s first len =
       most = omega (arith, s .most-fields, kinds-length (d .fields), length-take len ks, length-drop (first - 1) (kinds (d .fields)));
     }
 
+-- what reading answers with 0 is accepted
+pub read-accepted : ReadAccepted
+unfolding reading
+read-accepted s d j first len o t xs e = by (leb (length t) maxText) (rw j at e)
+  where
+    ks : List Kind
+    ks = run first len (kinds (d .fields))
+
+    fit : Fit ks
+    fit = run-fit d (judges s d j) first len
+
+    on-parts : isWireName o ≡ true → (q : Parts) → readRun (λ k ts. readField k o ts) ks (tokens t) ≡ q → ofParts q (λ ps. orRefusal 11 (leb (length (flat ps)) maxRdata) (done (flat ps))) ≡ done xs → accepts ks xs ≡ true
+    on-parts w (refused n i) p e = cc
+    on-parts w (parts ps) p e = on-length (leb (length (flat ps)) maxRdata) refl e
+      where
+        on-length : (a : Bool) → leb (length (flat ps)) maxRdata ≡ a → orRefusal 11 a (done (flat ps)) ≡ done xs → accepts ks xs ≡ true
+        on-length true a e = let z : flat ps ≡ xs = cc in rw (← z) (parts-accepted ks (flat ps) ps (leb-true (length (flat ps)) maxRdata a) (reads-accepted o w ks (tokens t) ps (fit .tails) (fit .sound) p))
+        on-length false a e = cc
+
+    on-origin : (a : Bool) → isWireName o ≡ a → orRefusal 7 a (ofParts (readRun (λ k ts. readField k o ts) ks (tokens t)) (λ ps. orRefusal 11 (leb (length (flat ps)) maxRdata) (done (flat ps)))) ≡ done xs → accepts ks xs ≡ true
+    on-origin true a e = on-parts a (readRun (λ k ts. readField k o ts) ks (tokens t)) refl e
+    on-origin false a e = cc
+
+    on-run : (a : Bool) → orRefusal 6 a (orRefusal 7 (isWireName o) (ofParts (readRun (λ k ts. readField k o ts) ks (tokens t)) (λ ps. orRefusal 11 (leb (length (flat ps)) maxRdata) (done (flat ps))))) ≡ done xs → accepts ks xs ≡ true
+    on-run true e = on-origin (isWireName o) refl e
+    on-run false e = cc
+
+    by : (a : Bool) → orRefusal 1 a (orRefusal 6 (isRun first len (kinds (d .fields))) (orRefusal 7 (isWireName o) (ofParts (readRun (λ k ts. readField k o ts) ks (tokens t)) (λ ps. orRefusal 11 (leb (length (flat ps)) maxRdata) (done (flat ps)))))) ≡ done xs → accepts ks xs ≡ true
+    by true e = on-run (isRun first len (kinds (d .fields))) e
+    by false e = cc
+
 -- room or none
 fits-room : (t : List ℕ) (n : ℕ) → length t ≤ n → ifRoom n (done t) ≡ done t
 fits-room t n h = rw (le-leb (length t) n h)
@@ -196,34 +227,3 @@ demand-3 s d j k h xs m = record {
     other e v f w u true p true q = absurd (u (cut-once front back c xs f e (record { within = w; front = p; back = q }) v))
     other e v f w u true p false q = inr q
     other e v f w u false p b q = inl p
-
--- what reading answers with 0 is accepted
-pub read-accepted : ReadAccepted
-unfolding reading
-read-accepted s d j first len o t xs e = by (leb (length t) maxText) (rw j at e)
-  where
-    ks : List Kind
-    ks = run first len (kinds (d .fields))
-
-    fit : Fit ks
-    fit = run-fit d (judges s d j) first len
-
-    on-parts : isWireName o ≡ true → (q : Parts) → readRun (λ k ts. readField k o ts) ks (tokens t) ≡ q → ofParts q (λ ps. orRefusal 11 (leb (length (flat ps)) maxRdata) (done (flat ps))) ≡ done xs → accepts ks xs ≡ true
-    on-parts w (refused n i) p e = cc
-    on-parts w (parts ps) p e = on-length (leb (length (flat ps)) maxRdata) refl e
-      where
-        on-length : (a : Bool) → leb (length (flat ps)) maxRdata ≡ a → orRefusal 11 a (done (flat ps)) ≡ done xs → accepts ks xs ≡ true
-        on-length true a e = let z : flat ps ≡ xs = cc in rw (← z) (parts-accepted ks (flat ps) ps (leb-true (length (flat ps)) maxRdata a) (reads-accepted o w ks (tokens t) ps (fit .tails) (fit .sound) p))
-        on-length false a e = cc
-
-    on-origin : (a : Bool) → isWireName o ≡ a → orRefusal 7 a (ofParts (readRun (λ k ts. readField k o ts) ks (tokens t)) (λ ps. orRefusal 11 (leb (length (flat ps)) maxRdata) (done (flat ps)))) ≡ done xs → accepts ks xs ≡ true
-    on-origin true a e = on-parts a (readRun (λ k ts. readField k o ts) ks (tokens t)) refl e
-    on-origin false a e = cc
-
-    on-run : (a : Bool) → orRefusal 6 a (orRefusal 7 (isWireName o) (ofParts (readRun (λ k ts. readField k o ts) ks (tokens t)) (λ ps. orRefusal 11 (leb (length (flat ps)) maxRdata) (done (flat ps))))) ≡ done xs → accepts ks xs ≡ true
-    on-run true e = on-origin (isWireName o) refl e
-    on-run false e = cc
-
-    by : (a : Bool) → orRefusal 1 a (orRefusal 6 (isRun first len (kinds (d .fields))) (orRefusal 7 (isWireName o) (ofParts (readRun (λ k ts. readField k o ts) ks (tokens t)) (λ ps. orRefusal 11 (leb (length (flat ps)) maxRdata) (done (flat ps)))))) ≡ done xs → accepts ks xs ≡ true
-    by true e = on-run (isRun first len (kinds (d .fields))) e
-    by false e = cc

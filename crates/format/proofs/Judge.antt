@@ -95,9 +95,34 @@ strings-sound given k e = by (hasWord given (ascii "M")) (hasWord given (ascii "
 
 rows-sound : Sound-rows typeRows
 rows-sound =
-    let r = always (eui 6) refl in
-    (refl, (refl, (refl, (with-or-without rrtype bitmap refl refl, (always a4 refl, (always aa refl, (always aaaa refl, (names-sound, (strings-sound,
-    (always b32 refl, (always b64 refl, (with-or-without hex hexc refl refl, (always time refl, (r, (always (eui 8) refl, (r, (always (eui 8) refl, tt)))))))))))))))))
+    let r = always (eui 6) refl in (
+      refl,
+      (
+        refl,
+        (
+          refl,
+          (
+            with-or-without rrtype bitmap refl refl,
+            (
+              always a4 refl,
+              (
+                always aa refl,
+                (
+                  always aaaa refl,
+                  (
+                    names-sound,
+                    (
+                      strings-sound,
+                      (always b32 refl, (always b64 refl, (with-or-without hex hexc refl refl, (always time refl, (r, (always (eui 8) refl, (r, (always (eui 8) refl, tt)))))))),
+                    ),
+                  ),
+                ),
+              ),
+            ),
+          ),
+        ),
+      ),
+    )
   where
     with-or-without : (i j : Kind) → soundKind i ≡ true → soundKind j ≡ true → (given : List (List ℕ)) (k : Kind) → some (cond (null given) i j) ≡ some k → soundKind k ≡ true
     with-or-without i j h l given k e = always (cond (null given) i j) (either i j h l (null given)) given k e

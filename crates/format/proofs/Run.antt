@@ -95,7 +95,7 @@ joined-assoc : (s t u : List ℕ) → joined (joined s t) u ≡ joined s (joined
 joined-assoc [] t u = refl
 joined-assoc (x ∷ s) [] u = refl
 joined-assoc (x ∷ s) (y ∷ t) [] = refl
-joined-assoc (x ∷ s) (y ∷ t) (z ∷ u) = ap (λ r. x ∷ r) (append-assoc s (32 ∷ y ∷ t) (32 ∷ z ∷ u))
+joined-assoc (x ∷ s) (y ∷ t) (z ∷ u) = ap (λ r. x ∷ r) (append-assoc s _ _)
 
 module _ (show : Kind → List ℕ → List ℕ) where
   pub text-append : (ks ls : List Kind) (ps qs : List (List ℕ)) → length ps ≡ length ks
@@ -105,7 +105,6 @@ module _ (show : Kind → List ℕ → List ℕ) where
   text-append [] ls (p ∷ ps) qs e = absurd (omega arith)
   text-append (k ∷ ks) ls [] qs e = absurd (omega arith)
   text-append (k ∷ ks) ls (p ∷ ps) qs e = rw (text-append ks ls ps qs (omega arith), joined-assoc)
-
 
 -- A run's text reads back, for any way to show and to read a field that reads its text back.
 abbrev pub Backs : (Kind → List ℕ → List ℕ) → (Kind → List Token → Got) → List Kind → List (List ℕ) → Type 0

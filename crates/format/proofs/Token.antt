@@ -72,7 +72,6 @@ upper-plain d h = at-each (λ d. plainly (upperDigit d)) 36 refl d h
 pub lower-plain : (d : ℕ) → d < 36 → plainly (lowerDigit d) ≡ true
 lower-plain d h = at-each (λ d. plainly (lowerDigit d)) 36 refl d h
 
-
 -- where a scan comes to that keeps every octet
 abbrev pub onKeep : ScanMove → (Scan → Option Scan) → Option Scan
 onKeep (skip s) f = none
@@ -140,7 +139,7 @@ closing : (xs : List ℕ) → scanned (inQuotes 34 false) (34 ∷ xs) ≡ scanne
 unfolding scanned
 closing xs = refl
 
--- a stringText token
+-- a quoted token
 pub quote-scanned : (t r : List ℕ) → kept (inQuotes 34 false) t ≡ some (inQuotes 34 false) → Parted r → scanned between (34 ∷ (t ++ 34 ∷ []) ++ r) ≡ quoted t ∷ scanned between r
 quote-scanned t r e p =
     rw (opening ((t ++ 34 ∷ []) ++ r), append-assoc t (34 ∷ []) r, kept-scanned (inQuotes 34 false) (inQuotes 34 false) t (34 ∷ r) e, closing r, closed-scanned r p, onto-quote t [] (scanned between r), append-nil t)
@@ -149,7 +148,7 @@ quote-scanned t r e p =
 pub word-scanned : (t r : List ℕ) → kept between t ≡ some (inBare false) → Parted r → scanned between (t ++ r) ≡ bare t ∷ scanned between r
 word-scanned t r e p = rw (kept-scanned between (inBare false) t r e, open-scanned r p, onto-bare t [] (scanned between r), append-nil t)
 
--- the escapes of eachOf octet, by a test of all 256
+-- the escapes of each octet, by a test of all 256
 abbrev sameScan : Bool → Option Scan → Bool
 sameScan q none = false
 sameScan q (some between) = false
@@ -186,7 +185,7 @@ pub strings-kept : (xs : List ℕ) → Below 256 xs → kept (inQuotes 34 false)
 strings-kept [] h = refl
 strings-kept (x ∷ xs) h = kept-append (inQuotes 34 false) (inQuotes 34 false) (stringEscape x) (flatMap stringEscape xs) (string-kept x (h .0)) ∙ strings-kept xs (h .1)
 
--- what the last octet of an escape, and oneDigit before it, do
+-- what the last octet of an escape, and one before it, do
 abbrev pub atLast : EscapeMove → Option Item
 atLast (moves e) = none
 atLast (gives i) = some i
@@ -197,7 +196,7 @@ before (moves e) f = f e
 before (gives i) f = none
 before badEscape f = none
 
--- the oneDigit item of an octet's text
+-- the one item of an octet's text
 abbrev pub given : Escaping → List ℕ → Option Item
 given e [] = none
 given e (x ∷ []) = atLast (escapeStep e x)

@@ -30,7 +30,7 @@ came s x xs n e = by (step s x) refl e
     by fault p f = let z : _≡_ {A = ℕ} 0 1 = cc in absurd (omega arith)
     by (go t) p f = on t (taken t xs) p refl f
 
--- BlockPlace the end of the input a field takes nothing, and provided where it may end.
+-- At the end of the input a field takes nothing, and only where it may end.
 pub at-end : (s : Stage) (n : ℕ) → taken s [] ≡ took n → (mayEnd s ≡ true) × (n ≡ 0)
 unfolding taken
 at-end s n e = by (mayEnd s) refl e

@@ -105,9 +105,9 @@ atDoubleColon (x ∷ y ∷ xs) = let later = intoBefore x (atDoubleColon (y ∷ 
 abbrev pub eightGroups : List ℕ → Doubled → Option (List ℕ)
 eightGroups t single = exactly 8 (groupsOf true (splitOn (code ":") t))
 eightGroups t (double s u) = do
-    gs ← sideOf false s
-    hs ← sideOf true u
-    provided (leb (length gs + length hs) 7) (gs ++ replicate (8 - (length gs + length hs)) 0 ++ hs)
+  gs ← sideOf false s
+  hs ← sideOf true u
+  provided (leb (length gs + length hs) 7) (gs ++ replicate (8 - (length gs + length hs)) 0 ++ hs)
 
 abbrev pub readAAAA : List ℕ → Option (List ℕ)
 readAAAA t = eightGroups t (atDoubleColon t) >>= λ gs. some (groupOctets gs)

@@ -42,9 +42,9 @@ base32Text xs = map upperDigit (toDigits 5 xs)
 
 abbrev pub readBase32 : List ℕ → Option (List ℕ)
 readBase32 t = do
-    ds ← eachOf (digitValue 32) t
-    xs ← fromDigits 5 ds
-    counted 1 xs
+  ds ← eachOf (digitValue 32) t
+  xs ← fromDigits 5 ds
+  counted 1 xs
 
 -- RFC 4648's base 64 alphabet
 abbrev pub base64Char : ℕ → ℕ

@@ -67,12 +67,12 @@ afterOptions (x ∷ t) = cond (eqb x (code ":")) (ifLetters (span letter t)) (so
 -- "a name, `:`, digits, then optionally `:` and letters, then optionally blank and free text"
 abbrev pub headerLine : ℕ → List ℕ → Option Header
 headerLine end t = do
-    named ← nameAt t
-    u ← after (code ":") (named .rest)
-    n ← ifDecimal (span digit u)
-    r ← afterOptions (n .rest)
-    text ← freeTextAt end r
-    some (record { typeName = partAt end t (named .front); typeNo = n .value; headerText = text })
+  named ← nameAt t
+  u ← after (code ":") (named .rest)
+  n ← ifDecimal (span digit u)
+  r ← afterOptions (n .rest)
+  text ← freeTextAt end r
+  some (record { typeName = partAt end t (named .front); typeNo = n .value; headerText = text })
 
 -- "A qualifier is a name, or name`=`digits."
 pub data Qualifier : Type 0 where
@@ -81,9 +81,9 @@ pub data Qualifier : Type 0 where
 
 abbrev pub ifQualifier : ℕ → Spanned → Option Qualifier
 ifQualifier at s = cond (null (s .rest)) (some (word (s .front))) (do
-    ds ← after (code "=") (s .rest)
-    n ← decimalOf ds
-    some (symbol (record { spelling = record { place = at; octets = s .front }; value = n })))
+  ds ← after (code "=") (s .rest)
+  n ← decimalOf ds
+  some (symbol (record { spelling = record { place = at; octets = s .front }; value = n })))
 
 abbrev pub qualifier : Part → Option Qualifier
 qualifier p = nameAt (p .octets) >>= ifQualifier (p .place)
@@ -98,9 +98,9 @@ notBracket x = not (eqb x (code "]"))
 
 abbrev pub ifQualifiers : ℕ → Spanned → Option Qualified
 ifQualifiers at s = do
-    qs ← eachOf qualifier (placed at (splitOn (code ",") (s .front)))
-    r ← after (code "]") (s .rest)
-    some (record { qualifiers = qs; rest = r })
+  qs ← eachOf qualifier (placed at (splitOn (code ",") (s .front)))
+  r ← after (code "]") (s .rest)
+  some (record { qualifiers = qs; rest = r })
 
 abbrev pub qualifiersAt : ℕ → List ℕ → Option Qualified
 qualifiersAt end [] = some (record { qualifiers = []; rest = [] })
@@ -126,8 +126,8 @@ ifType s = provided (startsWithLetter (s .front)) s
 -- "type, optional `[` qualifiers `]` .., optional `:` and name, optional blank and free text"
 abbrev pub fieldLine : ℕ → List ℕ → Option FieldLine
 fieldLine end t = do
-    k ← ifType (span alphanumeric t)
-    q ← qualifiersAt end (k .rest)
-    n ← fieldNameAt (q .rest)
-    text ← freeTextAt end (n .rest)
-    some (record { keyword = k .front; qualifiers = q .qualifiers; title = partAt end (n .front ++ n .rest) (n .front); text = text })
+  k ← ifType (span alphanumeric t)
+  q ← qualifiersAt end (k .rest)
+  n ← fieldNameAt (q .rest)
+  text ← freeTextAt end (n .rest)
+  some (record { keyword = k .front; qualifiers = q .qualifiers; title = partAt end (n .front ++ n .rest) (n .front); text = text })

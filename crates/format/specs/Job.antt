@@ -48,11 +48,11 @@ ended ls = flatMap (λ l. l ++ ascii "\n") ls
 -- "stanza, origin (one absolute name), records. Nothing follows the last section"
 abbrev pub jobOf : List ℕ → Option Job
 jobOf xs = do
-    s ← section (linesOf xs)
-    o ← section (s .later)
-    r ← section (o .later)
-    origin ← originOf (o .body)
-    provided (null (r .later)) (record { stanza = ended (s .body); origin = origin; records = r .body })
+  s ← section (linesOf xs)
+  o ← section (s .later)
+  r ← section (o .later)
+  origin ← originOf (o .body)
+  provided (null (r .later)) (record { stanza = ended (s .body); origin = origin; records = r .body })
 
 -- "One line per record comes out; no octets give `ok` alone."
 abbrev pub answerLine : Answer → List ℕ

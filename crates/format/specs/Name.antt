@@ -45,9 +45,9 @@ wireName origin (l ∷ m ∷ ls) = wireName origin (m ∷ ls) >>= labelBefore l
 abbrev pub nameOf : Option (List ℕ) → List ℕ → Option (List ℕ)
 nameOf origin t =
     cond (sameOctets t (ascii ".")) (some (0 ∷ [])) (do
-    is ← unescaped t
-    w ← wireName origin (map (map octetOf) (split isDot is))
-    provided (leb (length w) 255) w)
+      is ← unescaped t
+      w ← wireName origin (map (map octetOf) (split isDot is))
+      provided (leb (length w) 255) w)
 
 -- "`@` alone is the origin"
 abbrev pub readName : List ℕ → List ℕ → Option (List ℕ)

@@ -31,7 +31,10 @@ hasWord ws w = anyOf (sameOctets w) ws
 -- "C, A, L, O on N"
 abbrev pub nameKind : List (List ℕ) → Kind
 nameKind given = name (record {
-  compressed = hasWord given (ascii "C"); mailbox = hasWord given (ascii "A"); lowerCase = hasWord given (ascii "L"); optional = hasWord given (ascii "O");
+  compressed = hasWord given (ascii "C");
+  mailbox = hasWord given (ascii "A");
+  lowerCase = hasWord given (ascii "L");
+  optional = hasWord given (ascii "O");
 })
 
 -- "M or X on S, not both"
