@@ -1,0 +1,73 @@
+-- Laws of the part of a list from i to e, gone through by an index.
+use Prim.Native.Nat.{ℕ, zero, suc, _+_, _-_, _≤_, _<_, min}
+use mathlib.Core.Path.{_≡_, refl, sym, ap, _∙_}
+use mathlib.Core.Bool.{Bool, true, false}
+use mathlib.Core.List.{List, [], _∷_, _++_}
+use native.Mathlib.Omega.{arith}
+use native.Mathlib.Numerals.{add-one}
+use lib.ListN.{length, take, drop, getD, length-take, length-drop, drop-of-length-le}
+use lib.Seq.{slice, slice-cons, drop-drop, length-slice}
+use Rattle.format.specs.Lists.{Spanned, spanning, span}
+
+-- the next element, and none
+pub next : (s : List ℕ) (i e : ℕ) → i < e → e ≤ length s → slice i e s ≡ getD s i 0 ∷ slice (i + 1) e s
+next s i e h l = rw (add-one) (slice-cons i e s 0 h l)
+
+pub none : (s : List ℕ) (i e : ℕ) → e ≤ i → slice i e s ≡ []
+none s i e h = let l : length (take e s) ≤ i = omega (arith, length-take e s) in drop-of-length-le (take e s) l
+
+-- the rest of a part is a part
+pub rest : (s : List ℕ) (i n e : ℕ) → drop n (slice i e s) ≡ slice (i + n) e s
+rest s i n e = drop-drop n i (take e s)
+
+-- the front that passes, and what is left
+module _ (f : ℕ → Bool) where
+  span-on : (x : ℕ) (xs : List ℕ) → f x ≡ true → length (span f (x ∷ xs) .front) ≡ suc (length (span f xs .front))
+  span-on x xs h = rw h
+
+  span-off : (x : ℕ) (xs : List ℕ) → f x ≡ false → length (span f (x ∷ xs) .front) ≡ 0
+  span-off x xs h = rw h
+
+  pub span-rest : (xs : List ℕ) → drop (length (span f xs .front)) xs ≡ span f xs .rest
+  span-rest [] = refl
+  span-rest (x ∷ xs) = by (f x) (span-rest xs)
+    where
+      by : (b : Bool) → drop (length (span f xs .front)) xs ≡ span f xs .rest → drop (length (spanning b x xs (span f xs) .front)) (x ∷ xs) ≡ spanning b x xs (span f xs) .rest
+      by true ih = ih
+      by false ih = refl
+
+  pub span-front : (xs : List ℕ) → take (length (span f xs .front)) xs ≡ span f xs .front
+  span-front [] = refl
+  span-front (x ∷ xs) = by (f x) (span-front xs)
+    where
+      by : (b : Bool) → take (length (span f xs .front)) xs ≡ span f xs .front → take (length (spanning b x xs (span f xs) .front)) (x ∷ xs) ≡ spanning b x xs (span f xs) .front
+      by true ih = ap (λ t. x ∷ t) ih
+      by false ih = refl
+
+  pub span-length : (xs : List ℕ) → length (span f xs .front) ≤ length xs
+  span-length [] = omega arith
+  span-length (x ∷ xs) = by (f x) (span-length xs)
+    where
+      by : (b : Bool) → length (span f xs .front) ≤ length xs → length (spanning b x xs (span f xs) .front) ≤ suc (length xs)
+      by true ih = omega arith
+      by false ih = omega arith
+
+  -- where the front of a part ends
+  abbrev pub frontEnd : List ℕ → ℕ → ℕ → ℕ
+  frontEnd s i e = i + length (span f (slice i e s) .front)
+
+  pub front-on : (s : List ℕ) (i e : ℕ) → i < e → e ≤ length s → f (getD s i 0) ≡ true → frontEnd s (i + 1) e ≡ frontEnd s i e
+  front-on s i e h l t = rw (next s i e h l, span-on (getD s i 0) (slice (i + 1) e s) t) (omega arith)
+
+  pub front-off : (s : List ℕ) (i e : ℕ) → i < e → e ≤ length s → f (getD s i 0) ≡ false → i ≡ frontEnd s i e
+  front-off s i e h l t = rw (next s i e h l, span-off (getD s i 0) (slice (i + 1) e s) t) (omega arith)
+
+  pub front-end : (s : List ℕ) (i e : ℕ) → e ≤ i → i ≡ frontEnd s i e
+  front-end s i e h = rw (none s i e h) (omega arith)
+
+  -- it lies in the part, which it cuts into the front and the rest
+  pub front-within : (s : List ℕ) (i e : ℕ) → i ≤ e → e ≤ length s → frontEnd s i e ≤ e
+  front-within s i e h l = omega (arith, span-length (slice i e s), length-slice i e s l)
+
+  pub front-rest : (s : List ℕ) (i e : ℕ) → slice (frontEnd s i e) e s ≡ span f (slice i e s) .rest
+  front-rest s i e = sym (rest s i (length (span f (slice i e s) .front)) e) ∙ span-rest (slice i e s)

@@ -1,0 +1,18 @@
+use borrow.Author.Tests.{lt-ltb, le-ltb, le-leb, lt-leb, eq-eqb, ne-eqb}
+use native.Mathlib.Omega.{arith}
+use borrow.Author.Needs.{needs}
+use Rattle.octets.proofs.is_digit.Statement.{statement}
+use Rattle.octets.proofs.is_digit.Tie as tie
+use Rattle.octets.proofs.is_digit.Reads as reads
+use Rattle.octets.proofs.is_digit.Lts as lts
+
+-- src/lib.rt:29:9
+returns : tie.Need-returns
+returns c = rw (lt-leb _ _ (c .if1 .taken))
+
+-- src/lib.rt:25:1
+returns-2 : tie.Need-returns-2
+returns-2 c = rw (le-leb _ _ (c .if1 .left))
+
+pub is-digit-spec : {M : Type 1} → statement M
+is-digit-spec = tie.close (tie.spec returns returns-2)

@@ -1,0 +1,38 @@
+-- What the code's classes and answers mean, by the definitions of document 01.
+use Prim.Native.Nat.{ℕ}
+use Prim.Native.Char.{code}
+use mathlib.Core.Bool.{Bool, not}
+use mathlib.Core.List.{List, [], _∷_}
+use mathlib.Core.Option.{Option, none, some}
+use lib.Dec.{eqb}
+use lib.Seq.{slice}
+use Rattle.format.specs.Octets.{blank, digit, letter, alphanumeric, nameOctet, inRange}
+use Rattle.format.specs.Field.{Part}
+use Rattle.octets.specs.declared.Class.{Class}
+use Rattle.octets.specs.declared.Class.the-variants.{NotNewline, Blank, Digit, Letter, Alphanumeric, NameOctet, NotBracket, NotComma, FreeText}
+use Rattle.octets.specs.declared.Number.{Number}
+use Rattle.octets.specs.declared.Number.the-variants.{Value, Fault}
+
+abbrev pub inClass : Class → ℕ → Bool
+inClass NotNewline x = not (eqb x 10)
+inClass Blank x = blank x
+inClass Digit x = digit x
+inClass Letter x = letter x
+inClass Alphanumeric x = alphanumeric x
+inClass NameOctet x = nameOctet x
+inClass NotBracket x = not (eqb x (code "]"))
+inClass NotComma x = not (eqb x (code ","))
+inClass FreeText x = inRange 0x20 0xFE x
+
+-- the part of a stanza from a to e
+abbrev pub partIn : List ℕ → ℕ → ℕ → Part
+partIn s a e = record { place = a; octets = slice a e s }
+
+-- the first octet, or 256 where there is none
+abbrev pub firstOr : List ℕ → ℕ
+firstOr [] = 256
+firstOr (x ∷ xs) = x
+
+abbrev pub numberOf : Option ℕ → Number
+numberOf none = Fault
+numberOf (some v) = Value v
