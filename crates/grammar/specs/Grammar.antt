@@ -1,0 +1,29 @@
+-- The header and the field line that the code found in a stanza.
+use Prim.Native.Nat.{ℕ}
+use mathlib.Core.List.{List}
+use mathlib.Core.Option.{Option, none, some}
+use lib.Seq.{slice}
+use Rattle.format.specs.Lists.{_>>=_}
+use Rattle.format.specs.Field.{Part}
+use Rattle.format.specs.Grammar.{Header, FieldLine}
+use Rattle.octets.specs.Octets.{partIn}
+use Rattle.qualifiers.specs.Qualifiers.{qualifiersIn}
+use Rattle.grammar.specs.declared.HeaderShape.{HeaderShape}
+use Rattle.grammar.specs.declared.HeaderLine.{HeaderLine}
+use Rattle.grammar.specs.declared.HeaderLine.the-variants.{NoHeader, IsHeader}
+use Rattle.grammar.specs.declared.FieldShape.{FieldShape}
+use Rattle.grammar.specs.declared.Shape.{Shape}
+use Rattle.grammar.specs.declared.Shape.the-variants.{NoField, IsField}
+
+-- a header whose line begins at `at` and ends at `end`
+abbrev pub headerIn : List ℕ → ℕ → ℕ → HeaderLine → Option Header
+headerIn s at end NoHeader = none
+headerIn s at end (IsHeader h) = some (record { typeName = partIn s at (h .name-end); typeNo = h .number; headerText = partIn s (h .text-at) end })
+
+-- a field line whose type begins at `at` and which ends at `end`, its qualifiers being judged yet
+abbrev pub shapeIn : List ℕ → ℕ → ℕ → Shape → Option FieldLine
+shapeIn s at end NoField = none
+shapeIn s at end (IsField f) =
+    qualifiersIn s (f .qualifiers-at) (f .qualifiers-end) >>= λ qs. some (record {
+      keyword = slice at (f .type-end) s; qualifiers = qs; title = partIn s (f .name-at) (f .name-end); text = partIn s (f .text-at) end;
+    })

@@ -1,0 +1,26 @@
+use native.Mathlib.Omega.{arith}
+use borrow.Author.Needs.{needs}
+use Rattle.octets.proofs.octet_at.Statement.{statement}
+use Rattle.octets.proofs.octet_at.Tie as tie
+use Rattle.octets.proofs.octet_at.Reads as reads
+use Rattle.octets.proofs.octet_at.Lts as lts
+use Rattle.octets.proofs.wide.Reads as wide-reads
+
+-- src/lib.rt:117:14
+shared-slice-read-wide : tie.Need-shared-slice-read-wide
+shared-slice-read-wide c = search needs
+
+-- src/lib.rt:117:9
+wide-requires : tie.Need-wide-requires
+wide-requires c κs = search needs
+
+-- src/lib.rt:112:1
+returns : tie.Need-returns
+returns c = search needs
+
+-- src/lib.rt:112:1
+returns-2 : tie.Need-returns-2
+returns-2 c = search needs
+
+pub octet-at-spec : {M : Type 1} → statement M
+octet-at-spec = tie.close (tie.spec shared-slice-read-wide wide-requires returns returns-2)
