@@ -141,12 +141,14 @@ pub fn decimal(s: &[u8], i: usize, e: usize) -> Number
     let mut j = i;
     while j < e {
         let b = s[j];
-        if is_digit(b) {
-            v = v * 10 + (b - 48) as u64;
-            j = j + 1;
-        } else {
+        if b < 48 {
             return Number::Fault;
         }
+        if 57 < b {
+            return Number::Fault;
+        }
+        v = v * 10 + (b - 48) as u64;
+        j = j + 1;
     }
     Number::Value(v)
 }

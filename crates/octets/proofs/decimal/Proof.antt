@@ -1,16 +1,22 @@
+use Rattle.octets.proofs.Numbers.{valueFrom, decimal-value, no-decimal, long-decimal, digit-on, digit-low, digit-high, digit-more, digits-fit, nothing-yet, nothing-left}
+use Rattle.octets.proofs.Slices.{next, none}
+use Rattle.octets.specs.Octets.{numberOf}
+use lib.Seq.{slice}
+use lib.ListN.{length, getD}
+use mathlib.Core.Path.{_≡_, refl, sym, ap, _∙_}
+use Prim.Native.Nat.{_+_, _*_, _-_, _^_, _≤_, _<_}
 use native.Mathlib.Omega.{arith}
 use borrow.Author.Needs.{needs}
 use Rattle.octets.proofs.decimal.Statement.{statement}
 use Rattle.octets.proofs.decimal.Tie as tie
 use Rattle.octets.proofs.decimal.Reads as reads
 use Rattle.octets.proofs.decimal.Lts as lts
-use Rattle.octets.proofs.is_digit.Reads as is-digit-reads
 
 abbrev Inv-loop : tie.InvT-loop
-Inv-loop s i e v₀ j₀ v j = ?
+Inv-loop s i e v₀ j₀ v j = (i ≤ j) × (j ≤ e) × (v < 10 ^ (j - i)) × (valueFrom v (slice j e s) ≡ valueFrom 0 (slice i e s))
 
 abbrev μ-loop : tie.MeasureT-loop
-μ-loop s i e v₀ j₀ v j = ?
+μ-loop s i e v₀ j₀ v j = e - j
 
 -- src/lib.rt:134:8
 sub-if1 : tie.Need-sub-if1 Inv-loop μ-loop
@@ -18,7 +24,7 @@ sub-if1 c = search needs
 
 -- src/lib.rt:135:9
 returns : tie.Need-returns Inv-loop μ-loop
-returns c = search needs
+returns c = ap numberOf (sym (no-decimal _ _ _ (c .before .pre .1) (c .if1 .taken)))
 
 -- src/lib.rt:137:13
 sub-if2 : tie.Need-sub-if2 Inv-loop μ-loop
@@ -26,37 +32,37 @@ sub-if2 c = search needs
 
 -- src/lib.rt:138:9
 returns-2 : tie.Need-returns-2 Inv-loop μ-loop
-returns-2 c = search needs
+returns-2 c = ap numberOf (sym (long-decimal _ _ _ (c .before .before .pre .1) (c .if2 .taken)))
 
 -- src/lib.rt:142:5
 loop-holds : tie.Need-loop-holds Inv-loop μ-loop
-loop-holds c = search needs
+loop-holds c = (search needs, c .before .before .pre .0, nothing-yet (c .before .before .args .i), refl)
 
 -- src/lib.rt:143:17
 shared-slice-read-b : tie.Need-shared-slice-read-b Inv-loop μ-loop
 shared-slice-read-b c = search needs
 
--- src/lib.rt:144:12
-is-digit-requires : tie.Need-is-digit-requires Inv-loop μ-loop
-is-digit-requires c κs = search needs
+-- src/lib.rt:145:13
+returns-3 : tie.Need-returns-3 Inv-loop μ-loop
+returns-3 c = ap numberOf (sym (decimal-value _ _ _ (c .before .before .before .before .before .before .pre .1) (c .before .before .before .before .before .if1 .left) (c .before .before .before .before .if2 .left) ∙ sym (c .before .before .before .loop .inv .3) ∙ ap (valueFrom _) (next _ _ _ (c .before .before .loop-test .taken) (c .before .before .before .before .before .before .pre .1)) ∙ digit-low _ _ _ (c .if3 .taken)))
 
--- src/lib.rt:145:17
+-- src/lib.rt:148:13
+returns-4 : tie.Need-returns-4 Inv-loop μ-loop
+returns-4 c = ap numberOf (sym (decimal-value _ _ _ (c .before .before .before .before .before .before .before .pre .1) (c .before .before .before .before .before .before .if1 .left) (c .before .before .before .before .before .if2 .left) ∙ sym (c .before .before .before .before .loop .inv .3) ∙ ap (valueFrom _) (next _ _ _ (c .before .before .before .loop-test .taken) (c .before .before .before .before .before .before .before .pre .1)) ∙ digit-high _ _ _ (c .before .if3 .left) (c .if4 .taken)))
+
+-- src/lib.rt:150:13
 mul-v : tie.Need-mul-v Inv-loop μ-loop
-mul-v c = search needs
+mul-v c = omega (arith, digits-fit (c .before .before .before .before .loop .v) (c .before .before .before .before .loop .j - c .before .before .before .before .before .before .before .args .i) (omega arith) (c .before .before .before .before .loop .inv .2))
 
--- src/lib.rt:145:27
-sub-v : tie.Need-sub-v Inv-loop μ-loop
-sub-v c = search needs
-
--- src/lib.rt:145:26
+-- src/lib.rt:150:22
 cast-v : tie.Need-cast-v Inv-loop μ-loop
 cast-v c = search needs
 
--- src/lib.rt:145:17
+-- src/lib.rt:150:13
 add-v : tie.Need-add-v Inv-loop μ-loop
-add-v c = search needs
+add-v c = omega (arith, digits-fit (c .before .before .before .before .loop .v) (c .before .before .before .before .loop .j - c .before .before .before .before .before .before .before .args .i) (omega arith) (c .before .before .before .before .loop .inv .2))
 
--- src/lib.rt:146:17
+-- src/lib.rt:151:13
 add-j : tie.Need-add-j Inv-loop μ-loop
 add-j c = search needs
 
@@ -66,15 +72,11 @@ loop-less c = search needs
 
 -- src/lib.rt:142:5
 loop-again : tie.Need-loop-again Inv-loop μ-loop
-loop-again c = search needs
-
--- src/lib.rt:148:13
-returns-3 : tie.Need-returns-3 Inv-loop μ-loop
-returns-3 c = search needs
+loop-again c = (search needs, search needs, digit-more _ _ _ _ (c .before .before .before .before .loop .inv .0) (c .before .before .before .before .loop .inv .2) (omega arith), sym (digit-on _ _ _ (c .before .if3 .left) (c .if4 .left)) ∙ ap (valueFrom (c .before .before .before .before .loop .v)) (sym (next _ _ _ (c .before .before .before .loop-test .taken) (c .before .before .before .before .before .before .before .pre .1))) ∙ c .before .before .before .before .loop .inv .3)
 
 -- src/lib.rt:130:1
-returns-4 : tie.Need-returns-4 Inv-loop μ-loop
-returns-4 c = search needs
+returns-5 : tie.Need-returns-5 Inv-loop μ-loop
+returns-5 c = ap numberOf (sym (decimal-value _ _ _ (c .before .before .before .before .pre .1) (c .before .before .before .if1 .left) (c .before .before .if2 .left) ∙ sym (c .before .loop .inv .3) ∙ ap (valueFrom _) (none _ _ _ (c .loop-test .left)) ∙ nothing-left _))
 
 pub decimal-spec : {M : Type 1} → statement M
 decimal-spec =
@@ -88,13 +90,12 @@ decimal-spec =
     returns-2
     loop-holds
     shared-slice-read-b
-    is-digit-requires
+    returns-3
+    returns-4
     mul-v
-    sub-v
     cast-v
     add-v
     add-j
     loop-less
     loop-again
-    returns-3
-    returns-4)
+    returns-5)

@@ -1,3 +1,6 @@
+use Rattle.octets.proofs.Slices.{next, none}
+use Rattle.octets.specs.Octets.{firstOr}
+use mathlib.Core.Path.{_≡_, sym, ap, _∙_}
 use native.Mathlib.Omega.{arith}
 use borrow.Author.Needs.{needs}
 use Rattle.octets.proofs.octet_at.Statement.{statement}
@@ -16,11 +19,11 @@ wide-requires c κs = search needs
 
 -- src/lib.rt:112:1
 returns : tie.Need-returns
-returns c = search needs
+returns c = c .wide .ensures ∙ ap firstOr (sym (next _ _ _ (c .before .before .if1 .taken) (c .before .before .before .before .pre)))
 
 -- src/lib.rt:112:1
 returns-2 : tie.Need-returns-2
-returns-2 c = search needs
+returns-2 c = ap firstOr (sym (none _ _ _ (c .if1 .left)))
 
 pub octet-at-spec : {M : Type 1} → statement M
 octet-at-spec = tie.close (tie.spec shared-slice-read-wide wide-requires returns returns-2)

@@ -1,0 +1,82 @@
+-- A decimal number read digit by digit.
+use Prim.Native.Nat.{ℕ, zero, suc, _+_, _*_, _-_, _^_, _≤_, _<_}
+use mathlib.Core.Path.{_≡_, refl, sym, ap, _∙_}
+use mathlib.Core.Bool.{Bool, true, false, cond}
+use mathlib.Core.List.{List, [], _∷_}
+use mathlib.Core.Option.{Option, none, some}
+use native.Mathlib.Omega.{arith}
+use native.Mathlib.Nat.{pow-suc, pow-le-pow-right}
+use lib.ListN.{length}
+use lib.Seq.{slice, length-slice}
+use lib.Dec.{leb, ltb, lit<}
+use borrow.Author.Tests.{le-leb, lt-leb, lt-ltb, le-ltb}
+use Rattle.format.specs.Lists.{_>>=_, provided, consBoth, eachOf}
+use Rattle.format.specs.Octets.{digit, letter, lowered}
+use Rattle.format.specs.Digits.{numberFrom, number, digitValue}
+use Rattle.format.specs.Number.{decimalOf}
+
+-- the number of the digits so far, which is v, and of those that follow
+unfoldable pub valueFrom : ℕ → List ℕ → Option ℕ
+valueFrom v [] = some v
+valueFrom v (x ∷ xs) = digitValue 10 x >>= λ d. valueFrom (v * 10 + d) xs
+
+value-each : (v : ℕ) (xs : List ℕ) → valueFrom v xs ≡ (eachOf (digitValue 10) xs >>= λ ds. some (numberFrom 10 v ds))
+unfolding valueFrom
+value-each v [] = refl
+value-each v (x ∷ xs) = by (digitValue 10 x) (λ w. value-each w xs)
+  where
+    on : (d : ℕ) (o : Option (List ℕ)) → (o >>= λ ds. some (numberFrom 10 (v * 10 + d) ds)) ≡ (consBoth (some d) o >>= λ ds. some (numberFrom 10 v ds))
+    on d none = refl
+    on d (some ds) = refl
+
+    by : (o : Option ℕ) → ((w : ℕ) → valueFrom w xs ≡ (eachOf (digitValue 10) xs >>= λ ds. some (numberFrom 10 w ds)))
+        → (o >>= λ d. valueFrom (v * 10 + d) xs) ≡ (consBoth o (eachOf (digitValue 10) xs) >>= λ ds. some (numberFrom 10 v ds))
+    by none ih = refl
+    by (some d) ih = ih (v * 10 + d) ∙ on d (eachOf (digitValue 10) xs)
+
+-- of a part with 1 to 10 octets, and with none or more
+pub decimal-value : (s : List ℕ) (i e : ℕ) → e ≤ length s → 1 ≤ e - i → e - i ≤ 10 → decimalOf (slice i e s) ≡ valueFrom 0 (slice i e s)
+decimal-value s i e l h k =
+    let n : length (slice i e s) ≡ e - i = length-slice i e s l in
+    rw (le-leb 1 (length (slice i e s)) (omega arith), le-leb (length (slice i e s)) 10 (omega arith)) (sym (value-each 0 (slice i e s)))
+
+pub no-decimal : (s : List ℕ) (i e : ℕ) → e ≤ length s → e - i < 1 → decimalOf (slice i e s) ≡ none
+no-decimal s i e l h = let n : length (slice i e s) ≡ e - i = length-slice i e s l in rw (lt-leb 1 (length (slice i e s)) (omega arith))
+
+pub long-decimal : (s : List ℕ) (i e : ℕ) → e ≤ length s → 10 < e - i → decimalOf (slice i e s) ≡ none
+long-decimal s i e l h =
+    let n : length (slice i e s) ≡ e - i = length-slice i e s l in
+    rw (le-leb 1 (length (slice i e s)) (omega arith), lt-leb (length (slice i e s)) 10 (omega arith))
+
+-- one digit more, and an octet that is none
+pub digit-on : (v x : ℕ) (xs : List ℕ) → 48 ≤ x → x ≤ 57 → valueFrom v (x ∷ xs) ≡ valueFrom (v * 10 + (x - 48)) xs
+unfolding valueFrom
+digit-on v x xs h l = let k : x - 48 < 10 = omega arith in rw (le-leb 48 x h, le-leb x 57 l, lt-ltb (x - 48) 10 k)
+
+not-digit : (v x : ℕ) (xs : List ℕ) → digit x ≡ false → valueFrom v (x ∷ xs) ≡ none
+unfolding valueFrom
+not-digit v x xs h = rw h (by (letter x))
+  where
+    by : (b : Bool) → (cond b (provided (ltb (lowered x - 97 + 10) 10) (lowered x - 97 + 10)) none >>= λ d. valueFrom (v * 10 + d) xs) ≡ none
+    by true = rw (le-ltb (lowered x - 97 + 10) 10 (omega arith))
+    by false = refl
+
+pub digit-low : (v x : ℕ) (xs : List ℕ) → x < 48 → valueFrom v (x ∷ xs) ≡ none
+digit-low v x xs h = not-digit v x xs (rw (lt-leb 48 x h))
+
+pub digit-high : (v x : ℕ) (xs : List ℕ) → 48 ≤ x → 57 < x → valueFrom v (x ∷ xs) ≡ none
+digit-high v x xs l h = not-digit v x xs (rw (le-leb 48 x l, lt-leb x 57 h))
+
+-- the value so far fits
+pub digit-more : (v i j d : ℕ) → i ≤ j → v < 10 ^ (j - i) → d < 10 → v * 10 + d < 10 ^ (j + 1 - i)
+digit-more v i j d l h k = let e : j + 1 - i ≡ suc (j - i) = omega arith in rw (e, pow-suc 10 (j - i)) (omega arith)
+
+pub digits-fit : (v n : ℕ) → n < 10 → v < 10 ^ n → v < 10 ^ 9
+digits-fit v n h k = omega (arith, pow-le-pow-right {n = 10} (lit< tt) {i = n} {j = 9} (omega arith))
+
+pub nothing-yet : (i : ℕ) → 0 < 10 ^ (i - i)
+nothing-yet i = let e : i - i ≡ 0 = omega arith in rw e (omega arith)
+
+pub nothing-left : (v : ℕ) → valueFrom v [] ≡ some v
+unfolding valueFrom
+nothing-left v = refl
