@@ -40,3 +40,22 @@ takenBy TypeR = some (words (ascii "L" ∷ []) (λ given. some (cond (null given
 takenBy TypeN = some (words (ascii "C" ∷ ascii "A" ∷ ascii "L" ∷ ascii "O" ∷ []) (λ given. some (nameKind given)))
 takenBy TypeS = some (words (ascii "M" ∷ ascii "X" ∷ []) stringKind)
 takenBy TypeX = some (words (ascii "C" ∷ []) (λ given. some (cond (null given) hex hexc)))
+
+-- the octets of an integer
+abbrev pub intWidth : Form → ℕ
+intWidth (Int w) = w
+intWidth Rrtype = 0
+intWidth Bitmap = 0
+intWidth Dotted = 0
+intWidth Aa = 0
+intWidth Aaaa = 0
+intWidth (Name c a i o) = 0
+intWidth Str = 0
+intWidth Strs = 0
+intWidth Raw = 0
+intWidth Base32 = 0
+intWidth Base64 = 0
+intWidth Hex = 0
+intWidth Hexc = 0
+intWidth (Eui w) = 0
+intWidth Time = 0

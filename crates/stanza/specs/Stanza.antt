@@ -1,0 +1,82 @@
+-- The judged description in code, and what it means in the stanza that it was found in.
+use Prim.Native.Nat.{ℕ, zero, suc, _+_}
+use mathlib.Core.Bool.{Bool, true, false, not, cond, _&&_, _||_}
+use mathlib.Core.List.{List, [], _∷_}
+use mathlib.Core.Option.{Option, none, some}
+use lib.ListN.{length, getD}
+use lib.Seq.{slice}
+use lib.Dec.{eqb}
+use Rattle.format.specs.Lists.{_>>=_, eachOf}
+use Rattle.format.specs.Octets.{sameWord}
+use Rattle.format.specs.Field.{Part, Symbol, Kind, Field}
+use Rattle.format.specs.Grammar.{Header}
+use Rattle.format.specs.Types.{Meaning, unknown, forbidden, means, symbolOf}
+use Rattle.format.specs.Judge.{Description, Progress, beforeHeader, afterHeader, Verdict, faulty, goesOn, withField, Judged, rejected, described}
+use Rattle.octets.specs.Octets.{partIn}
+use Rattle.qualifiers.specs.Qualifiers.{qualifiersIn}
+use Rattle.types.specs.declared.Form.{Form}
+use Rattle.types.specs.declared.Form.the-variants.{Rrtype}
+use Rattle.types.specs.Types.{kindOf, intWidth}
+use Rattle.stanza.specs.declared.Meant.{Meant}
+use Rattle.stanza.specs.declared.Meant.the-variants.{Malformed, Unknown, Forbidden, Means}
+use Rattle.stanza.specs.declared.HeaderDesc.{HeaderDesc}
+use Rattle.stanza.specs.declared.FieldDesc.{FieldDesc}
+use Rattle.stanza.specs.declared.HeaderVerdict.{HeaderVerdict}
+use Rattle.stanza.specs.declared.HeaderVerdict.the-variants.{BadHeader, GoodHeader}
+use Rattle.stanza.specs.declared.NewField.{NewField}
+use Rattle.stanza.specs.declared.FieldVerdict.{FieldVerdict}
+use Rattle.stanza.specs.declared.FieldVerdict.the-variants.{BadField, GoodField}
+use Rattle.stanza.specs.declared.Outline.{Outline}
+
+-- the symbols of a form among the qualifiers from a to b
+abbrev pub orNone : Option (List Symbol) → List Symbol
+orNone none = []
+orNone (some l) = l
+
+abbrev pub kindIn : List ℕ → ℕ → ℕ → Form → Kind
+kindIn s a b f = kindOf (orNone (qualifiersIn s a b >>= eachOf (symbolOf (intWidth f)))) f
+
+-- what a type and its qualifiers, from a to b, are; none: they break the grammar
+abbrev pub meantIn : List ℕ → ℕ → ℕ → Meant → Option Meaning
+meantIn s a b Malformed = none
+meantIn s a b Unknown = some unknown
+meantIn s a b Forbidden = some forbidden
+meantIn s a b (Means f) = some (means (kindIn s a b f))
+
+abbrev pub headerOf : List ℕ → HeaderDesc → Header
+headerOf s h = record { typeName = partIn s (h .name-at) (h .name-end); typeNo = h .number; headerText = partIn s (h .text-at) (h .text-end) }
+
+-- a header's line
+abbrev pub headerVerdict : List ℕ → HeaderVerdict → Verdict
+headerVerdict s (BadHeader n) = faulty n
+headerVerdict s (GoodHeader h) = goesOn (afterHeader (record { header = headerOf s h; fields = [] }))
+
+-- a field: what is kept of it beside its name, and where its name lies
+abbrev pub fieldOf : List ℕ → FieldDesc → ℕ → ℕ → Field
+fieldOf s f a e = record { kind = kindIn s (f .qualifiers-at) (f .qualifiers-end) (f .form); fieldName = partIn s a e; freeText = partIn s (f .text-at) (f .text-end) }
+
+-- a field's line, the other fields apart
+abbrev pub fieldVerdict : List ℕ → Description → FieldVerdict → Verdict
+fieldVerdict s d (BadField n) = faulty n
+fieldVerdict s d (GoodField f) = withField d (fieldOf s (f .field) (f .name-at) (f .name-end))
+
+abbrev pub noField : FieldDesc
+noField = record { form = Rrtype; qualifiers-at = 0; qualifiers-end = 0; text-at = 0; text-end = 0 }
+
+-- m fields from number k on, of an array of them and of those of the places of their names
+abbrev pub fieldsFrom : List ℕ → List FieldDesc → List ℕ → List ℕ → ℕ → ℕ → List Field
+fieldsFrom s fs names ends k zero = []
+fieldsFrom s fs names ends k (suc m) = fieldOf s (getD fs k noField) (getD names k 0) (getD ends k 0) ∷ fieldsFrom s fs names ends (k + 1) m
+
+-- one of m names from number k on is that from a to e
+abbrev pub namedFrom : List ℕ → List ℕ → List ℕ → ℕ → ℕ → ℕ → ℕ → Bool
+namedFrom s names ends a e k zero = false
+namedFrom s names ends a e k (suc m) =
+    (not (eqb (getD names k 0) (getD ends k 0)) && sameWord (slice (getD names k 0) (getD ends k 0) s) (slice a e s)) || namedFrom s names ends a e (k + 1) m
+
+-- the description, or the refusal
+abbrev pub descriptionOf : List ℕ → Outline → Description
+descriptionOf s o = record { header = headerOf s (o .header); fields = fieldsFrom s (o .fields) (o .names) (o .ends) 0 (o .count) }
+
+abbrev pub outlineOf : List ℕ → Outline → Judged
+outlineOf s o = cond (eqb (o .number) 0) (described (descriptionOf s o)) (rejected (o .number) (o .line))
