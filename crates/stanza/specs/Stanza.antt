@@ -1,21 +1,24 @@
 -- The judged description in code, and what it means in the stanza that it was found in.
-use Prim.Native.Nat.{ℕ, zero, suc, _+_}
+use Prim.Native.Nat.{ℕ, zero, suc, _+_, _<_}
 use mathlib.Core.Bool.{Bool, true, false, not, cond, _&&_, _||_}
-use mathlib.Core.List.{List, [], _∷_}
+use mathlib.Core.List.{List, [], _∷_, _++_}
 use mathlib.Core.Option.{Option, none, some}
 use lib.ListN.{length, getD}
 use lib.Seq.{slice}
 use lib.Dec.{eqb}
-use Rattle.format.specs.Lists.{_>>=_, eachOf}
-use Rattle.format.specs.Octets.{sameWord}
-use Rattle.format.specs.Field.{Part, Symbol, Kind, Field}
-use Rattle.format.specs.Grammar.{Header}
-use Rattle.format.specs.Types.{Meaning, unknown, forbidden, means, symbolOf}
+use Rattle.format.specs.Lists.{_>>=_, eachOf, anyOf, null}
+use Rattle.format.specs.Octets.{ascii, sameWord}
+use Rattle.format.specs.Field.{Part, Symbol, Kind, Field, rrtype, bitmap, hex, hexc}
+use Rattle.format.specs.Grammar.{Header, Qualifier, qualifier}
+use Rattle.format.specs.Types.{Takes, words, nameKind, stringKind, unknownWord, Meaning, unknown, forbidden, means, orForbidden, symbolOf}
 use Rattle.format.specs.Judge.{Description, Progress, beforeHeader, afterHeader, Verdict, faulty, goesOn, withField, Judged, rejected, described}
 use Rattle.octets.specs.Octets.{partIn}
-use Rattle.qualifiers.specs.Qualifiers.{qualifiersIn}
+use Rattle.qualifiers.specs.Qualifiers.{piecesIn, qualifiersIn, anyIn}
+use Rattle.qualifiers.specs.declared.Words.{Words}
+use Rattle.qualifiers.specs.declared.Words.the-variants.{Nothing, OnR, OnN, OnS, OnX}
+use Rattle.qualifiers.specs.declared.Test.the-variants.{IsWord}
 use Rattle.types.specs.declared.Form.{Form}
-use Rattle.types.specs.declared.Form.the-variants.{Rrtype}
+use Rattle.types.specs.declared.Form.the-variants.{Rrtype, Bitmap, Name, Str, Strs, Raw, Hexc}
 use Rattle.types.specs.Types.{kindOf, intWidth}
 use Rattle.stanza.specs.declared.Meant.{Meant}
 use Rattle.stanza.specs.declared.Meant.the-variants.{Malformed, Unknown, Forbidden, Means}
@@ -26,6 +29,8 @@ use Rattle.stanza.specs.declared.HeaderVerdict.the-variants.{BadHeader, 
 use Rattle.stanza.specs.declared.NewField.{NewField}
 use Rattle.stanza.specs.declared.FieldVerdict.{FieldVerdict}
 use Rattle.stanza.specs.declared.FieldVerdict.the-variants.{BadField, GoodField}
+use Rattle.stanza.specs.declared.Step.{Step}
+use Rattle.stanza.specs.declared.Step.the-variants.{Skip, Refuse, Head, Add}
 use Rattle.stanza.specs.declared.Outline.{Outline}
 
 -- the symbols of a form among the qualifiers from a to b
@@ -42,6 +47,29 @@ meantIn s a b Malformed = none
 meantIn s a b Unknown = some unknown
 meantIn s a b Forbidden = some forbidden
 meantIn s a b (Means f) = some (means (kindIn s a b f))
+
+-- what known qualifiers that a type allows come to, from a to b
+abbrev pub meaningBy : (List Qualifier → Option Kind) → List ℕ → ℕ → ℕ → Option Meaning
+meaningBy f s a b = eachOf qualifier (piecesIn s a b) >>= λ qs. some (cond (anyOf unknownWord qs) unknown (orForbidden (f qs)))
+
+-- the types that take words
+abbrev pub listed : Words → Takes
+listed Nothing = words [] (λ given. none)
+listed OnR = words (ascii "L" ∷ []) (λ given. some (cond (null given) rrtype bitmap))
+listed OnN = words (ascii "C" ∷ ascii "A" ∷ ascii "L" ∷ ascii "O" ∷ []) (λ given. some (nameKind given))
+listed OnS = words (ascii "M" ∷ ascii "X" ∷ []) stringKind
+listed OnX = words (ascii "C" ∷ []) (λ given. some (cond (null given) hex hexc))
+
+-- what their words make, each given once, and one at least
+abbrev pub nameForm : List ℕ → ℕ → ℕ → Form
+nameForm s a b = Name (anyIn (IsWord 67) s a b) (anyIn (IsWord 65) s a b) (anyIn (IsWord 76) s a b) (anyIn (IsWord 79) s a b)
+
+abbrev pub madeOf : List ℕ → ℕ → ℕ → Words → Meant
+madeOf s a b Nothing = Forbidden
+madeOf s a b OnR = Means Bitmap
+madeOf s a b OnN = Means (nameForm s a b)
+madeOf s a b OnS = cond (anyIn (IsWord 77) s a b) (cond (anyIn (IsWord 88) s a b) Forbidden (Means Strs)) (cond (anyIn (IsWord 88) s a b) (Means Raw) (Means Str))
+madeOf s a b OnX = Means Hexc
 
 abbrev pub headerOf : List ℕ → HeaderDesc → Header
 headerOf s h = record { typeName = partIn s (h .name-at) (h .name-end); typeNo = h .number; headerText = partIn s (h .text-at) (h .text-end) }
@@ -63,6 +91,10 @@ fieldVerdict s d (GoodField f) = withField d (fieldOf s (f .field) (f .name-at) 
 abbrev pub noField : FieldDesc
 noField = record { form = Rrtype; qualifiers-at = 0; qualifiers-end = 0; text-at = 0; text-end = 0 }
 
+-- a name that is there and is another's too
+abbrev pub sameText : List ℕ → List ℕ → Bool
+sameText x y = not (null x) && sameWord x y
+
 -- m fields from number k on, of an array of them and of those of the places of their names
 abbrev pub fieldsFrom : List ℕ → List FieldDesc → List ℕ → List ℕ → ℕ → ℕ → List Field
 fieldsFrom s fs names ends k zero = []
@@ -71,8 +103,29 @@ fieldsFrom s fs names ends k (suc m) = fieldOf s (getD fs k noField) (getD names
 -- one of m names from number k on is that from a to e
 abbrev pub namedFrom : List ℕ → List ℕ → List ℕ → ℕ → ℕ → ℕ → ℕ → Bool
 namedFrom s names ends a e k zero = false
-namedFrom s names ends a e k (suc m) =
-    (not (eqb (getD names k 0) (getD ends k 0)) && sameWord (slice (getD names k 0) (getD ends k 0) s) (slice a e s)) || namedFrom s names ends a e (k + 1) m
+namedFrom s names ends a e k (suc m) = sameText (slice (getD names k 0) (getD ends k 0) s) (slice a e s) || namedFrom s names ends a e (k + 1) m
+
+-- how things stand: before the header, or after it with a description
+abbrev pub progressOf : Bool → Description → Progress
+progressOf have d = cond have (afterHeader d) beforeHeader
+
+abbrev pub withMore : Progress → Field → Verdict
+withMore beforeHeader f = faulty 0
+withMore (afterHeader d) f = goesOn (afterHeader (record { header = d .header; fields = d .fields ++ f ∷ [] }))
+
+-- what a line does
+abbrev pub stepOf : List ℕ → Progress → Step → Verdict
+stepOf s p Skip = goesOn p
+stepOf s p (Refuse n) = faulty n
+stepOf s p (Head h) = goesOn (afterHeader (record { header = headerOf s h; fields = [] }))
+stepOf s p (Add f) = withMore p (fieldOf s (f .field) (f .name-at) (f .name-end))
+
+-- a field is added only below the 64th
+abbrev pub Fits : ℕ → Step → Type 0
+Fits n Skip = Unit {0}
+Fits n (Refuse k) = Unit {0}
+Fits n (Head h) = Unit {0}
+Fits n (Add f) = n < 64
 
 -- the description, or the refusal
 abbrev pub descriptionOf : List ℕ → Outline → Description

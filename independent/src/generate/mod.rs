@@ -1,0 +1,18 @@
+//! Pseudo-random requests for the probe protocol and pseudo-random jobs, for
+//! comparing implementations. Every request follows from the seed and its own
+//! index alone.
+//!
+//! Good and damaged inputs are mixed so that about half are accepted and every
+//! refusal number and every field kind with every qualifier occurs often.
+
+mod jobs;
+mod limits;
+mod random;
+mod requests;
+mod stanzas;
+mod texts;
+mod values;
+
+pub use jobs::job;
+pub use limits::limit_requests;
+pub use requests::{judge_requests, print_requests, read_requests};

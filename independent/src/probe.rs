@@ -1,0 +1,124 @@
+//! A line protocol for comparing: one request per line, one answer line each.
+//!
+//! ```text
+//! J STANZA                               -> NUMBER PLACE
+//! P STANZA FIRST LENGTH RDATA ROOM       -> NUMBER PLACE TEXT
+//! R STANZA FIRST LENGTH ORIGIN TEXT ROOM -> NUMBER PLACE RDATA
+//! ```
+//!
+//! Words are parted by exactly one space. Octets are in hex, either case in,
+//! upper case out, `-` for none; numbers are decimal, unsigned, 64 bits. PLACE
+//! is the count where NUMBER is 0. A line that is no request answers `?`.
+
+use crate::base::{print_hex, read_hex};
+use crate::{judge, print, read, Answer};
+
+/// The longest request line, without its LF.
+pub const LINE_LIMIT: usize = 2_200_000;
+
+/// The answer to a request line, both without their LF.
+pub fn answer(line: &[u8]) -> Vec<u8> {
+    try_answer(line).unwrap_or_else(|| b"?".to_vec())
+}
+
+fn try_answer(line: &[u8]) -> Option<Vec<u8>> {
+    if line.len() > LINE_LIMIT {
+        return None;
+    }
+    let words: Vec<&[u8]> = line.split(|&octet| octet == b' ').collect();
+    match words[..] {
+        [b"J", stanza] => {
+            let (number, place) = judge(&octets(stanza)?);
+            Some(format!("{number} {place}").into_bytes())
+        }
+        [b"P", stanza, first, length, rdata, room] => Some(answer_line(print(
+            &octets(stanza)?,
+            number(first)?,
+            number(length)?,
+            &octets(rdata)?,
+            number(room)?,
+        ))),
+        [b"R", stanza, first, length, origin, text, room] => Some(answer_line(read(
+            &octets(stanza)?,
+            number(first)?,
+            number(length)?,
+            &octets(origin)?,
+            &octets(text)?,
+            number(room)?,
+        ))),
+        _ => None,
+    }
+}
+
+fn answer_line(answer: Answer) -> Vec<u8> {
+    let mut line = format!("{} {} ", answer.number, answer.place).into_bytes();
+    push_octets(&answer.octets, &mut line);
+    line
+}
+
+fn octets(word: &[u8]) -> Option<Vec<u8>> {
+    let mut octets = Vec::new();
+    if word == b"-" {
+        return Some(octets);
+    }
+    if word.is_empty() {
+        return None;
+    }
+    read_hex(word, &mut octets)?;
+    Some(octets)
+}
+
+fn number(word: &[u8]) -> Option<u64> {
+    if word.is_empty() {
+        return None;
+    }
+    word.iter().try_fold(0u64, |value, digit| {
+        let digit = digit.is_ascii_digit().then(|| u64::from(digit - b'0'))?;
+        value.checked_mul(10)?.checked_add(digit)
+    })
+}
+
+/// Appends octets as a word of the protocol.
+fn push_octets(octets: &[u8], line: &mut Vec<u8>) {
+    if octets.is_empty() {
+        line.push(b'-');
+    } else {
+        print_hex(octets, line);
+    }
+}
+
+/// The request line for judging.
+pub fn judge_request(stanza: &[u8]) -> Vec<u8> {
+    let mut line = b"J ".to_vec();
+    push_octets(stanza, &mut line);
+    line
+}
+
+/// The request line for printing.
+pub fn print_request(stanza: &[u8], first: u64, length: u64, rdata: &[u8], room: u64) -> Vec<u8> {
+    let mut line = b"P ".to_vec();
+    push_octets(stanza, &mut line);
+    line.extend_from_slice(format!(" {first} {length} ").as_bytes());
+    push_octets(rdata, &mut line);
+    line.extend_from_slice(format!(" {room}").as_bytes());
+    line
+}
+
+/// The request line for reading.
+pub fn read_request(
+    stanza: &[u8],
+    first: u64,
+    length: u64,
+    origin: &[u8],
+    text: &[u8],
+    room: u64,
+) -> Vec<u8> {
+    let mut line = b"R ".to_vec();
+    push_octets(stanza, &mut line);
+    line.extend_from_slice(format!(" {first} {length} ").as_bytes());
+    push_octets(origin, &mut line);
+    line.push(b' ');
+    push_octets(text, &mut line);
+    line.extend_from_slice(format!(" {room}").as_bytes());
+    line
+}

@@ -1,0 +1,174 @@
+//! What the generators promise: every refusal and every kind of field, about
+//! half the requests accepted, the same requests for the same seed.
+
+use std::collections::BTreeMap;
+
+use independent::{generate, job, probe};
+
+/// Answers by number, and the number of lines over 600 octets.
+fn tally(lines: impl Iterator<Item = Vec<u8>>) -> (BTreeMap<u64, u64>, u64) {
+    let mut numbers = BTreeMap::new();
+    let mut long = 0;
+    for line in lines {
+        long += u64::from(line.len() > 600);
+        let answer = String::from_utf8(probe::answer(&line)).unwrap();
+        assert_ne!(answer, "?");
+        let number = answer.split(' ').next().unwrap().parse().unwrap();
+        *numbers.entry(number).or_insert(0) += 1;
+    }
+    (numbers, long)
+}
+
+fn has(numbers: &BTreeMap<u64, u64>, wanted: &[(u64, u64)]) {
+    for &(number, least) in wanted {
+        let count = numbers.get(&number).copied().unwrap_or(0);
+        assert!(count >= least, "{number} given {count} times: {numbers:?}");
+    }
+    let accepted = numbers[&0] * 100 / numbers.values().sum::<u64>();
+    assert!((40..=60).contains(&accepted), "{accepted} of a hundred accepted");
+}
+
+#[test]
+fn judging() {
+    let (numbers, _) = tally(generate::judge_requests(10_000, 1));
+    has(&numbers, &[(1, 20), (2, 1_000), (3, 300), (4, 300), (5, 50)]);
+}
+
+#[test]
+fn printing() {
+    let (numbers, long) = tally(generate::print_requests(10_000, 2));
+    let wanted =
+        [(1, 10), (2, 50), (3, 50), (4, 50), (5, 2), (6, 100), (8, 500), (9, 300), (10, 300), (12, 300)];
+    has(&numbers, &wanted);
+    assert!(long < 1_000);
+}
+
+#[test]
+fn reading() {
+    let (numbers, long) = tally(generate::read_requests(10_000, 3));
+    let wanted = [
+        (1, 10),
+        (2, 50),
+        (3, 50),
+        (4, 50),
+        (5, 2),
+        (6, 100),
+        (7, 100),
+        (8, 100),
+        (9, 1_000),
+        (10, 200),
+        (11, 2),
+        (12, 300),
+    ];
+    has(&numbers, &wanted);
+    assert!(long < 1_000);
+}
+
+/// Each type with each qualifier it can have, in accepted and in refused
+/// requests.
+#[test]
+fn kinds() {
+    let kinds = [
+        "I1", "I2", "I4", "I1[", "I2[", "I4[", "R", "R[L]", "A", "AA", "AAAA", "N", "N[C", "N[A", "N[L",
+        "N[O", "O]", "S", "S[M]", "S[X]", "B32", "B64", "X", "X[C]", "T", "EUI48", "EUI64", "X6", "X8",
+    ];
+    for lines in [
+        generate::print_requests(10_000, 4).collect::<Vec<_>>(),
+        generate::read_requests(10_000, 5).collect::<Vec<_>>(),
+    ] {
+        let mut counts: BTreeMap<(&str, bool), u64> = BTreeMap::new();
+        for line in lines {
+            let accepted = probe::answer(&line).starts_with(b"0 ");
+            let text = String::from_utf8(line).unwrap();
+            let stanza = text.split(' ').nth(1).unwrap();
+            let stanza: Vec<u8> = (0..stanza.len() / 2)
+                .map(|i| u8::from_str_radix(&stanza[2 * i..2 * i + 2], 16).unwrap())
+                .collect();
+            for line in stanza.split(|&octet| octet == b'\n') {
+                let line = String::from_utf8_lossy(line);
+                let field = line.trim_start();
+                if field.len() == line.len() {
+                    continue;
+                }
+                for kind in kinds {
+                    let open = kind.contains('[') && !kind.contains(']');
+                    let after = field.strip_prefix(kind);
+                    let found = match kind {
+                        "O]" => field.starts_with("N[") && field.contains("O]"),
+                        _ if open => after.is_some(),
+                        _ => {
+                            after.is_some_and(|after| after.is_empty() || after.starts_with([':', ' ', '\t']))
+                        }
+                    };
+                    if found {
+                        *counts.entry((kind, accepted)).or_insert(0) += 1;
+                    }
+                }
+            }
+        }
+        for kind in kinds {
+            for accepted in [false, true] {
+                let count = counts.get(&(kind, accepted)).copied().unwrap_or(0);
+                assert!(count >= 50, "{kind} {accepted}: {count}");
+            }
+        }
+    }
+}
+
+#[test]
+fn the_same_seed_gives_the_same() {
+    assert!(generate::read_requests(200, 9).eq(generate::read_requests(200, 9)));
+    assert!(generate::print_requests(200, 9).eq(generate::print_requests(200, 9)));
+    assert!(!generate::print_requests(200, 9).eq(generate::print_requests(200, 10)));
+    assert!(generate::judge_requests(200, 9).eq(generate::judge_requests(200, 9)));
+    assert_eq!(generate::job(9, 3), generate::job(9, 3));
+}
+
+#[test]
+fn jobs() {
+    let (mut bad, mut ok, mut no) = (0, 0, 0);
+    for index in 0..2_000 {
+        let output = job(&generate::job(6, index));
+        if output == b"bad job\n" {
+            bad += 1;
+            continue;
+        }
+        for line in output.split(|&octet| octet == b'\n').filter(|line| !line.is_empty()) {
+            match &line[..2] {
+                b"ok" => ok += 1,
+                b"no" => no += 1,
+                _ => panic!("{line:?}"),
+            }
+        }
+    }
+    assert!(bad > 300 && ok > 800 && no > 800, "{bad} {ok} {no}");
+}
+
+#[test]
+fn limits() {
+    let mut numbers = BTreeMap::new();
+    for line in generate::limit_requests() {
+        assert!(line.len() <= probe::LINE_LIMIT);
+        let answer = probe::answer(&line);
+        let number = answer.iter().take_while(|octet| octet.is_ascii_digit()).count();
+        *numbers.entry(answer[..number].to_vec()).or_insert(0) += 1;
+    }
+    for wanted in ["0", "1", "5", "6", "7", "8", "9", "10", "11", "12"] {
+        assert!(numbers[wanted.as_bytes()] > 0);
+    }
+}
+
+#[test]
+fn no_request() {
+    for line in [
+        "", " ", "J", "J ", "J  -", "J 0", "J 0G", "J - -", "j -", "P - 1 1 -", "P - 1 1 - 0 0",
+        "P - +1 1 - 0", "P - 1 1 - 18446744073709551616", "R - 1 1 - -", "R - 1 1 - - ", "X", "J -\r",
+        " J -", "P - 1 x - 0",
+    ] {
+        assert_eq!(probe::answer(line.as_bytes()), b"?", "{line:?}");
+    }
+    assert_eq!(probe::answer(b"J -"), b"2 0");
+    assert_eq!(probe::answer(b"J 543a310a2049310a"), b"0 1");
+    assert_eq!(probe::answer(b"P 543A310A2049310A 1 1 07 18446744073709551615"), b"0 1 37");
+    assert_eq!(probe::answer(b"R 543A310A2049310A 1 0 00 - 0"), b"0 0 -");
+}
