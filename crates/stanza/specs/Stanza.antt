@@ -1,5 +1,6 @@
 -- The judged description in code, and what it means in the stanza that it was found in.
 use Prim.Native.Nat.{ℕ, zero, suc, _+_, _<_}
+use mathlib.Core.Path.{_≡_}
 use mathlib.Core.Bool.{Bool, true, false, not, cond, _&&_, _||_}
 use mathlib.Core.List.{List, [], _∷_, _++_}
 use mathlib.Core.Option.{Option, none, some}
@@ -11,7 +12,7 @@ use Rattle.format.specs.Octets.{ascii, sameWord}
 use Rattle.format.specs.Field.{Part, Symbol, Kind, Field, rrtype, bitmap, hex, hexc}
 use Rattle.format.specs.Grammar.{Header, Qualifier, qualifier}
 use Rattle.format.specs.Types.{Takes, words, nameKind, stringKind, unknownWord, Meaning, unknown, forbidden, means, orForbidden, symbolOf}
-use Rattle.format.specs.Judge.{Description, Progress, beforeHeader, afterHeader, Verdict, faulty, goesOn, withField, Judged, rejected, described}
+use Rattle.format.specs.Judge.{Description, Progress, beforeHeader, afterHeader, Verdict, faulty, goesOn, afterTail, sameName, withField, Judged, rejected, described}
 use Rattle.octets.specs.Octets.{partIn}
 use Rattle.qualifiers.specs.Qualifiers.{piecesIn, qualifiersIn, anyIn}
 use Rattle.qualifiers.specs.declared.Words.{Words}
@@ -72,7 +73,7 @@ madeOf s a b OnS = cond (anyIn (IsWord 77) s a b) (cond (anyIn (IsWord 88) s a b
 madeOf s a b OnX = Means Hexc
 
 abbrev pub headerOf : List ℕ → HeaderDesc → Header
-headerOf s h = record { typeName = partIn s (h .name-at) (h .name-end); typeNo = h .number; headerText = partIn s (h .text-at) (h .text-end) }
+headerOf s h = record { typeName = partIn s (h .«name_at») (h .«name_end»); typeNo = h .number; headerText = partIn s (h .«text_at») (h .«text_end») }
 
 -- a header's line
 abbrev pub headerVerdict : List ℕ → HeaderVerdict → Verdict
@@ -81,15 +82,15 @@ headerVerdict s (GoodHeader h) = goesOn (afterHeader (record { header = headerOf
 
 -- a field: what is kept of it beside its name, and where its name lies
 abbrev pub fieldOf : List ℕ → FieldDesc → ℕ → ℕ → Field
-fieldOf s f a e = record { kind = kindIn s (f .qualifiers-at) (f .qualifiers-end) (f .form); fieldName = partIn s a e; freeText = partIn s (f .text-at) (f .text-end) }
+fieldOf s f a e = record { kind = kindIn s (f .«qualifiers_at») (f .«qualifiers_end») (f .form); fieldName = partIn s a e; freeText = partIn s (f .«text_at») (f .«text_end») }
 
 -- a field's line, the other fields apart
 abbrev pub fieldVerdict : List ℕ → Description → FieldVerdict → Verdict
 fieldVerdict s d (BadField n) = faulty n
-fieldVerdict s d (GoodField f) = withField d (fieldOf s (f .field) (f .name-at) (f .name-end))
+fieldVerdict s d (GoodField f) = withField d (fieldOf s (f .field) (f .«name_at») (f .«name_end»))
 
 abbrev pub noField : FieldDesc
-noField = record { form = Rrtype; qualifiers-at = 0; qualifiers-end = 0; text-at = 0; text-end = 0 }
+noField = record { form = Rrtype; «qualifiers_at» = 0; «qualifiers_end» = 0; «text_at» = 0; «text_end» = 0 }
 
 -- a name that is there and is another's too
 abbrev pub sameText : List ℕ → List ℕ → Bool
@@ -113,12 +114,18 @@ abbrev pub withMore : Progress → Field → Verdict
 withMore beforeHeader f = faulty 0
 withMore (afterHeader d) f = goesOn (afterHeader (record { header = d .header; fields = d .fields ++ f ∷ [] }))
 
+-- a description whose fields are n, with a tail among them or not, and with the names from `names` to `ends`
+pub record Stands (s : List ℕ) (d : Description) (last : Bool) (names ends : List ℕ) (n : ℕ) : Type 0 where
+  pub many : length (d .fields) ≡ n
+  pub tails : afterTail (d .fields) ≡ last
+  pub named : (f : Field) (a e : ℕ) → f .fieldName ≡ partIn s a e → anyOf (λ g. sameName g f) (d .fields) ≡ namedFrom s names ends a e 0 n
+
 -- what a line does
 abbrev pub stepOf : List ℕ → Progress → Step → Verdict
 stepOf s p Skip = goesOn p
 stepOf s p (Refuse n) = faulty n
 stepOf s p (Head h) = goesOn (afterHeader (record { header = headerOf s h; fields = [] }))
-stepOf s p (Add f) = withMore p (fieldOf s (f .field) (f .name-at) (f .name-end))
+stepOf s p (Add f) = withMore p (fieldOf s (f .field) (f .«name_at») (f .«name_end»))
 
 -- a field is added only below the 64th
 abbrev pub Fits : ℕ → Step → Type 0

@@ -271,7 +271,7 @@ fn header_verdict(s: &[u8], at: usize, t: usize, e: usize) -> HeaderVerdict
 
 // A field line that the grammar lets pass, from t to e.
 fn field_meant(s: &[u8], t: usize, e: usize, x: FieldShape) -> FieldVerdict
-    requires { ⌜ (t ≤ x .type-end) × (x .type-end ≤ e) × (x .qualifiers-at ≤ x .qualifiers-end) × (x .qualifiers-end ≤ e) × (x .name-end ≤ e) × (x .text-at ≤ e) × (e ≤ length (now s)) × (length (now s) ≤ 8192) ⌝ }
+    requires { ⌜ (t ≤ x .«type_end») × (x .«type_end» ≤ e) × (x .«qualifiers_at» ≤ x .«qualifiers_end») × (x .«qualifiers_end» ≤ e) × (x .«name_end» ≤ e) × (x .«text_at» ≤ e) × (e ≤ length (now s)) × (length (now s) ≤ 8192) ⌝ }
     ensures { λ r. ⌜ (d : Description) → fieldVerdict (now (s .entry)) d r ≡ ofFieldLine d (shapeIn (now (s .entry)) t e (IsField x)) ⌝ }
 {
     let k = x.type_end;
@@ -317,4 +317,161 @@ pub fn is_tail(f: Form) -> bool
         Form::Hex => true,
         _ => false,
     }
+}
+
+// Whether the name from a to e is one of the first n.
+fn name_again(s: &[u8], names: &[u16], ends: &[u16], n: usize, a: usize, e: usize) -> bool
+    requires { ⌜ (a ≤ e) × (e ≤ length (now s)) × (n ≤ length (now names)) × (n ≤ length (now ends)) ⌝ }
+    ensures { λ r. ⌜ r ≡ namedFrom (now (s .entry)) (now (names .entry)) (now (ends .entry)) a e 0 n ⌝ }
+{
+    let mut k = 0;
+    while k < n {
+        if same_name(s, names[k], ends[k], a, e) {
+            return true;
+        }
+        k = k + 1;
+    }
+    false
+}
+
+// Whether the text from x to y is not empty, and the name from a to e.
+fn same_name(s: &[u8], x: u16, y: u16, a: usize, e: usize) -> bool
+    requires { ⌜ (a ≤ e) × (e ≤ length (now s)) ⌝ }
+    ensures { λ r. ⌜ r ≡ sameText (slice x y (now (s .entry))) (slice a e (now (s .entry))) ⌝ }
+{
+    let b = x as usize;
+    let f = least(y as usize, s.len());
+    if b < f {
+        return qualifiers::same(true, s, b, f, a, e);
+    }
+    false
+}
+
+fn least(a: usize, b: usize) -> usize
+    ensures { λ r. ⌜ r ≡ min a b ⌝ }
+{
+    if a < b {
+        a
+    } else {
+        b
+    }
+}
+
+// What the line from at to e does, after a header or before it, after a tail or not, with n fields so far.
+fn line_step(s: &[u8], at: usize, e: usize, have: bool, last: bool, names: &[u16], ends: &[u16], n: usize) -> Step
+    requires { ⌜ (at ≤ e) × (e ≤ length (now s)) × (length (now s) ≤ 8192) × (n ≤ length (now names)) × (n ≤ length (now ends)) ⌝ }
+    ensures { λ r. ⌜ Fits n r × ((d : Description) → Stands (now (s .entry)) d last (now (names .entry)) (now (ends .entry)) n
+        → stepOf (now (s .entry)) (progressOf have d) r ≡ lineVerdict (progressOf have d) (partIn (now (s .entry)) at e)) ⌝ }
+{
+    let t = octets::skip(s, at, e, Class::Blank);
+    if ignored(s, t, e) {
+        return Step::Skip;
+    }
+    if have {
+        let f = field_verdict(s, at, t, e);
+        return field_step(s, f, last, names, ends, n);
+    }
+    let h = header_verdict(s, at, t, e);
+    match h {
+        HeaderVerdict::BadHeader(k) => Step::Refuse(k),
+        HeaderVerdict::GoodHeader(x) => Step::Head(x),
+    }
+}
+
+// A blank line, or one whose first nonblank, at t, is `#`.
+fn ignored(s: &[u8], t: usize, e: usize) -> bool
+    requires { ⌜ (t ≤ e) × (e ≤ length (now s)) ⌝ }
+    ensures { λ r. ⌜ r ≡ Rattle.format.specs.Judge.ignored (slice t e (now (s .entry))) ⌝ }
+{
+    if t < e {
+        return s[t] == 35;
+    }
+    true
+}
+
+// A field's line after the n fields before it.
+fn field_step(s: &[u8], f: FieldVerdict, last: bool, names: &[u16], ends: &[u16], n: usize) -> Step
+    requires { ⌜ VerdictWithin (now s) f × (n ≤ length (now names)) × (n ≤ length (now ends)) ⌝ }
+    ensures { λ r. ⌜ Fits n r × ((d : Description) → Stands (now (s .entry)) d last (now (names .entry)) (now (ends .entry)) n
+        → stepOf (now (s .entry)) (afterHeader d) r ≡ fieldVerdict (now (s .entry)) d f) ⌝ }
+{
+    match f {
+        FieldVerdict::BadField(k) => Step::Refuse(k),
+        FieldVerdict::GoodField(x) => {
+            if last {
+                return Step::Refuse(4);
+            }
+            let a = x.name_at as usize;
+            let e = x.name_end as usize;
+            if name_again(s, names, ends, n, a, e) {
+                return Step::Refuse(4);
+            }
+            if 64 <= n {
+                return Step::Refuse(5);
+            }
+            Step::Add(x)
+        }
+    }
+}
+
+// The outline of a refused stanza.
+fn rejected(number: u8, line: u16) -> Outline
+    ensures { λ r. ⌜ (r .number ≡ number) × (r .line ≡ line) ⌝ }
+{
+    let h = HeaderDesc { name_at: 0, name_end: 0, number: 0, text_at: 0, text_end: 0 };
+    let f = FieldDesc { form: Form::Rrtype, qualifiers_at: 0, qualifiers_end: 0, text_at: 0, text_end: 0 };
+    Outline { number: number, line: line, header: h, fields: [f; 64], names: [0u16; 64], ends: [0u16; 64], count: 0 }
+}
+
+// The judged stanza.
+pub fn outline(s: &[u8]) -> Outline
+    ensures { λ r. ⌜ outlineOf (now (s .entry)) r ≡ judged (now (s .entry)) ⌝ }
+{
+    if 8192 < s.len() {
+        return rejected(1, 0);
+    }
+    let mut header = HeaderDesc { name_at: 0, name_end: 0, number: 0, text_at: 0, text_end: 0 };
+    let nothing = FieldDesc { form: Form::Rrtype, qualifiers_at: 0, qualifiers_end: 0, text_at: 0, text_end: 0 };
+    let mut fields = [nothing; 64];
+    let mut names = [0u16; 64];
+    let mut ends = [0u16; 64];
+    let mut n = 0;
+    let mut have = false;
+    let mut last = false;
+    let mut at = 0;
+    let mut line: u16 = 1;
+    while at < s.len() {
+        let e = octets::skip(s, at, s.len(), Class::NotNewline);
+        let step = line_step(s, at, e, have, last, &names, &ends, n);
+        match step {
+            Step::Skip => {
+                at = e + 1;
+                line = line + 1;
+            }
+            Step::Refuse(k) => {
+                return rejected(k, line);
+            }
+            Step::Head(h) => {
+                header = h;
+                have = true;
+                at = e + 1;
+                line = line + 1;
+            }
+            Step::Add(x) => {
+                let f = x.field;
+                let form = f.form;
+                fields[n] = f;
+                names[n] = x.name_at;
+                ends[n] = x.name_end;
+                last = is_tail(form);
+                n = n + 1;
+                at = e + 1;
+                line = line + 1;
+            }
+        }
+    }
+    if n == 0 {
+        return rejected(2, 0);
+    }
+    Outline { number: 0, line: 0, header: header, fields: fields, names: names, ends: ends, count: n }
 }
