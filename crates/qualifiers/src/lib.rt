@@ -1,13 +1,18 @@
 // The qualifiers of a field line: their grammar, and what is asked of them.
-ghost use Prim.Native.Nat.{_≤_, _<_};
+ghost use Prim.Native.Nat.{_≤_};
 ghost use lib.ListN.{length};
+ghost use lib.Dec.{leb};
 ghost use lib.Seq.{slice};
 ghost use mathlib.Core.Path.{_≡_};
-ghost use Rattle.format.specs.Octets.{sameOctets};
-ghost use Rattle.format.specs.Grammar.{isName, qualifier};
+ghost use mathlib.Core.Bool.{cond, _&&_};
+ghost use mathlib.Core.List.{[], _∷_};
+ghost use mathlib.Core.Option.{none, some};
+ghost use Rattle.format.specs.Lists.{anyOf};
+ghost use Rattle.format.specs.Octets.{lowered};
+ghost use Rattle.format.specs.Grammar.{word, symbol, startsWithLetter, isName, qualifier};
 ghost use Rattle.format.specs.Types.{knownWord, hasWord};
 ghost use Rattle.octets.specs.Octets.{partIn};
-ghost use Rattle.qualifiers.specs.Qualifiers.{foundIn, wordsFor, holdsOf, anyIn, sameBy, twiceIn};
+ghost use Rattle.qualifiers.specs.Qualifiers.{foundIn, wordsFor, holdsOf, anyIn, sameBy, twiceIn, piecesIn, nameIn};
 
 // A qualifier: none by the grammar; a word; or a symbol, with the end of its name and its number.
 pub enum Found {
@@ -34,32 +39,277 @@ pub enum Test {
     IsWord(u8),
 }
 
+// A letter first, and 63 octets at most.
+fn begins_name(s: &[u8], a: usize, e: usize) -> bool
+    requires { ⌜ (a ≤ e) × (e ≤ length (now s)) ⌝ }
+    ensures { λ r. ⌜ r ≡ startsWithLetter (slice a e (now (s .entry))) && leb (length (slice a e (now (s .entry)))) 63 ⌝ }
+{
+    if a < e {
+        if octets::is_in(octets::Class::Letter, s[a]) {
+            return e - a <= 63;
+        }
+        return false;
+    }
+    false
+}
+
 // A letter, then letters, digits and hyphens, 63 octets at most.
-// pub fn is_name(s: &[u8], a: usize, e: usize) -> bool
-//     requires { ⌜ (a ≤ e) × (e ≤ length (now s)) ⌝ }
-//     ensures { λ r. ⌜ r ≡ isName (slice a e (now (s .entry))) ⌝ }
+pub fn is_name(s: &[u8], a: usize, e: usize) -> bool
+    requires { ⌜ (a ≤ e) × (e ≤ length (now s)) ⌝ }
+    ensures { λ r. ⌜ r ≡ isName (slice a e (now (s .entry))) ⌝ }
+{
+    let n = octets::skip(s, a, e, octets::Class::NameOctet);
+    if n == e {
+        return begins_name(s, a, e);
+    }
+    false
+}
 
 // The qualifier from a to z.
-// pub fn find(s: &[u8], a: usize, z: usize) -> Found
-//     requires { ⌜ (a ≤ z) × (z ≤ length (now s)) ⌝ }
-//     ensures { λ r. ⌜ foundIn (now (s .entry)) a z r ≡ qualifier (partIn (now (s .entry)) a z) ⌝ }
+pub fn find(s: &[u8], a: usize, z: usize) -> Found
+    requires { ⌜ (a ≤ z) × (z ≤ length (now s)) ⌝ }
+    ensures { λ r. ⌜ foundIn (now (s .entry)) a z r ≡ qualifier (partIn (now (s .entry)) a z) ⌝ }
+{
+    let n = octets::skip(s, a, z, octets::Class::NameOctet);
+    if begins_name(s, a, n) {
+        if n == z {
+            return Found::Word;
+        }
+        if s[n] == 61 {
+            let d = octets::decimal(s, n + 1, z);
+            match d {
+                octets::Number::Value(v) => {
+                    return Found::Numbered(n, v);
+                }
+                octets::Number::Fault => {
+                    return Found::Bad;
+                }
+            }
+        }
+        return Found::Bad;
+    }
+    Found::Bad
+}
+
+// A letter that is a word of some type.
+fn known_letter(x: u8) -> bool
+    ensures { λ r. ⌜ r ≡ knownWord (x ∷ []) ⌝ }
+{
+    if x == 76 {
+        return true;
+    }
+    if x == 67 {
+        return true;
+    }
+    if x == 65 {
+        return true;
+    }
+    if x == 79 {
+        return true;
+    }
+    if x == 77 {
+        return true;
+    }
+    x == 88
+}
+
+// A letter that is a word of a type.
+fn takes_letter(t: Words, x: u8) -> bool
+    ensures { λ r. ⌜ r ≡ hasWord (wordsFor t) (x ∷ []) ⌝ }
+{
+    match t {
+        Words::Nothing => false,
+        Words::OnR => x == 76,
+        Words::OnN => {
+            if x == 67 {
+                return true;
+            }
+            if x == 65 {
+                return true;
+            }
+            if x == 76 {
+                return true;
+            }
+            x == 79
+        }
+        Words::OnS => {
+            if x == 77 {
+                return true;
+            }
+            x == 88
+        }
+        Words::OnX => x == 67,
+    }
+}
+
+// Whether a test holds of a text that is no qualifier.
+fn holds_bad(t: Test) -> bool
+    ensures { λ r. ⌜ r ≡ holdsOf t none ⌝ }
+{
+    match t {
+        Test::Malformed => true,
+        Test::Unknown => false,
+        Test::NotSymbol(limit) => true,
+        Test::NotWord(w) => true,
+        Test::IsWord(x) => false,
+    }
+}
+
+// Whether a test holds of a symbol with a number.
+fn holds_symbol(t: Test, v: u64) -> bool
+    ensures { λ r. ⌜ r ≡ holdsOf t (some (symbol (record { spelling = partIn [] 0 0; value = v }))) ⌝ }
+{
+    match t {
+        Test::Malformed => false,
+        Test::Unknown => false,
+        Test::NotSymbol(limit) => limit <= v,
+        Test::NotWord(w) => true,
+        Test::IsWord(x) => false,
+    }
+}
+
+// Whether a test holds of a word of one letter.
+fn holds_letter(t: Test, x: u8) -> bool
+    ensures { λ r. ⌜ r ≡ holdsOf t (some (word (x ∷ []))) ⌝ }
+{
+    match t {
+        Test::Malformed => false,
+        Test::Unknown => {
+            if known_letter(x) {
+                return false;
+            }
+            true
+        }
+        Test::NotSymbol(limit) => true,
+        Test::NotWord(w) => {
+            if takes_letter(w, x) {
+                return false;
+            }
+            true
+        }
+        Test::IsWord(y) => y == x,
+    }
+}
+
+// Whether a test holds of a word of more letters, which no type takes.
+fn holds_long(t: Test) -> bool
+    ensures { λ r. ⌜ r ≡ holdsOf t (some (word [])) ⌝ }
+{
+    match t {
+        Test::Malformed => false,
+        Test::Unknown => true,
+        Test::NotSymbol(limit) => true,
+        Test::NotWord(w) => true,
+        Test::IsWord(x) => false,
+    }
+}
 
 // Whether a test holds of the qualifier from a to z.
-// fn holds(t: Test, s: &[u8], a: usize, z: usize) -> bool
-//     requires { ⌜ (a ≤ z) × (z ≤ length (now s)) ⌝ }
-//     ensures { λ r. ⌜ r ≡ holdsOf t (qualifier (partIn (now (s .entry)) a z)) ⌝ }
+fn holds(t: Test, s: &[u8], a: usize, z: usize) -> bool
+    requires { ⌜ (a ≤ z) × (z ≤ length (now s)) ⌝ }
+    ensures { λ r. ⌜ r ≡ holdsOf t (qualifier (partIn (now (s .entry)) a z)) ⌝ }
+{
+    let q = find(s, a, z);
+    match q {
+        Found::Bad => holds_bad(t),
+        Found::Word => {
+            if z - a == 1 {
+                return holds_letter(t, s[a]);
+            }
+            holds_long(t)
+        }
+        Found::Numbered(e, v) => holds_symbol(t, v),
+    }
+}
 
 // Whether a test holds of some qualifier between a and b.
-// pub fn any(t: Test, s: &[u8], a: usize, b: usize) -> bool
-//     requires { ⌜ (a ≤ b) × (b ≤ length (now s)) ⌝ }
-//     ensures { λ r. ⌜ r ≡ anyIn t (now (s .entry)) a b ⌝ }
+pub fn any(t: Test, s: &[u8], a: usize, b: usize) -> bool
+    requires { ⌜ (a ≤ b) × (b ≤ length (now s)) ⌝ }
+    ensures { λ r. ⌜ r ≡ anyIn t (now (s .entry)) a b ⌝ }
+{
+    let mut i = a;
+    loop {
+        let z = octets::skip(s, i, b, octets::Class::NotComma);
+        if holds(t, s, i, z) {
+            return true;
+        }
+        if z == b {
+            return false;
+        }
+        i = z + 1;
+    }
+}
+
+// An octet without the case of letters, or as it is.
+fn fold(ignoring: bool, b: u8) -> u8
+    ensures { λ r. ⌜ r ≡ cond ignoring (lowered b) b ⌝ }
+{
+    if ignoring {
+        if b < 65 {
+            return b;
+        }
+        if b <= 90 {
+            return b + 32;
+        }
+        return b;
+    }
+    b
+}
 
 // Whether the texts from a to e and from b to f are the same, ignoring the case of letters or not.
-// pub fn same(ignoring: bool, s: &[u8], a: usize, e: usize, b: usize, f: usize) -> bool
-//     requires { ⌜ (a ≤ e) × (e ≤ length (now s)) × (b ≤ f) × (f ≤ length (now s)) ⌝ }
-//     ensures { λ r. ⌜ r ≡ sameBy ignoring (slice a e (now (s .entry))) (slice b f (now (s .entry))) ⌝ }
+pub fn same(ignoring: bool, s: &[u8], a: usize, e: usize, b: usize, f: usize) -> bool
+    requires { ⌜ (a ≤ e) × (e ≤ length (now s)) × (b ≤ f) × (f ≤ length (now s)) ⌝ }
+    ensures { λ r. ⌜ r ≡ sameBy ignoring (slice a e (now (s .entry))) (slice b f (now (s .entry))) ⌝ }
+{
+    if e - a != f - b {
+        return false;
+    }
+    let mut i = a;
+    let mut j = b;
+    while i < e {
+        if fold(ignoring, s[i]) != fold(ignoring, s[j]) {
+            return false;
+        }
+        i = i + 1;
+        j = j + 1;
+    }
+    true
+}
+
+// Whether the name from a to n is the name of some qualifier between h and b.
+fn later(ignoring: bool, s: &[u8], a: usize, n: usize, h: usize, b: usize) -> bool
+    requires { ⌜ (a ≤ n) × (n ≤ length (now s)) × (h ≤ b) × (b ≤ length (now s)) ⌝ }
+    ensures { λ r. ⌜ r ≡ anyOf (λ p. sameBy ignoring (slice a n (now (s .entry))) (nameIn p)) (piecesIn (now (s .entry)) h b) ⌝ }
+{
+    let mut i = h;
+    loop {
+        let z = octets::skip(s, i, b, octets::Class::NotComma);
+        let m = octets::skip(s, i, z, octets::Class::NameOctet);
+        if same(ignoring, s, a, n, i, m) {
+            return true;
+        }
+        if z == b {
+            return false;
+        }
+        i = z + 1;
+    }
+}
 
 // Whether some two qualifiers between a and b have the same name.
-// pub fn twice(ignoring: bool, s: &[u8], a: usize, b: usize) -> bool
-//     requires { ⌜ (a ≤ b) × (b ≤ length (now s)) ⌝ }
-//     ensures { λ r. ⌜ r ≡ twiceIn ignoring (now (s .entry)) a b ⌝ }
+pub fn twice(ignoring: bool, s: &[u8], a: usize, b: usize) -> bool
+    requires { ⌜ (a ≤ b) × (b ≤ length (now s)) ⌝ }
+    ensures { λ r. ⌜ r ≡ twiceIn ignoring (now (s .entry)) a b ⌝ }
+{
+    let mut i = a;
+    loop {
+        let z = octets::skip(s, i, b, octets::Class::NotComma);
+        if z == b {
+            return false;
+        }
+        let n = octets::skip(s, i, z, octets::Class::NameOctet);
+        if later(ignoring, s, i, n, z + 1, b) {
+            return true;
+        }
+        i = z + 1;
+    }
+}

@@ -1,0 +1,307 @@
+-- Laws of names, of texts that are the same, and of the pieces between commas.
+use Prim.Native.Nat.{ℕ, zero, suc, _+_, _-_, _≤_, _<_}
+use Prim.Native.Char.{code}
+use mathlib.Core.Path.{_≡_, refl, sym, ap, _∙_}
+use mathlib.Core.Bool.{Bool, true, false, not, cond, _&&_, _||_, and-false}
+use mathlib.Core.List.{List, [], _∷_, map}
+use mathlib.Core.Option.{Option, none, some}
+use native.Mathlib.Omega.{arith}
+use lib.ListN.{length, take, drop, getD, length-take}
+use lib.Seq.{slice, take-take, take-nil, length-slice}
+use lib.Dec.{eqb, leb, ltb, eqb·zero-suc, eqb·suc-suc}
+use borrow.Author.Tests.{eq-eqb, ne-eqb, lt-leb, le-leb, ltb-true, ltb-false}
+use Rattle.format.specs.Lists.{_>>=_, provided, eachOf, anyOf, allOf, twice, consFirst, parting, split, Spanned, spanning, span}
+use Rattle.format.specs.Octets.{letter, nameOctet, lowered, sameOctets, sameWord}
+use Rattle.format.specs.Number.{decimalOf}
+use Rattle.format.specs.Field.{Part, Symbol}
+use Rattle.format.specs.Lines.{placed}
+use Rattle.format.specs.Grammar.{Qualifier, word, symbol, startsWithLetter, isName, after, ifQualifier, qualifier}
+use Rattle.format.specs.Types.{knownWord, hasWord}
+use Rattle.octets.specs.Octets.{partIn, numberOf}
+use Rattle.octets.specs.declared.Number.the-variants.{Value, Fault}
+use Rattle.octets.proofs.Slices.{next, none as nothing, rest, frontEnd, front-rest, front-within, span-front, span-length}
+use Rattle.qualifiers.specs.Qualifiers.{piecesIn, wordsFor, holdsOf, sameBy, nameIn, twiceIn}
+use Rattle.qualifiers.specs.declared.Test.{Test}
+use Rattle.qualifiers.specs.declared.Test.the-variants.{Malformed, Unknown, NotSymbol, NotWord, IsWord}
+use Rattle.qualifiers.specs.declared.Words.{Words}
+use Rattle.qualifiers.specs.declared.Words.the-variants.{Nothing, OnR, OnN, OnS, OnX}
+
+-- a part of a part
+take-drop : (i k : ℕ) (xs : List ℕ) → take k (drop i xs) ≡ drop i (take (i + k) xs)
+take-drop zero k xs = let q : k ≡ 0 + k = omega arith in ap (λ n. take n xs) q
+take-drop (suc i) k [] = rw (take-nil k, take-nil (suc i + k))
+take-drop (suc i) k (x ∷ xs) = let q : suc (i + k) ≡ suc i + k = omega arith in take-drop i k xs ∙ ap (λ n. drop (suc i) (take n (x ∷ xs))) q
+
+pub part : (s : List ℕ) (i k e : ℕ) → i + k ≤ e → take k (slice i e s) ≡ slice i (i + k) s
+part s i k e h = take-drop i k (take e s) ∙ ap (drop i) (take-take (i + k) e s h)
+
+-- the front that passes is the part up to its end
+module _ (f : ℕ → Bool) where
+  pub front : (s : List ℕ) (i e : ℕ) → i ≤ e → e ≤ length s → span f (slice i e s) .front ≡ slice i (frontEnd f s i e) s
+  front s i e h l = sym (span-front f (slice i e s)) ∙ part s i (length (span f (slice i e s) .front)) e (front-within f s i e h l)
+
+  all-front : (xs : List ℕ) → allOf f (span f xs .front) ≡ true
+  all-front [] = refl
+  all-front (x ∷ xs) = by (f x) refl (all-front xs)
+    where
+      by : (b : Bool) → f x ≡ b → allOf f (span f xs .front) ≡ true → allOf f (spanning b x xs (span f xs) .front) ≡ true
+      by true h ih = rw (h, ih)
+      by false h ih = refl
+
+  all-length : (xs : List ℕ) → allOf f xs ≡ eqb (length (span f xs .front)) (length xs)
+  all-length [] = refl
+  all-length (x ∷ xs) = by (f x) (all-length xs)
+    where
+      by : (b : Bool) → allOf f xs ≡ eqb (length (span f xs .front)) (length xs)
+          → b && allOf f xs ≡ eqb (length (spanning b x xs (span f xs) .front)) (suc (length xs))
+      by true ih = rw (eqb·suc-suc) ih
+      by false ih = rw (eqb·zero-suc)
+
+  -- every octet of a part passes where the front ends with it
+  pub all-passed : (s : List ℕ) (i e : ℕ) → i ≤ e → e ≤ length s → frontEnd f s i e ≡ e → allOf f (slice i e s) ≡ true
+  all-passed s i e h l q = all-length (slice i e s) ∙ eq-eqb (length (span f (slice i e s) .front)) (length (slice i e s)) (omega (arith, length-slice i e s l))
+
+  pub not-passed : (s : List ℕ) (i e : ℕ) → i ≤ e → e ≤ length s → (frontEnd f s i e ≡ e → ⊥) → allOf f (slice i e s) ≡ false
+  not-passed s i e h l q = all-length (slice i e s) ∙ ne-eqb (length (span f (slice i e s) .front)) (length (slice i e s)) (λ m. q (omega (arith, length-slice i e s l)))
+
+  pub all-passes : (s : List ℕ) (i e : ℕ) → i ≤ e → e ≤ length s → allOf f (slice i (frontEnd f s i e) s) ≡ true
+  all-passes s i e h l = rw (← front s i e h l) (all-front (slice i e s))
+
+-- texts that are the same
+same-next : (g : Bool) (x y : ℕ) (xs ys : List ℕ) → sameBy g (x ∷ xs) (y ∷ ys) ≡ eqb (cond g (lowered x) x) (cond g (lowered y) y) && sameBy g xs ys
+same-next true x y xs ys = refl
+same-next false x y xs ys = refl
+
+pub same-none : (g : Bool) → sameBy g [] [] ≡ true
+same-none true = refl
+same-none false = refl
+
+pub same-length : (g : Bool) (xs ys : List ℕ) → (length xs ≡ length ys → ⊥) → sameBy g xs ys ≡ false
+same-length g [] [] h = absurd (h refl)
+same-length true [] (y ∷ ys) h = refl
+same-length false [] (y ∷ ys) h = refl
+same-length true (x ∷ xs) [] h = refl
+same-length false (x ∷ xs) [] h = refl
+same-length g (x ∷ xs) (y ∷ ys) h =
+    same-next g x y xs ys ∙ by (eqb (cond g (lowered x) x) (cond g (lowered y) y)) (same-length g xs ys (λ m. h (ap suc m)))
+  where
+    by : (b : Bool) → sameBy g xs ys ≡ false → b && sameBy g xs ys ≡ false
+    by true e = e
+    by false e = refl
+
+-- one octet of each, and the rest
+module _ (g : Bool) (s : List ℕ) (i e j f x y : ℕ) (h : i < e) (l : e ≤ length s) (k : j < f) (m : f ≤ length s)
+    (p : x ≡ cond g (lowered (getD s i 0)) (getD s i 0)) (q : y ≡ cond g (lowered (getD s j 0)) (getD s j 0)) where
+  same-one : sameBy g (slice i e s) (slice j f s) ≡ eqb x y && sameBy g (slice (i + 1) e s) (slice (j + 1) f s)
+  same-one = rw (next s i e h l, next s j f k m, p, q) (same-next g (getD s i 0) (getD s j 0) (slice (i + 1) e s) (slice (j + 1) f s))
+
+  pub same-on : x ≡ y → sameBy g (slice (i + 1) e s) (slice (j + 1) f s) ≡ sameBy g (slice i e s) (slice j f s)
+  same-on r = rw (same-one, eq-eqb x y r)
+
+  pub same-off : (x ≡ y → ⊥) → false ≡ sameBy g (slice i e s) (slice j f s)
+  same-off r = rw (same-one, ne-eqb x y r)
+
+pub same-end : (g : Bool) (s : List ℕ) (i e j f : ℕ) → e ≤ i → f ≤ j → true ≡ sameBy g (slice i e s) (slice j f s)
+same-end g s i e j f h k = rw (nothing s i e h, nothing s j f k, same-none g)
+
+pub same-lengths : (g : Bool) (s : List ℕ) (a e b f : ℕ) → e ≤ length s → f ≤ length s → (e - a ≡ f - b → ⊥) → false ≡ sameBy g (slice a e s) (slice b f s)
+same-lengths g s a e b f l m h =
+    sym (same-length g (slice a e s) (slice b f s) (λ q. h (omega (arith, length-slice a e s l, length-slice b f s m))))
+
+-- the qualifier of a part that begins with a name, and of one that does not
+abbrev pub begins : List ℕ → Bool
+begins t = startsWithLetter t && leb (length t) 63
+
+module _ (a : ℕ) where
+  cut : (b : Bool) (w : Spanned) → (provided b w >>= ifQualifier a) ≡ cond b (ifQualifier a w) none
+  cut true w = refl
+  cut false w = refl
+
+passed : (b c : Bool) → b && true && c ≡ b && c
+passed true c = refl
+passed false c = refl
+
+module _ (s : List ℕ) (a z n : ℕ) (h : a ≤ z) (l : z ≤ length s) (q : n ≡ frontEnd nameOctet s a z) where
+  pub front-in : (a ≤ n) × (n ≤ z)
+  front-in = (omega arith, omega (arith, front-within nameOctet s a z h l))
+
+  pub is-name : isName (slice a n s) ≡ begins (slice a n s)
+  is-name = rw (q, all-passes nameOctet s a z h l) (passed (startsWithLetter (slice a (frontEnd nameOctet s a z) s)) _)
+
+  spanned : span nameOctet (slice a z s) ≡ record { front = slice a n s; rest = slice n z s }
+  spanned = rw (q, front-rest nameOctet s a z, ← front nameOctet s a z h l)
+
+  pub named : qualifier (partIn s a z) ≡ cond (begins (slice a n s)) (ifQualifier a (record { front = slice a n s; rest = slice n z s })) none
+  named =
+      ap (λ w. provided (isName (w .front)) w >>= ifQualifier a) spanned ∙ cut a (isName (slice a n s)) (record { front = slice a n s; rest = slice n z s })
+      ∙ ap (λ b. cond b (ifQualifier a (record { front = slice a n s; rest = slice n z s })) none) is-name
+
+  pub found-bad : begins (slice a n s) ≡ false → none ≡ qualifier (partIn s a z)
+  found-bad b = rw (named, b)
+
+  module _ (b : begins (slice a n s) ≡ true) where
+    pub found-word : n ≡ z → some (word (slice a z s)) ≡ qualifier (partIn s a z)
+    found-word e = rw (named, b, nothing s n z (omega arith), e)
+
+    after-name : n < z → qualifier (partIn s a z) ≡ (provided (eqb (getD s n 0) 61) (slice (n + 1) z s) >>= λ ds. decimalOf ds >>= λ v. some (symbol (record { spelling = partIn s a n; value = v })))
+    after-name e = rw (named, b, next s n z e l)
+
+    pub found-other : n < z → (getD s n 0 ≡ 61 → ⊥) → none ≡ qualifier (partIn s a z)
+    found-other e o = rw (after-name e, ne-eqb (getD s n 0) 61 o)
+
+    pub found-fault : n < z → getD s n 0 ≡ 61 → decimalOf (slice (n + 1) z s) ≡ none → none ≡ qualifier (partIn s a z)
+    found-fault e o d = rw (after-name e, eq-eqb (getD s n 0) 61 o, d)
+
+    pub found-number : (v : ℕ) → n < z → getD s n 0 ≡ 61 → decimalOf (slice (n + 1) z s) ≡ some v → some (symbol (record { spelling = partIn s a n; value = v })) ≡ qualifier (partIn s a z)
+    found-number v e o d = rw (after-name e, eq-eqb (getD s n 0) 61 o, d)
+
+pub number-none : (o : Option ℕ) → numberOf o ≡ Fault → o ≡ none
+number-none none h = refl
+number-none (some v) h = cc
+
+pub number-some : (o : Option ℕ) (v : ℕ) → numberOf o ≡ Value v → o ≡ some v
+number-some none v h = cc
+number-some (some w) v h = cc
+
+-- names
+pub begins-next : (s : List ℕ) (a e : ℕ) → a < e → e ≤ length s → begins (slice a e s) ≡ letter (getD s a 0) && leb (e - a) 63
+begins-next s a e h l = ap (λ n. startsWithLetter (slice a e s) && leb n 63) (length-slice a e s l) ∙ rw (next s a e h l)
+
+pub not-name : (s : List ℕ) (a e n : ℕ) → a ≤ e → e ≤ length s → n ≡ frontEnd nameOctet s a e → (n ≡ e → ⊥) → false ≡ isName (slice a e s)
+not-name s a e n h l q r = rw (not-passed nameOctet s a e h l (λ m. r (q ∙ m))) (by (startsWithLetter (slice a e s)) _)
+  where
+    by : (b c : Bool) → false ≡ b && false && c
+    by true c = refl
+    by false c = refl
+
+-- tests
+pub last-word : (b : Bool) → b ≡ b && true || false
+last-word true = refl
+last-word false = refl
+
+pub leb-ltb : (a b : ℕ) → leb a b ≡ not (ltb b a)
+leb-ltb a b = by (ltb b a) refl
+  where
+    by : (t : Bool) → ltb b a ≡ t → leb a b ≡ not t
+    by true e = lt-leb a b (ltb-true b a e)
+    by false e = le-leb a b (ltb-false b a e)
+
+-- words: no type takes one that is not one letter
+pub letter-word : (s : List ℕ) (a z : ℕ) → a ≤ z → z ≤ length s → z - a ≡ 1 → slice a z s ≡ getD s a 0 ∷ []
+letter-word s a z h l q = rw (next s a z (omega arith) l, nothing s (a + 1) z (omega arith))
+
+long : (w : List ℕ) (x : ℕ) → (length w ≡ 1 → ⊥) → sameOctets w (x ∷ []) ≡ false
+long [] x h = refl
+long (y ∷ []) x h = absurd (h refl)
+long (y ∷ z ∷ w) x h = simp and-false
+
+long-known : (w : List ℕ) → (length w ≡ 1 → ⊥) → knownWord w ≡ false
+long-known w h = rw (long w (code "L") h, long w (code "C") h, long w (code "A") h, long w (code "O") h, long w (code "M") h, long w (code "X") h)
+
+long-taken : (t : Words) (w : List ℕ) → (length w ≡ 1 → ⊥) → hasWord (wordsFor t) w ≡ false
+long-taken Nothing w h = refl
+long-taken OnR w h = rw (long w (code "L") h)
+long-taken OnN w h = rw (long w (code "C") h, long w (code "A") h, long w (code "L") h, long w (code "O") h)
+long-taken OnS w h = rw (long w (code "M") h, long w (code "X") h)
+long-taken OnX w h = rw (long w (code "C") h)
+
+pub none-taken : (t : Words) → hasWord (wordsFor t) [] ≡ false
+none-taken t = long-taken t [] (λ e. omega arith)
+
+pub long-word : (t : Test) (w : List ℕ) → (length w ≡ 1 → ⊥) → holdsOf t (some (word [])) ≡ holdsOf t (some (word w))
+long-word Malformed w h = refl
+long-word Unknown w h = rw (long-known w h)
+long-word (NotSymbol limit) w h = refl
+long-word (NotWord t) w h = rw (long-taken t w h, none-taken t)
+long-word (IsWord x) [] h = refl
+long-word (IsWord x) (y ∷ []) h = absurd (h refl)
+long-word (IsWord x) (y ∷ z ∷ w) h = simp and-false
+
+-- a test looks at a symbol's number only
+pub any-symbol : (t : Test) (p q : Part) (v : ℕ) → holdsOf t (some (symbol (record { spelling = p; value = v }))) ≡ holdsOf t (some (symbol (record { spelling = q; value = v })))
+any-symbol Malformed p q v = refl
+any-symbol Unknown p q v = refl
+any-symbol (NotSymbol limit) p q v = refl
+any-symbol (NotWord w) p q v = refl
+any-symbol (IsWord x) p q v = refl
+
+-- the pieces between commas: the first, and those after it
+module _ (c : ℕ) where
+  abbrev apart : ℕ → Bool
+  apart x = not (eqb x c)
+
+  abbrev more : List ℕ → List ℕ → List (List ℕ)
+  more t [] = t ∷ []
+  more t (y ∷ ys) = t ∷ split (λ x. eqb x c) ys
+
+  first-more : (x : ℕ) (t r : List ℕ) → consFirst x (more t r) ≡ more (x ∷ t) r
+  first-more x t [] = refl
+  first-more x t (y ∷ ys) = refl
+
+  split-span : (xs : List ℕ) → split (λ x. eqb x c) xs ≡ more (span apart xs .front) (span apart xs .rest)
+  split-span [] = refl
+  split-span (x ∷ xs) = by (eqb x c) (split-span xs)
+    where
+      by : (b : Bool) → split (λ x. eqb x c) xs ≡ more (span apart xs .front) (span apart xs .rest)
+          → parting b x (split (λ x. eqb x c) xs) ≡ more (spanning (not b) x xs (span apart xs) .front) (spanning (not b) x xs (span apart xs) .rest)
+      by true ih = refl
+      by false ih = rw (ih) (first-more x (span apart xs .front) (span apart xs .rest))
+
+abbrev pub notComma : ℕ → Bool
+notComma x = not (eqb x (code ","))
+
+module _ (s : List ℕ) (i b z : ℕ) (h : i ≤ b) (l : b ≤ length s) (q : z ≡ frontEnd notComma s i b) where
+  pub within : (i ≤ z) × (z ≤ b)
+  within = (omega arith, omega (arith, front-within notComma s i b h l))
+
+  pieces : piecesIn s i b ≡ placed i (more (code ",") (slice i z s) (slice z b s))
+  pieces = rw (q, split-span (code ",") (slice i b s), front-rest notComma s i b, ← front notComma s i b h l)
+
+  pub last-piece : z ≡ b → piecesIn s i b ≡ partIn s i z ∷ []
+  last-piece e = rw (pieces, nothing s z b (omega arith))
+
+  pub next-piece : (z ≡ b → ⊥) → piecesIn s i b ≡ partIn s i z ∷ piecesIn s (z + 1) b
+  next-piece e =
+      let m : i + length (slice i z s) ≡ z = omega (arith, length-slice i z s (omega (arith, within)), within) in
+      rw (pieces, next s z b (omega (arith, within)) l, m)
+
+  module _ (f : Part → Bool) where
+    pub any-found : f (partIn s i z) ≡ true → anyOf f (piecesIn s i b) ≡ true
+    any-found e = rw pieces (by (slice z b s))
+      where
+        by : (r : List ℕ) → anyOf f (placed i (more (code ",") (slice i z s) r)) ≡ true
+        by [] = rw e
+        by (y ∷ ys) = rw e
+
+    pub any-last : z ≡ b → f (partIn s i z) ≡ false → anyOf f (piecesIn s i b) ≡ false
+    any-last m e = rw (last-piece m, e)
+
+    pub any-next : (z ≡ b → ⊥) → f (partIn s i z) ≡ false → anyOf f (piecesIn s (z + 1) b) ≡ anyOf f (piecesIn s i b)
+    any-next m e = rw (next-piece m, e)
+
+  pub name-within : (n : ℕ) → n ≡ frontEnd nameOctet s i z → (i ≤ n) × (n ≤ z)
+  name-within n e = (omega arith, omega (arith, front-within nameOctet s i z (within .0) (omega (arith, within))))
+
+  pub name-in : (n : ℕ) → n ≡ frontEnd nameOctet s i z → nameIn (partIn s i z) ≡ slice i n s
+  name-in n e = rw e (front nameOctet s i z (within .0) (omega (arith, within)))
+
+  module _ (g : Bool) (n : ℕ) (e : n ≡ frontEnd nameOctet s i z) where
+    pub same-name : (t : List ℕ) (r : Bool) → r ≡ sameBy g t (slice i n s) → sameBy g t (nameIn (partIn s i z)) ≡ r
+    same-name t r d = rw (name-in n e) (sym d)
+
+    twice-next : (z ≡ b → ⊥) → twiceIn g s i b ≡ anyOf (λ p. sameBy g (slice i n s) (nameIn p)) (piecesIn s (z + 1) b) || twiceIn g s (z + 1) b
+    twice-next m = rw (next-piece m, ← name-in n e) (ap (λ d. d || twiceIn g s (z + 1) b) (any-map (piecesIn s (z + 1) b)))
+      where
+        any-map : (ps : List Part) → anyOf (sameBy g (nameIn (partIn s i z))) (map nameIn ps) ≡ anyOf (λ p. sameBy g (nameIn (partIn s i z)) (nameIn p)) ps
+        any-map [] = refl
+        any-map (p ∷ ps) = rw (any-map ps)
+
+    module _ (m : z ≡ b → ⊥) (r : Bool) (d : r ≡ anyOf (λ p. sameBy g (slice i n s) (nameIn p)) (piecesIn s (z + 1) b)) where
+      pub twice-found : r ≡ true → true ≡ twiceIn g s i b
+      twice-found t = rw (twice-next m, ← d, t)
+
+      pub twice-on : r ≡ false → twiceIn g s (z + 1) b ≡ twiceIn g s i b
+      twice-on t = rw (twice-next m, ← d, t)
+
+  pub twice-last : (g : Bool) → z ≡ b → false ≡ twiceIn g s i b
+  twice-last g m = rw (last-piece m)
