@@ -229,14 +229,14 @@ pub fn any(t: Test, s: &[u8], a: usize, b: usize) -> bool
 {
     let mut i = a;
     loop {
-        let z = octets::skip(s, i, b, octets::Class::NotComma);
-        if holds(t, s, i, z) {
+        let end = octets::skip(s, i, b, octets::Class::NotComma);
+        if holds(t, s, i, end) {
             return true;
         }
-        if z == b {
+        if end == b {
             return false;
         }
-        i = z + 1;
+        i = end + 1;
     }
 }
 

@@ -34,44 +34,6 @@ use Rattle.stanza.specs.declared.Step.{Step}
 use Rattle.stanza.specs.declared.Step.the-variants.{Skip, Refuse, Head, Add}
 use Rattle.stanza.specs.declared.Outline.{Outline}
 
--- the symbols of a form among the qualifiers from a to b
-abbrev pub orNone : Option (List Symbol) → List Symbol
-orNone none = []
-orNone (some l) = l
-
-abbrev pub kindIn : List ℕ → ℕ → ℕ → Form → Kind
-kindIn s a b f = kindOf (orNone (qualifiersIn s a b >>= eachOf (symbolOf (intWidth f)))) f
-
--- what a type and its qualifiers, from a to b, are; none: they break the grammar
-abbrev pub meantIn : List ℕ → ℕ → ℕ → Meant → Option Meaning
-meantIn s a b Malformed = none
-meantIn s a b Unknown = some unknown
-meantIn s a b Forbidden = some forbidden
-meantIn s a b (Means f) = some (means (kindIn s a b f))
-
--- what known qualifiers that a type allows come to, from a to b
-abbrev pub meaningBy : (List Qualifier → Option Kind) → List ℕ → ℕ → ℕ → Option Meaning
-meaningBy f s a b = eachOf qualifier (piecesIn s a b) >>= λ qs. some (cond (anyOf unknownWord qs) unknown (orForbidden (f qs)))
-
--- the types that take words
-abbrev pub listed : Words → Takes
-listed Nothing = words [] (λ given. none)
-listed OnR = words (ascii "L" ∷ []) (λ given. some (cond (null given) rrtype bitmap))
-listed OnN = words (ascii "C" ∷ ascii "A" ∷ ascii "L" ∷ ascii "O" ∷ []) (λ given. some (nameKind given))
-listed OnS = words (ascii "M" ∷ ascii "X" ∷ []) stringKind
-listed OnX = words (ascii "C" ∷ []) (λ given. some (cond (null given) hex hexc))
-
--- what their words make, each given once, and one at least
-abbrev pub nameForm : List ℕ → ℕ → ℕ → Form
-nameForm s a b = Name (anyIn (IsWord 67) s a b) (anyIn (IsWord 65) s a b) (anyIn (IsWord 76) s a b) (anyIn (IsWord 79) s a b)
-
-abbrev pub madeOf : List ℕ → ℕ → ℕ → Words → Meant
-madeOf s a b Nothing = Forbidden
-madeOf s a b OnR = Means Bitmap
-madeOf s a b OnN = Means (nameForm s a b)
-madeOf s a b OnS = cond (anyIn (IsWord 77) s a b) (cond (anyIn (IsWord 88) s a b) Forbidden (Means Strs)) (cond (anyIn (IsWord 88) s a b) (Means Raw) (Means Str))
-madeOf s a b OnX = Means Hexc
-
 abbrev pub headerOf : List ℕ → HeaderDesc → Header
 headerOf s h = record { typeName = partIn s (h .«name_at») (h .«name_end»); typeNo = h .number; headerText = partIn s (h .«text_at») (h .«text_end») }
 

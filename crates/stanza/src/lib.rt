@@ -11,28 +11,16 @@ ghost use mathlib.Core.Option.{none};
 ghost use Rattle.format.specs.Lists.{_>>=_};
 ghost use Rattle.format.specs.Field.{tail};
 ghost use Rattle.format.specs.Grammar.{headerLine, fieldLine};
-ghost use Rattle.format.specs.Types.{allowed, symbols, meaning, meaningOf};
 ghost use Rattle.format.specs.Judge.{Description, faulty, ofHeader, ofFieldLine, judged, lineVerdict};
 ghost use Rattle.octets.specs.Octets.{partIn};
-ghost use Rattle.qualifiers.specs.Qualifiers.{qualifiersIn};
-ghost use Rattle.types.specs.Types.{kindOf, takenBy};
-ghost use Rattle.stanza.specs.Stanza.{meantIn, meaningBy, listed, headerVerdict, fieldVerdict, namedFrom, nameForm, madeOf, progressOf, stepOf, outlineOf};
+ghost use Rattle.types.specs.Types.{kindOf};
+ghost use Rattle.stanza.specs.Stanza.{headerVerdict, fieldVerdict, sameText, namedFrom, progressOf, Stands, stepOf, Fits, VerdictWithin, outlineOf};
 use grammar::FieldShape;
 use grammar::HeaderLine;
 use grammar::Shape;
 use octets::Class;
-use qualifiers::Test;
-use qualifiers::Words;
-use types::FieldType;
 use types::Form;
-
-// What a type and its qualifiers are: against the grammar, not known, not allowed, or a kind of field.
-pub enum Meant {
-    Malformed,
-    Unknown,
-    Forbidden,
-    Means(Form),
-}
+use types::Meant;
 
 // The header: where its name lies, the type's number, and where the free text lies.
 pub struct HeaderDesc {
@@ -90,155 +78,6 @@ pub enum Step {
     Add(NewField),
 }
 
-// What qualifiers from a to b are that their type does not take.
-fn refused(s: &[u8], a: usize, b: usize) -> Meant
-    requires { ⌜ (a ≤ b) × (b ≤ length (now s)) ⌝ }
-    ensures { λ r. ⌜ meantIn (now (s .entry)) a b r ≡ meaningBy (λ qs. none) (now (s .entry)) a b ⌝ }
-{
-    if qualifiers::any(Test::Malformed, s, a, b) {
-        return Meant::Malformed;
-    }
-    if qualifiers::any(Test::Unknown, s, a, b) {
-        return Meant::Unknown;
-    }
-    Meant::Forbidden
-}
-
-// The first number that an integer of w octets cannot hold.
-fn limit(w: u8) -> u64
-    requires { ⌜ w ≤ 4 ⌝ }
-    ensures { λ r. ⌜ r ≡ 256 ^ w ⌝ }
-{
-    if w == 1 {
-        return 256;
-    }
-    if w == 2 {
-        return 65536;
-    }
-    if w == 3 {
-        return 16777216;
-    }
-    if w == 4 {
-        return 4294967296;
-    }
-    1
-}
-
-// An integer of w octets with the qualifiers from a to b.
-fn symbols_meant(s: &[u8], a: usize, b: usize, w: u8) -> Meant
-    requires { ⌜ (a < b) × (b ≤ length (now s)) × (w ≤ 4) ⌝ }
-    ensures { λ r. ⌜ meantIn (now (s .entry)) a b r ≡ meaningBy (allowed (symbols w)) (now (s .entry)) a b ⌝ }
-{
-    let m = limit(w);
-    if qualifiers::any(Test::NotSymbol(m), s, a, b) {
-        return refused(s, a, b);
-    }
-    if qualifiers::twice(true, s, a, b) {
-        return Meant::Forbidden;
-    }
-    Meant::Means(Form::Int(w))
-}
-
-// The form of a name with the qualifiers from a to b.
-fn name_form(s: &[u8], a: usize, b: usize) -> Form
-    requires { ⌜ (a ≤ b) × (b ≤ length (now s)) ⌝ }
-    ensures { λ r. ⌜ r ≡ nameForm (now (s .entry)) a b ⌝ }
-{
-    let c = qualifiers::any(Test::IsWord(67), s, a, b);
-    let m = qualifiers::any(Test::IsWord(65), s, a, b);
-    let l = qualifiers::any(Test::IsWord(76), s, a, b);
-    let o = qualifiers::any(Test::IsWord(79), s, a, b);
-    Form::Name(c, m, l, o)
-}
-
-// What the words of a type make, each given once, and one at least.
-fn made(s: &[u8], a: usize, b: usize, w: Words) -> Meant
-    requires { ⌜ (a ≤ b) × (b ≤ length (now s)) ⌝ }
-    ensures { λ r. ⌜ r ≡ madeOf (now (s .entry)) a b w ⌝ }
-{
-    match w {
-        Words::Nothing => Meant::Forbidden,
-        Words::OnR => Meant::Means(Form::Bitmap),
-        Words::OnN => Meant::Means(name_form(s, a, b)),
-        Words::OnS => {
-            let x = qualifiers::any(Test::IsWord(88), s, a, b);
-            if qualifiers::any(Test::IsWord(77), s, a, b) {
-                if x {
-                    return Meant::Forbidden;
-                }
-                return Meant::Means(Form::Strs);
-            }
-            if x {
-                return Meant::Means(Form::Raw);
-            }
-            Meant::Means(Form::Str)
-        }
-        Words::OnX => Meant::Means(Form::Hexc),
-    }
-}
-
-// A type that takes words, with the qualifiers from a to b.
-fn words_meant(s: &[u8], a: usize, b: usize, w: Words) -> Meant
-    requires { ⌜ (a < b) × (b ≤ length (now s)) ⌝ }
-    ensures { λ r. ⌜ meantIn (now (s .entry)) a b r ≡ meaningBy (allowed (listed w)) (now (s .entry)) a b ⌝ }
-{
-    if qualifiers::any(Test::NotWord(w), s, a, b) {
-        return refused(s, a, b);
-    }
-    if qualifiers::twice(false, s, a, b) {
-        return Meant::Forbidden;
-    }
-    made(s, a, b, w)
-}
-
-// A type without qualifiers.
-fn plain_meant(t: FieldType) -> Meant
-    ensures { λ r. ⌜ (s : List ℕ) (a : ℕ) → meantIn s a a r ≡ some (meaningOf (takenBy t) []) ⌝ }
-{
-    match t {
-        FieldType::NoType => Meant::Unknown,
-        FieldType::Symbols(w) => Meant::Means(Form::Int(w)),
-        FieldType::Plain(f) => Meant::Means(f),
-        FieldType::TypeR => Meant::Means(Form::Rrtype),
-        FieldType::TypeN => Meant::Means(Form::Name(false, false, false, false)),
-        FieldType::TypeS => Meant::Means(Form::Str),
-        FieldType::TypeX => Meant::Means(Form::Hex),
-    }
-}
-
-// The type from k to e with the qualifiers from a to b.
-fn meant(s: &[u8], k: usize, e: usize, a: usize, b: usize) -> Meant
-    requires { ⌜ (k ≤ e) × (e ≤ length (now s)) × (a ≤ b) × (b ≤ length (now s)) ⌝ }
-    ensures { λ r. ⌜ meantIn (now (s .entry)) a b r ≡ (qualifiersIn (now (s .entry)) a b >>= λ qs. some (meaning (slice k e (now (s .entry))) qs)) ⌝ }
-{
-    let t = types::type_of(s, k, e);
-    if a == b {
-        return plain_meant(t);
-    }
-    qualified(t, s, a, b)
-}
-
-// A type with the qualifiers from a to b.
-fn qualified(t: FieldType, s: &[u8], a: usize, b: usize) -> Meant
-    requires { ⌜ (a < b) × (b ≤ length (now s)) ⌝ }
-    ensures { λ r. ⌜ meantIn (now (s .entry)) a b r ≡ (eachOf qualifier (piecesIn (now (s .entry)) a b) >>= λ qs. some (meaningOf (takenBy t) qs)) ⌝ }
-{
-    match t {
-        FieldType::NoType => {
-            if qualifiers::any(Test::Malformed, s, a, b) {
-                return Meant::Malformed;
-            }
-            Meant::Unknown
-        }
-        FieldType::Symbols(w) => symbols_meant(s, a, b, w),
-        FieldType::Plain(f) => refused(s, a, b),
-        FieldType::TypeR => words_meant(s, a, b, Words::OnR),
-        FieldType::TypeN => words_meant(s, a, b, Words::OnN),
-        FieldType::TypeS => words_meant(s, a, b, Words::OnS),
-        FieldType::TypeX => words_meant(s, a, b, Words::OnX),
-    }
-}
-
 // A header's line from at to e, whose first nonblank is at t.
 fn header_verdict(s: &[u8], at: usize, t: usize, e: usize) -> HeaderVerdict
     requires { ⌜ (at ≤ t) × (t ≤ e) × (e ≤ length (now s)) × (length (now s) ≤ 8192) ⌝ }
@@ -277,7 +116,7 @@ fn field_meant(s: &[u8], t: usize, e: usize, x: FieldShape) -> FieldVerdict
     let k = x.type_end;
     let a = x.qualifiers_at;
     let b = x.qualifiers_end;
-    let m = meant(s, t, k, a, b);
+    let m = types::meaning_of(s, t, k, a, b);
     match m {
         Meant::Malformed => FieldVerdict::BadField(2),
         Meant::Unknown => FieldVerdict::BadField(3),

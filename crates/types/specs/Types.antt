@@ -1,16 +1,23 @@
 -- The kinds of fields and the types in code, and what they mean by the definitions of document 01.
 use Prim.Native.Nat.{ℕ}
-use mathlib.Core.Bool.{Bool, cond}
+use mathlib.Core.Bool.{Bool, true, false, cond}
 use mathlib.Core.List.{List, [], _∷_}
 use mathlib.Core.Option.{Option, none, some}
-use Rattle.format.specs.Lists.{null}
+use Rattle.format.specs.Lists.{_>>=_, eachOf, anyOf, null}
 use Rattle.format.specs.Octets.{ascii}
 use Rattle.format.specs.Field.{Symbol, NameMarks, Kind, int, rrtype, bitmap, a4, aa, aaaa, name, str, strs, raw, b32, b64, hex, hexc, eui, time}
-use Rattle.format.specs.Types.{Takes, symbols, words, noWords, nameKind, stringKind}
+use Rattle.format.specs.Grammar.{Qualifier, qualifier}
+use Rattle.format.specs.Types.{Takes, symbols, words, noWords, nameKind, stringKind, unknownWord, symbolOf, Meaning, unknown, forbidden, means, orForbidden, meaningOf, meaning}
+use Rattle.qualifiers.specs.Qualifiers.{piecesIn, qualifiersIn, anyIn}
+use Rattle.qualifiers.specs.declared.Words.{Words}
+use Rattle.qualifiers.specs.declared.Words.the-variants.{Nothing, OnR, OnN, OnS, OnX}
+use Rattle.qualifiers.specs.declared.Test.the-variants.{IsWord}
 use Rattle.types.specs.declared.Form.{Form}
 use Rattle.types.specs.declared.Form.the-variants.{Int, Rrtype, Bitmap, Dotted, Aa, Aaaa, Name, Str, Strs, Raw, Base32, Base64, Hex, Hexc, Eui, Time}
 use Rattle.types.specs.declared.FieldType.{FieldType}
-use Rattle.types.specs.declared.FieldType.the-variants.{NoType, Symbols, Plain, TypeR, TypeN, TypeS, TypeX}
+use Rattle.types.specs.declared.FieldType.the-variants.{NoType, Int1, Int2, Int4, Plain, TypeR, TypeN, TypeS, TypeX}
+use Rattle.types.specs.declared.Meant.{Meant}
+use Rattle.types.specs.declared.Meant.the-variants.{Malformed, Unknown, Forbidden, Means}
 
 -- the kind of a form, with an integer's symbols
 abbrev pub kindOf : List Symbol → Form → Kind
@@ -34,7 +41,9 @@ kindOf l Time = time
 -- what a type takes
 abbrev pub takenBy : FieldType → Option Takes
 takenBy NoType = none
-takenBy (Symbols w) = some (symbols w)
+takenBy Int1 = some (symbols 1)
+takenBy Int2 = some (symbols 2)
+takenBy Int4 = some (symbols 4)
 takenBy (Plain k) = some (noWords (kindOf [] k))
 takenBy TypeR = some (words (ascii "L" ∷ []) (λ given. some (cond (null given) rrtype bitmap)))
 takenBy TypeN = some (words (ascii "C" ∷ ascii "A" ∷ ascii "L" ∷ ascii "O" ∷ []) (λ given. some (nameKind given)))
@@ -59,3 +68,49 @@ intWidth Hex = 0
 intWidth Hexc = 0
 intWidth (Eui w) = 0
 intWidth Time = 0
+
+-- an integer's symbols are those among the qualifiers from a to b
+abbrev pub orNone : Option (List Symbol) → List Symbol
+orNone none = []
+orNone (some l) = l
+
+abbrev pub kindIn : List ℕ → ℕ → ℕ → Form → Kind
+kindIn s a b f = kindOf (orNone (qualifiersIn s a b >>= eachOf (symbolOf (intWidth f)))) f
+
+-- what a type and its qualifiers, from a to b, are; none: they break the grammar
+abbrev pub meantIn : List ℕ → ℕ → ℕ → Meant → Option Meaning
+meantIn s a b Malformed = none
+meantIn s a b Unknown = some unknown
+meantIn s a b Forbidden = some forbidden
+meantIn s a b (Means f) = some (means (kindIn s a b f))
+
+-- what known qualifiers that a type allows come to, from a to b
+abbrev pub meaningBy : (List Qualifier → Option Kind) → List ℕ → ℕ → ℕ → Option Meaning
+meaningBy f s a b = eachOf qualifier (piecesIn s a b) >>= λ qs. some (cond (anyOf unknownWord qs) unknown (orForbidden (f qs)))
+
+-- what a type is with the qualifiers from a to b, which are not none
+abbrev pub qualifiedIn : Option Takes → List ℕ → ℕ → ℕ → Option Meaning
+qualifiedIn t s a b = eachOf qualifier (piecesIn s a b) >>= λ qs. some (meaningOf t qs)
+
+-- what the type k is with the qualifiers from a to b
+abbrev pub meaningIn : List ℕ → List ℕ → ℕ → ℕ → Option Meaning
+meaningIn k s a b = qualifiersIn s a b >>= λ qs. some (meaning k qs)
+
+-- the types that take words
+abbrev pub listed : Words → Takes
+listed Nothing = words [] (λ given. none)
+listed OnR = words (ascii "L" ∷ []) (λ given. some (cond (null given) rrtype bitmap))
+listed OnN = words (ascii "C" ∷ ascii "A" ∷ ascii "L" ∷ ascii "O" ∷ []) (λ given. some (nameKind given))
+listed OnS = words (ascii "M" ∷ ascii "X" ∷ []) stringKind
+listed OnX = words (ascii "C" ∷ []) (λ given. some (cond (null given) hex hexc))
+
+-- what their words make, each given once, and one at least
+abbrev pub nameForm : List ℕ → ℕ → ℕ → Form
+nameForm s a b = Name (anyIn (IsWord 67) s a b) (anyIn (IsWord 65) s a b) (anyIn (IsWord 76) s a b) (anyIn (IsWord 79) s a b)
+
+abbrev pub madeOf : List ℕ → ℕ → ℕ → Words → Meant
+madeOf s a b Nothing = Forbidden
+madeOf s a b OnR = Means Bitmap
+madeOf s a b OnN = Means (nameForm s a b)
+madeOf s a b OnS = cond (anyIn (IsWord 77) s a b) (cond (anyIn (IsWord 88) s a b) Forbidden (Means Strs)) (cond (anyIn (IsWord 88) s a b) (Means Raw) (Means Str))
+madeOf s a b OnX = Means Hexc

@@ -1,11 +1,15 @@
 // The types of fields.
-ghost use Prim.Native.Nat.{_≤_};
+ghost use Prim.Native.Nat.{ℕ, _≤_, _<_, _^_};
 ghost use lib.ListN.{length, drop};
 ghost use lib.Seq.{slice};
 ghost use mathlib.Core.Path.{_≡_};
+ghost use mathlib.Core.List.{List, []};
+ghost use mathlib.Core.Option.{none, some};
 ghost use Rattle.format.specs.Octets.{sameOctets};
-ghost use Rattle.format.specs.Types.{typeRows, takesOf};
-ghost use Rattle.types.specs.Types.{takenBy};
+ghost use Rattle.format.specs.Types.{typeRows, takesOf, allowed, symbols, meaningOf};
+ghost use Rattle.types.specs.Types.{takenBy, meantIn, meaningBy, qualifiedIn, meaningIn, listed, nameForm, madeOf};
+use qualifiers::Test;
+use qualifiers::Words;
 
 // A kind of field: the octets of an integer or an EUI; the marks C, A, L, O of a name.
 pub enum Form {
@@ -30,12 +34,22 @@ pub enum Form {
 // A type: unknown; an integer, which takes symbols; one that takes no qualifier; or R, N, S, X.
 pub enum FieldType {
     NoType,
-    Symbols(u8),
+    Int1,
+    Int2,
+    Int4,
     Plain(Form),
     TypeR,
     TypeN,
     TypeS,
     TypeX,
+}
+
+// What a type and its qualifiers are: against the grammar, not known, not allowed, or a kind of field.
+pub enum Meant {
+    Malformed,
+    Unknown,
+    Forbidden,
+    Means(Form),
 }
 
 // Whether the text from a to e is the word w.
@@ -63,13 +77,13 @@ pub fn type_of(s: &[u8], a: usize, e: usize) -> FieldType
     ensures { λ r. ⌜ takenBy r ≡ takesOf typeRows (slice a e (now (s .entry))) ⌝ }
 {
     if is_word(s, a, e, b"I1") {
-        return FieldType::Symbols(1);
+        return FieldType::Int1;
     }
     if is_word(s, a, e, b"I2") {
-        return FieldType::Symbols(2);
+        return FieldType::Int2;
     }
     if is_word(s, a, e, b"I4") {
-        return FieldType::Symbols(4);
+        return FieldType::Int4;
     }
     if is_word(s, a, e, b"R") {
         return FieldType::TypeR;
@@ -136,4 +150,157 @@ fn after_x(s: &[u8], a: usize, e: usize) -> FieldType
         return FieldType::Plain(Form::Eui(8));
     }
     FieldType::NoType
+}
+
+// What qualifiers from a to b are that their type does not take.
+fn refused(s: &[u8], a: usize, b: usize) -> Meant
+    requires { ⌜ (a ≤ b) × (b ≤ length (now s)) ⌝ }
+    ensures { λ r. ⌜ meantIn (now (s .entry)) a b r ≡ meaningBy (λ qs. none) (now (s .entry)) a b ⌝ }
+{
+    if qualifiers::any(Test::Malformed, s, a, b) {
+        return Meant::Malformed;
+    }
+    if qualifiers::any(Test::Unknown, s, a, b) {
+        return Meant::Unknown;
+    }
+    Meant::Forbidden
+}
+
+// The first number that an integer of w octets cannot hold.
+fn limit(w: u8) -> u64
+    requires { ⌜ w ≤ 4 ⌝ }
+    ensures { λ r. ⌜ r ≡ 256 ^ w ⌝ }
+{
+    if w == 1 {
+        return 256;
+    }
+    if w == 2 {
+        return 65536;
+    }
+    if w == 3 {
+        return 16777216;
+    }
+    if w == 4 {
+        return 4294967296;
+    }
+    1
+}
+
+// An integer of w octets with the qualifiers from a to b.
+fn symbols_meant(s: &[u8], a: usize, b: usize, w: u8) -> Meant
+    requires { ⌜ (a < b) × (b ≤ length (now s)) × (w ≤ 4) ⌝ }
+    ensures { λ r. ⌜ meantIn (now (s .entry)) a b r ≡ meaningBy (allowed (symbols w)) (now (s .entry)) a b ⌝ }
+{
+    let m = limit(w);
+    if qualifiers::any(Test::NotSymbol(m), s, a, b) {
+        return refused(s, a, b);
+    }
+    if qualifiers::twice(true, s, a, b) {
+        return Meant::Forbidden;
+    }
+    Meant::Means(Form::Int(w))
+}
+
+// The form of a name with the qualifiers from a to b.
+fn name_form(s: &[u8], a: usize, b: usize) -> Form
+    requires { ⌜ (a ≤ b) × (b ≤ length (now s)) ⌝ }
+    ensures { λ r. ⌜ r ≡ nameForm (now (s .entry)) a b ⌝ }
+{
+    let c = qualifiers::any(Test::IsWord(67), s, a, b);
+    let m = qualifiers::any(Test::IsWord(65), s, a, b);
+    let l = qualifiers::any(Test::IsWord(76), s, a, b);
+    let o = qualifiers::any(Test::IsWord(79), s, a, b);
+    Form::Name(c, m, l, o)
+}
+
+// What the words of a type make, each given once, and one at least.
+fn made(s: &[u8], a: usize, b: usize, w: Words) -> Meant
+    requires { ⌜ (a ≤ b) × (b ≤ length (now s)) ⌝ }
+    ensures { λ r. ⌜ r ≡ madeOf (now (s .entry)) a b w ⌝ }
+{
+    match w {
+        Words::Nothing => Meant::Forbidden,
+        Words::OnR => Meant::Means(Form::Bitmap),
+        Words::OnN => Meant::Means(name_form(s, a, b)),
+        Words::OnS => {
+            let x = qualifiers::any(Test::IsWord(88), s, a, b);
+            if qualifiers::any(Test::IsWord(77), s, a, b) {
+                if x {
+                    return Meant::Forbidden;
+                }
+                return Meant::Means(Form::Strs);
+            }
+            if x {
+                return Meant::Means(Form::Raw);
+            }
+            Meant::Means(Form::Str)
+        }
+        Words::OnX => Meant::Means(Form::Hexc),
+    }
+}
+
+// A type that takes words, with the qualifiers from a to b.
+fn words_meant(s: &[u8], a: usize, b: usize, w: Words) -> Meant
+    requires { ⌜ (a < b) × (b ≤ length (now s)) ⌝ }
+    ensures { λ r. ⌜ meantIn (now (s .entry)) a b r ≡ meaningBy (allowed (listed w)) (now (s .entry)) a b ⌝ }
+{
+    if qualifiers::any(Test::NotWord(w), s, a, b) {
+        return refused(s, a, b);
+    }
+    if qualifiers::twice(false, s, a, b) {
+        return Meant::Forbidden;
+    }
+    made(s, a, b, w)
+}
+
+// A type without qualifiers.
+fn plain_meant(t: FieldType) -> Meant
+    ensures { λ r. ⌜ ((s : List ℕ) (a : ℕ) → meantIn s a a r ≡ some (meaningOf (takenBy t) [])) ⌝ }
+{
+    match t {
+        FieldType::NoType => Meant::Unknown,
+        FieldType::Int1 => Meant::Means(Form::Int(1)),
+        FieldType::Int2 => Meant::Means(Form::Int(2)),
+        FieldType::Int4 => Meant::Means(Form::Int(4)),
+        FieldType::Plain(f) => Meant::Means(f),
+        FieldType::TypeR => Meant::Means(Form::Rrtype),
+        FieldType::TypeN => Meant::Means(Form::Name(false, false, false, false)),
+        FieldType::TypeS => Meant::Means(Form::Str),
+        FieldType::TypeX => Meant::Means(Form::Hex),
+    }
+}
+
+// The type from k to e with the qualifiers from a to b.
+pub fn meaning_of(s: &[u8], k: usize, e: usize, a: usize, b: usize) -> Meant
+    requires { ⌜ (k ≤ e) × (e ≤ length (now s)) × (a ≤ b) × (b ≤ length (now s)) ⌝ }
+    ensures { λ r. ⌜ meantIn (now (s .entry)) a b r ≡ meaningIn (slice k e (now (s .entry))) (now (s .entry)) a b ⌝ }
+{
+    let t = type_of(s, k, e);
+    if a == b {
+        return plain_meant(t);
+    }
+    qualified(t, s, a, b)
+}
+
+// A type with the qualifiers from a to b.
+fn qualified(t: FieldType, s: &[u8], a: usize, b: usize) -> Meant
+    requires { ⌜ (a < b) × (b ≤ length (now s)) ⌝ }
+    ensures { λ r. ⌜ meantIn (now (s .entry)) a b r ≡ qualifiedIn (takenBy t) (now (s .entry)) a b ⌝ }
+{
+    match t {
+        FieldType::NoType => {
+            if qualifiers::any(Test::Malformed, s, a, b) {
+                return Meant::Malformed;
+            }
+            Meant::Unknown
+        }
+        FieldType::Int1 => symbols_meant(s, a, b, 1),
+        FieldType::Int2 => symbols_meant(s, a, b, 2),
+        FieldType::Int4 => symbols_meant(s, a, b, 4),
+        FieldType::Plain(f) => refused(s, a, b),
+        FieldType::TypeR => words_meant(s, a, b, Words::OnR),
+        FieldType::TypeN => words_meant(s, a, b, Words::OnN),
+        FieldType::TypeS => words_meant(s, a, b, Words::OnS),
+        FieldType::TypeX => words_meant(s, a, b, Words::OnX),
+    }
 }

@@ -21,7 +21,7 @@ skip-requires : tie.Need-skip-requires Inv-loop μ-loop
 skip-requires c κs = search needs
 
 holds-requires : tie.Need-holds-requires Inv-loop μ-loop
-holds-requires c κs = (omega (arith, within _ _ _ _ (c .before .loop .inv .0) (c .before .before .before .pre .1) (c .skip .ensures)), omega (arith, within _ _ _ _ (c .before .loop .inv .0) (c .before .before .before .pre .1) (c .skip .ensures)))
+holds-requires c κs = (omega arith, omega (arith, within _ _ _ _ (c .before .loop .inv .0) (c .before .before .before .pre .1) (c .skip .ensures)))
 
 returns : tie.Need-returns Inv-loop μ-loop
 returns c = sym (any-found _ _ _ _ (c .before .before .before .loop .inv .0) (c .before .before .before .before .before .pre .1) (c .before .before .skip .ensures) (λ p. holdsOf (c .before .before .before .before .before .args .t) (qualifier p)) (sym (c .before .holds .ensures) ∙ c .if1 .taken)) ∙ c .before .before .before .loop .inv .1
