@@ -18,12 +18,15 @@ use Rattle.grammar.specs.declared.Shape.the-variants.{NoField, IsField}
 -- a header whose line begins at `at` and ends at `end`
 abbrev pub headerIn : List ℕ → ℕ → ℕ → HeaderLine → Option Header
 headerIn s at end NoHeader = none
-headerIn s at end (IsHeader h) = some (record { typeName = partIn s at (h .name-end); typeNo = h .number; headerText = partIn s (h .text-at) end })
+headerIn s at end (IsHeader h) = some (record { typeName = partIn s at (h .«name_end»); typeNo = h .number; headerText = partIn s (h .«text_at») end })
 
 -- a field line whose type begins at `at` and which ends at `end`, its qualifiers being judged yet
 abbrev pub shapeIn : List ℕ → ℕ → ℕ → Shape → Option FieldLine
 shapeIn s at end NoField = none
 shapeIn s at end (IsField f) =
-    qualifiersIn s (f .qualifiers-at) (f .qualifiers-end) >>= λ qs. some (record {
-      keyword = slice at (f .type-end) s; qualifiers = qs; title = partIn s (f .name-at) (f .name-end); text = partIn s (f .text-at) end;
+    qualifiersIn s (f .«qualifiers_at») (f .«qualifiers_end») >>= λ qs. some (record {
+      keyword = slice at (f .«type_end») s;
+      qualifiers = qs;
+      title = partIn s (f .«name_at») (f .«name_end»);
+      text = partIn s (f .«text_at») end;
     })
