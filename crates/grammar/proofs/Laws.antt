@@ -21,7 +21,7 @@ use Rattle.octets.specs.Octets.{partIn, firstOr, numberOf}
 use Rattle.octets.specs.declared.Number.the-variants.{Value, Fault}
 use Rattle.qualifiers.specs.Qualifiers.{piecesIn, qualifiersIn}
 use Rattle.grammar.specs.Grammar.{headerIn, shapeIn}
-use Rattle.grammar.specs.Parts.{cutIn, restIn, textIn, numberAfter, textAfter, numberIn, bracketsIn, titleIn, TitleWithin, afterType}
+use Rattle.grammar.specs.Parts.{Within, cutIn, restIn, textIn, numberAfter, textAfter, numberIn, bracketsIn, titleIn, TitleWithin, afterType}
 use Rattle.grammar.specs.declared.HeaderLine.the-variants.{IsHeader}
 use Rattle.grammar.specs.declared.Shape.the-variants.{IsField}
 use Rattle.grammar.specs.declared.Place.{Place}
@@ -369,3 +369,8 @@ typed s i e z h l a q =
 
 pub untyped : (s : List ℕ) (i e : ℕ) → startsWithLetter (slice i e s) ≡ false → none ≡ fieldLine e (slice i e s)
 untyped s i e a = rw (typed-by (slice i e s) ∙ a)
+
+-- a place from j on is one from i on, where i is not after j
+pub from-earlier : {i j e : ℕ} → (i ≤ j) × (j ≤ e) → (p : Place) → Within j e p → Within i e p
+from-earlier h NoPlace k = tt
+from-earlier h (At x) k = (omega (arith, h .0, k .0), k .1)

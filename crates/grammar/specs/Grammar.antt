@@ -1,5 +1,5 @@
 -- The header and the field line that the code found in a stanza.
-use Prim.Native.Nat.{ℕ}
+use Prim.Native.Nat.{ℕ, _≤_}
 use mathlib.Core.List.{List}
 use mathlib.Core.Option.{Option, none, some}
 use lib.Seq.{slice}
@@ -30,3 +30,21 @@ shapeIn s at end (IsField f) =
       title = partIn s (f .«name_at») (f .«name_end»);
       text = partIn s (f .«text_at») end;
     })
+
+-- the places of a header and of a field line lie in the line
+abbrev pub HeaderWithin : ℕ → HeaderLine → Type 0
+HeaderWithin end NoHeader = Unit {0}
+HeaderWithin end (IsHeader h) = (h .«name_end» ≤ end) × (h .«text_at» ≤ end)
+
+pub record Places (at end : ℕ) (f : FieldShape) : Type 0 where
+  pub type-from : at ≤ f .«type_end»
+  pub type-to : f .«type_end» ≤ end
+  pub qualifiers-from : f .«qualifiers_at» ≤ f .«qualifiers_end»
+  pub qualifiers-to : f .«qualifiers_end» ≤ end
+  pub name-from : f .«name_at» ≤ f .«name_end»
+  pub name-to : f .«name_end» ≤ end
+  pub text-to : f .«text_at» ≤ end
+
+abbrev pub ShapeWithin : ℕ → ℕ → Shape → Type 0
+ShapeWithin at end NoField = Unit {0}
+ShapeWithin at end (IsField f) = Places at end f

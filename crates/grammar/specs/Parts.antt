@@ -60,7 +60,7 @@ bracketsIn s end (Between a e j) = qualifiersIn s a e >>= λ qs. some (record { 
 
 abbrev pub BracketsWithin : ℕ → Brackets → Type 0
 BracketsWithin end Unclosed = Unit {0}
-BracketsWithin end (Between a e j) = j ≤ end
+BracketsWithin end (Between a e j) = (a ≤ e) × (e ≤ end) × (j ≤ end)
 
 -- a field's name, and the rest after it
 abbrev pub titleIn : List ℕ → ℕ → Title → Option Spanned

@@ -4,7 +4,7 @@ ghost use lib.ListN.{length};
 ghost use lib.Seq.{slice};
 ghost use mathlib.Core.Path.{_≡_};
 ghost use Rattle.format.specs.Grammar.{headerLine, fieldLine, startsWithLetter, nameAt, afterOptions, freeTextAt, qualifiersAt, fieldNameAt};
-ghost use Rattle.grammar.specs.Grammar.{headerIn, shapeIn};
+ghost use Rattle.grammar.specs.Grammar.{headerIn, shapeIn, HeaderWithin, ShapeWithin};
 ghost use Rattle.grammar.specs.Parts.{
   Within,
   cutIn,
@@ -101,7 +101,7 @@ fn name_end(s: &[u8], at: usize, end: usize) -> Place
 // Where the free text begins: after one blank, or at the end of the line where there is none.
 fn free_text(s: &[u8], i: usize, end: usize) -> Place
     requires { ⌜ (i ≤ end) × (end ≤ length (now s)) ⌝ }
-    ensures { λ r. ⌜ textIn (now (s .entry)) end r ≡ freeTextAt end (slice i end (now (s .entry))) ⌝ }
+    ensures { λ r. ⌜ (textIn (now (s .entry)) end r ≡ freeTextAt end (slice i end (now (s .entry)))) × Within i end r ⌝ }
 {
     if i < end {
         if octets::is_in(Class::Blank, s[i]) {
@@ -152,7 +152,7 @@ fn after_options(s: &[u8], i: usize, end: usize) -> Place
 // Where a header's free text begins, after its options.
 fn text_after(s: &[u8], i: usize, end: usize) -> Place
     requires { ⌜ (i ≤ end) × (end ≤ length (now s)) ⌝ }
-    ensures { λ r. ⌜ textIn (now (s .entry)) end r ≡ textAfter end (slice i end (now (s .entry))) ⌝ }
+    ensures { λ r. ⌜ (textIn (now (s .entry)) end r ≡ textAfter end (slice i end (now (s .entry)))) × Within i end r ⌝ }
 {
     let p = after_options(s, i, end);
     match p {
@@ -164,7 +164,7 @@ fn text_after(s: &[u8], i: usize, end: usize) -> Place
 // The header in a line from at to end.
 pub fn header_line(s: &[u8], at: usize, end: usize) -> HeaderLine
     requires { ⌜ (at ≤ end) × (end ≤ length (now s)) ⌝ }
-    ensures { λ r. ⌜ headerIn (now (s .entry)) at end r ≡ headerLine end (slice at end (now (s .entry))) ⌝ }
+    ensures { λ r. ⌜ (headerIn (now (s .entry)) at end r ≡ headerLine end (slice at end (now (s .entry)))) × HeaderWithin end r ⌝ }
 {
     let p = name_end(s, at, end);
     match p {
@@ -227,8 +227,8 @@ fn field_name(s: &[u8], i: usize, end: usize) -> Title
 
 // The field line whose type ends at e.
 fn after_type(s: &[u8], at: usize, e: usize, end: usize) -> Shape
-    requires { ⌜ (e ≤ end) × (end ≤ length (now s)) ⌝ }
-    ensures { λ r. ⌜ shapeIn (now (s .entry)) at end r ≡ afterType end (slice at e (now (s .entry))) (slice e end (now (s .entry))) ⌝ }
+    requires { ⌜ (e ≤ end) × (end ≤ length (now s)) × (at ≤ e) ⌝ }
+    ensures { λ r. ⌜ (shapeIn (now (s .entry)) at end r ≡ afterType end (slice at e (now (s .entry))) (slice e end (now (s .entry)))) × ShapeWithin at end r ⌝ }
 {
     let b = bracketed(s, e, end);
     match b {
@@ -259,7 +259,7 @@ fn after_type(s: &[u8], at: usize, e: usize, end: usize) -> Shape
 // The field line from at, after its leading blanks, to end.
 pub fn field_shape(s: &[u8], at: usize, end: usize) -> Shape
     requires { ⌜ (at ≤ end) × (end ≤ length (now s)) ⌝ }
-    ensures { λ r. ⌜ shapeIn (now (s .entry)) at end r ≡ fieldLine end (slice at end (now (s .entry))) ⌝ }
+    ensures { λ r. ⌜ (shapeIn (now (s .entry)) at end r ≡ fieldLine end (slice at end (now (s .entry)))) × ShapeWithin at end r ⌝ }
 {
     if starts_with_letter(s, at, end) {
         let e = octets::skip(s, at, end, Class::Alphanumeric);

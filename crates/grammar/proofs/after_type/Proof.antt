@@ -13,7 +13,7 @@ enum-known-b : tie.Need-enum-known-b
 enum-known-b c = search needs
 
 field-name-requires : tie.Need-field-name-requires
-field-name-requires c κs = (rw (c .before .b .given .1) at (c .before .before .before .bracketed .ensures .1), c .before .before .before .before .before .pre .1)
+field-name-requires c κs = ((rw (c .before .b .given .1) at (c .before .before .before .bracketed .ensures .1)) .2, c .before .before .before .before .before .pre .1)
 
 enum-told-2 : tie.Need-enum-told-2
 enum-told-2 c = search needs
@@ -31,16 +31,24 @@ enum-known-t : tie.Need-enum-known-t
 enum-known-t c = search needs
 
 returns : tie.Need-returns
-returns c = unbracketed (c .before .before .before .before .args .s .now) (c .before .before .before .before .args .at) (c .before .before .before .before .args .e) (c .before .before .before .before .args .end) (c .enum-told .given .1) (c .before .before .bracketed .ensures .0)
+returns c = (unbracketed (c .before .before .before .before .args .s .now) (c .before .before .before .before .args .at) (c .before .before .before .before .args .e) (c .before .before .before .before .args .end) (c .enum-told .given .1) (c .before .before .bracketed .ensures .0), tt)
 
 returns-2 : tie.Need-returns-2
-returns-2 c = bad-title (c .before .before .before .before .before .before .before .before .args .s .now) (c .before .before .before .before .before .before .before .before .args .at) (c .before .before .before .before .before .before .before .before .args .e) (c .before .before .before .before .before .before .before .before .args .end) (c .before .before .before .before .b .given .1) (c .before .before .before .before .before .before .bracketed .ensures .0) (c .enum-told2 .given .1) (c .before .before .field-name .ensures .0)
+returns-2 c = (bad-title (c .before .before .before .before .before .before .before .before .args .s .now) (c .before .before .before .before .before .before .before .before .args .at) (c .before .before .before .before .before .before .before .before .args .e) (c .before .before .before .before .before .before .before .before .args .end) (c .before .before .before .before .b .given .1) (c .before .before .before .before .before .before .bracketed .ensures .0) (c .enum-told2 .given .1) (c .before .before .field-name .ensures .0), tt)
 
 returns-3 : tie.Need-returns-3
-returns-3 c = bad-text (c .before .before .before .before .before .before .before .before .before .before .before .before .args .s .now) (c .before .before .before .before .before .before .before .before .before .before .before .before .args .at) (c .before .before .before .before .before .before .before .before .before .before .before .before .args .e) (c .before .before .before .before .before .before .before .before .before .before .before .before .args .end) (c .before .before .before .before .before .before .before .before .b .given .1) (c .before .before .before .before .before .before .before .before .before .before .bracketed .ensures .0) (c .before .before .before .before .n .given .1) (c .before .before .before .before .before .before .field-name .ensures .0) (c .enum-told3 .given .1) (c .before .before .free-text .ensures)
+returns-3 c = (bad-text (c .before .before .before .before .before .before .before .before .before .before .before .before .args .s .now) (c .before .before .before .before .before .before .before .before .before .before .before .before .args .at) (c .before .before .before .before .before .before .before .before .before .before .before .before .args .e) (c .before .before .before .before .before .before .before .before .before .before .before .before .args .end) (c .before .before .before .before .before .before .before .before .b .given .1) (c .before .before .before .before .before .before .before .before .before .before .bracketed .ensures .0) (c .before .before .before .before .n .given .1) (c .before .before .before .before .before .before .field-name .ensures .0) (c .enum-told3 .given .1) (c .before .before .free-text .ensures .0), tt)
 
 returns-4 : tie.Need-returns-4
-returns-4 c = line-found (c .before .before .before .before .before .before .before .before .before .before .before .before .before .args .s .now) (c .before .before .before .before .before .before .before .before .before .before .before .before .before .args .at) (c .before .before .before .before .before .before .before .before .before .before .before .before .before .args .e) (c .before .before .before .before .before .before .before .before .before .before .before .before .before .args .end) (c .before .before .before .before .before .before .before .before .before .b .given .1) (c .before .before .before .before .before .before .before .before .before .before .before .bracketed .ensures .0) (c .before .before .before .before .before .n .given .1) (c .before .before .before .before .before .before .before .field-name .ensures .0) (c .before .t .given .1) (c .before .before .before .free-text .ensures) (c .before .before .before .before .before .before .before .field-name .ensures .1) (c .before .before .before .before .before .before .before .before .before .before .before .before .before .pre .1)
+returns-4 c = (line-found (c .before .before .before .before .before .before .before .before .before .before .before .before .before .args .s .now) (c .before .before .before .before .before .before .before .before .before .before .before .before .before .args .at) (c .before .before .before .before .before .before .before .before .before .before .before .before .before .args .e) (c .before .before .before .before .before .before .before .before .before .before .before .before .before .args .end) (c .before .before .before .before .before .before .before .before .before .b .given .1) (c .before .before .before .before .before .before .before .before .before .before .before .bracketed .ensures .0) (c .before .before .before .before .before .n .given .1) (c .before .before .before .before .before .before .before .field-name .ensures .0) (c .before .t .given .1) (c .before .before .before .free-text .ensures .0) (c .before .before .before .before .before .before .before .field-name .ensures .1) (c .before .before .before .before .before .before .before .before .before .before .before .before .before .pre .1), record {
+  type-from = c .before .before .before .before .before .before .before .before .before .before .before .before .before .pre .2;
+  type-to = c .before .before .before .before .before .before .before .before .before .before .before .before .before .pre .0;
+  qualifiers-from = (rw (c .before .before .before .before .before .before .before .before .before .b .given .1) at (c .before .before .before .before .before .before .before .before .before .before .before .bracketed .ensures .1)) .0;
+  qualifiers-to = (rw (c .before .before .before .before .before .before .before .before .before .b .given .1) at (c .before .before .before .before .before .before .before .before .before .before .before .bracketed .ensures .1)) .1;
+  name-from = (rw (c .before .before .before .before .before .n .given .1) at (c .before .before .before .before .before .before .before .field-name .ensures .1)) .0;
+  name-to = (rw (c .before .before .before .before .before .n .given .1) at (c .before .before .before .before .before .before .before .field-name .ensures .1)) .1;
+  text-to = (rw (c .before .t .given .1) at (c .before .before .before .free-text .ensures .1)) .1;
+})
 
 pub after-type-spec : {M : Type 1} → statement M
 after-type-spec =

@@ -36,7 +36,7 @@ returns-3 : tie.Need-returns-3
 returns-3 c = (brackets-empty (c .before .before .before .before .before .args .s .now) (c .before .before .before .before .before .args .i) (c .before .before .before .before .before .args .end) (c .before .before .before .before .before .pre .1) _ (sym (c .before .before .before .octet-at .ensures) ∙ c .before .before .if1 .taken) (c .before .skip .ensures) (c .if2 .left), tt)
 
 returns-4 : tie.Need-returns-4
-returns-4 c = (no-brackets (c .before .before .before .args .s .now) (c .before .before .before .args .i) (c .before .before .before .args .end) (c .before .before .before .pre .1) (λ h. c .if1 .left (c .before .octet-at .ensures ∙ h)), c .before .before .before .pre .0)
+returns-4 c = (no-brackets (c .before .before .before .args .s .now) (c .before .before .before .args .i) (c .before .before .before .args .end) (c .before .before .before .pre .1) (λ h. c .if1 .left (c .before .octet-at .ensures ∙ h)), (omega arith, c .before .before .before .pre .0, c .before .before .before .pre .0))
 
 pub bracketed-spec : {M : Type 1} → statement M
 bracketed-spec =

@@ -1,3 +1,4 @@
+use native.Mathlib.Omega.{arith}
 use mathlib.Core.Path.{sym, _∙_}
 use Rattle.grammar.proofs.Laws.{text-on, text-broken, text-tight, text-none}
 use borrow.Author.Needs.{needs}
@@ -20,16 +21,16 @@ add-t13 : tie.Need-add-t13
 add-t13 c = search needs
 
 returns : tie.Need-returns
-returns c = text-on _ _ _ (c .before .before .before .before .before .if1 .taken) (c .before .before .before .before .before .before .before .pre .1) (sym (c .before .before .before .is-in .ensures) ∙ c .before .before .if2 .taken) (sym (c .if3 .taken) ∙ c .before .skip .ensures)
+returns c = (text-on _ _ _ (c .before .before .before .before .before .if1 .taken) (c .before .before .before .before .before .before .before .pre .1) (sym (c .before .before .before .is-in .ensures) ∙ c .before .before .if2 .taken) (sym (c .if3 .taken) ∙ c .before .skip .ensures), (omega arith, omega (arith, c .before .before .before .before .before .if1 .taken)))
 
 returns-2 : tie.Need-returns-2
-returns-2 c = text-broken _ _ _ (c .before .before .before .before .before .if1 .taken) (c .before .before .before .before .before .before .before .pre .1) (sym (c .before .before .before .is-in .ensures) ∙ c .before .before .if2 .taken) (λ q. c .if3 .left (c .before .skip .ensures ∙ sym q))
+returns-2 c = (text-broken _ _ _ (c .before .before .before .before .before .if1 .taken) (c .before .before .before .before .before .before .before .pre .1) (sym (c .before .before .before .is-in .ensures) ∙ c .before .before .if2 .taken) (λ q. c .if3 .left (c .before .skip .ensures ∙ sym q)), tt)
 
 returns-3 : tie.Need-returns-3
-returns-3 c = text-tight _ _ _ (c .before .before .before .if1 .taken) (c .before .before .before .before .before .pre .1) (sym (c .before .is-in .ensures) ∙ c .if2 .left)
+returns-3 c = (text-tight _ _ _ (c .before .before .before .if1 .taken) (c .before .before .before .before .before .pre .1) (sym (c .before .is-in .ensures) ∙ c .if2 .left), tt)
 
 returns-4 : tie.Need-returns-4
-returns-4 c = text-none _ _ _ (c .if1 .left)
+returns-4 c = (text-none _ _ _ (c .if1 .left), (omega arith, omega arith))
 
 pub free-text-spec : {M : Type 1} → statement M
 free-text-spec =

@@ -31,16 +31,16 @@ enum-known-t : tie.Need-enum-known-t
 enum-known-t c = search needs
 
 returns : tie.Need-returns
-returns c = nameless (c .before .before .before .before .args .s .now) (c .before .before .before .before .args .at) (c .before .before .before .before .args .end) (c .enum-told .given .1) (c .before .before .name-end .ensures .0)
+returns c = (nameless (c .before .before .before .before .args .s .now) (c .before .before .before .before .args .at) (c .before .before .before .before .args .end) (c .enum-told .given .1) (c .before .before .name-end .ensures .0), tt)
 
 returns-2 : tie.Need-returns-2
-returns-2 c = numberless (c .before .before .before .before .before .before .before .before .args .s .now) (c .before .before .before .before .before .before .before .before .args .at) (c .before .before .before .before .before .before .before .before .args .end) (c .before .before .before .before .p .given .1) (c .before .before .before .before .before .before .name-end .ensures .0) (c .enum-told2 .given .1) (c .before .before .number-after .ensures .0)
+returns-2 c = (numberless (c .before .before .before .before .before .before .before .before .args .s .now) (c .before .before .before .before .before .before .before .before .args .at) (c .before .before .before .before .before .before .before .before .args .end) (c .before .before .before .before .p .given .1) (c .before .before .before .before .before .before .name-end .ensures .0) (c .enum-told2 .given .1) (c .before .before .number-after .ensures .0), tt)
 
 returns-3 : tie.Need-returns-3
-returns-3 c = textless (c .before .before .before .before .before .before .before .before .before .before .before .before .args .s .now) (c .before .before .before .before .before .before .before .before .before .before .before .before .args .at) (c .before .before .before .before .before .before .before .before .before .before .before .before .args .end) (c .before .before .before .before .before .before .before .before .p .given .1) (c .before .before .before .before .before .before .before .before .before .before .name-end .ensures .0) (c .before .before .before .before .d .given .1) (c .before .before .before .before .before .before .number-after .ensures .0) (c .enum-told3 .given .1) (c .before .before .text-after .ensures)
+returns-3 c = (textless (c .before .before .before .before .before .before .before .before .before .before .before .before .args .s .now) (c .before .before .before .before .before .before .before .before .before .before .before .before .args .at) (c .before .before .before .before .before .before .before .before .before .before .before .before .args .end) (c .before .before .before .before .before .before .before .before .p .given .1) (c .before .before .before .before .before .before .before .before .before .before .name-end .ensures .0) (c .before .before .before .before .d .given .1) (c .before .before .before .before .before .before .number-after .ensures .0) (c .enum-told3 .given .1) (c .before .before .text-after .ensures .0), tt)
 
 returns-4 : tie.Need-returns-4
-returns-4 c = header-found (c .before .before .before .before .before .before .before .before .before .before .before .before .before .args .s .now) (c .before .before .before .before .before .before .before .before .before .before .before .before .before .args .at) (c .before .before .before .before .before .before .before .before .before .before .before .before .before .args .end) (c .before .before .before .before .before .before .before .before .before .p .given .1) (c .before .before .before .before .before .before .before .before .before .before .before .name-end .ensures .0) (c .before .before .before .before .before .d .given .1) (c .before .before .before .before .before .before .before .number-after .ensures .0) (c .before .t .given .1) (c .before .before .before .text-after .ensures) (c .before .before .before .before .before .before .before .before .before .before .before .before .before .pre .0) (c .before .before .before .before .before .before .before .before .before .before .before .before .before .pre .1)
+returns-4 c = (header-found (c .before .before .before .before .before .before .before .before .before .before .before .before .before .args .s .now) (c .before .before .before .before .before .before .before .before .before .before .before .before .before .args .at) (c .before .before .before .before .before .before .before .before .before .before .before .before .before .args .end) (c .before .before .before .before .before .before .before .before .before .p .given .1) (c .before .before .before .before .before .before .before .before .before .before .before .name-end .ensures .0) (c .before .before .before .before .before .d .given .1) (c .before .before .before .before .before .before .before .number-after .ensures .0) (c .before .t .given .1) (c .before .before .before .text-after .ensures .0) (c .before .before .before .before .before .before .before .before .before .before .before .before .before .pre .0) (c .before .before .before .before .before .before .before .before .before .before .before .before .before .pre .1), ((rw (c .before .before .before .before .before .before .before .before .before .p .given .1) at (c .before .before .before .before .before .before .before .before .before .before .before .name-end .ensures .1)) .1, (rw (c .before .t .given .1) at (c .before .before .before .text-after .ensures .1)) .1))
 
 pub header-line-spec : {M : Type 1} → statement M
 header-line-spec =

@@ -1,5 +1,5 @@
 use mathlib.Core.Path.{_∙_}
-use Rattle.grammar.proofs.Laws.{text-by, text-not}
+use Rattle.grammar.proofs.Laws.{text-by, text-not, from-earlier}
 use borrow.Author.Needs.{needs}
 use Rattle.grammar.proofs.text_after.Statement.{statement}
 use Rattle.grammar.proofs.text_after.Tie as tie
@@ -17,10 +17,10 @@ free-text-requires : tie.Need-free-text-requires
 free-text-requires c κs = ((rw (c .before .p .given .1) at (c .before .before .before .after-options .ensures .1)) .1, c .before .before .before .before .before .pre .1)
 
 returns : tie.Need-returns
-returns c = text-not (c .before .before .before .before .args .s .now) (c .before .before .before .before .args .i) (c .before .before .before .before .args .end) (c .enum-told .given .1) (c .before .before .after-options .ensures .0)
+returns c = (text-not (c .before .before .before .before .args .s .now) (c .before .before .before .before .args .i) (c .before .before .before .before .args .end) (c .enum-told .given .1) (c .before .before .after-options .ensures .0), tt)
 
 returns-2 : tie.Need-returns-2
-returns-2 c = c .free-text .ensures ∙ text-by (c .before .before .before .before .before .before .args .s .now) (c .before .before .before .before .before .before .args .i) (c .before .before .before .before .before .before .args .end) (c .before .before .p .given .1) (c .before .before .before .before .after-options .ensures .0)
+returns-2 c = (c .free-text .ensures .0 ∙ text-by (c .before .before .before .before .before .before .args .s .now) (c .before .before .before .before .before .before .args .i) (c .before .before .before .before .before .before .args .end) (c .before .before .p .given .1) (c .before .before .before .before .after-options .ensures .0), from-earlier (rw (c .before .before .p .given .1) at (c .before .before .before .before .after-options .ensures .1)) (c .free-text .result) (c .free-text .ensures .1))
 
 pub text-after-spec : {M : Type 1} → statement M
 text-after-spec =
