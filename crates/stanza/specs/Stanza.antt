@@ -1,28 +1,20 @@
 -- The judged description in code, and what it means in the stanza that it was found in.
-use Prim.Native.Nat.{ℕ, zero, suc, _+_, _<_}
+use Prim.Native.Nat.{ℕ, zero, suc, _+_, _≤_, _<_}
 use mathlib.Core.Path.{_≡_}
 use mathlib.Core.Bool.{Bool, true, false, not, cond, _&&_, _||_}
 use mathlib.Core.List.{List, [], _∷_, _++_}
-use mathlib.Core.Option.{Option, none, some}
 use lib.ListN.{length, getD}
 use lib.Seq.{slice}
 use lib.Dec.{eqb}
-use Rattle.format.specs.Lists.{_>>=_, eachOf, anyOf, null}
-use Rattle.format.specs.Octets.{ascii, sameWord}
-use Rattle.format.specs.Field.{Part, Symbol, Kind, Field, rrtype, bitmap, hex, hexc}
-use Rattle.format.specs.Grammar.{Header, Qualifier, qualifier}
-use Rattle.format.specs.Types.{Takes, words, nameKind, stringKind, unknownWord, Meaning, unknown, forbidden, means, orForbidden, symbolOf}
+use Rattle.format.specs.Lists.{anyOf, null}
+use Rattle.format.specs.Octets.{sameWord}
+use Rattle.format.specs.Field.{Part, Field}
+use Rattle.format.specs.Grammar.{Header}
 use Rattle.format.specs.Judge.{Description, Progress, beforeHeader, afterHeader, Verdict, faulty, goesOn, afterTail, sameName, withField, Judged, rejected, described}
 use Rattle.octets.specs.Octets.{partIn}
-use Rattle.qualifiers.specs.Qualifiers.{piecesIn, qualifiersIn, anyIn}
-use Rattle.qualifiers.specs.declared.Words.{Words}
-use Rattle.qualifiers.specs.declared.Words.the-variants.{Nothing, OnR, OnN, OnS, OnX}
-use Rattle.qualifiers.specs.declared.Test.the-variants.{IsWord}
 use Rattle.types.specs.declared.Form.{Form}
-use Rattle.types.specs.declared.Form.the-variants.{Rrtype, Bitmap, Name, Str, Strs, Raw, Hexc}
-use Rattle.types.specs.Types.{kindOf, intWidth}
-use Rattle.stanza.specs.declared.Meant.{Meant}
-use Rattle.stanza.specs.declared.Meant.the-variants.{Malformed, Unknown, Forbidden, Means}
+use Rattle.types.specs.declared.Form.the-variants.{Rrtype}
+use Rattle.types.specs.Types.{kindIn}
 use Rattle.stanza.specs.declared.HeaderDesc.{HeaderDesc}
 use Rattle.stanza.specs.declared.FieldDesc.{FieldDesc}
 use Rattle.stanza.specs.declared.HeaderVerdict.{HeaderVerdict}
@@ -50,6 +42,11 @@ fieldOf s f a e = record { kind = kindIn s (f .«qualifiers_at») (f .«qualifie
 abbrev pub fieldVerdict : List ℕ → Description → FieldVerdict → Verdict
 fieldVerdict s d (BadField n) = faulty n
 fieldVerdict s d (GoodField f) = withField d (fieldOf s (f .field) (f .«name_at») (f .«name_end»))
+
+-- a new field's name lies in the stanza
+abbrev pub VerdictWithin : List ℕ → FieldVerdict → Type 0
+VerdictWithin s (BadField n) = Unit {0}
+VerdictWithin s (GoodField f) = (f .«name_at» ≤ f .«name_end») × (f .«name_end» ≤ length s)
 
 abbrev pub noField : FieldDesc
 noField = record { form = Rrtype; «qualifiers_at» = 0; «qualifiers_end» = 0; «text_at» = 0; «text_end» = 0 }

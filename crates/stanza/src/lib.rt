@@ -1,20 +1,19 @@
 // The judge of a stanza, and the description that it finds.
-ghost use Prim.Native.Nat.{_≤_, _<_, _+_, _^_};
+ghost use Prim.Native.Nat.{ℕ, _≤_, _<_, _+_, min};
 ghost use lib.ListN.{length};
 ghost use lib.Seq.{slice};
 ghost use lib.Dec.{eqb};
 ghost use mathlib.Core.Path.{_≡_};
 ghost use mathlib.Core.Bool.{not, cond};
-ghost use mathlib.Core.Option.{some};
-ghost use mathlib.Core.Bool.{true};
-ghost use mathlib.Core.Option.{none};
-ghost use Rattle.format.specs.Lists.{_>>=_};
-ghost use Rattle.format.specs.Field.{tail};
+ghost use mathlib.Core.List.{List};
+ghost use Rattle.format.specs.Field.{tail, Symbol};
 ghost use Rattle.format.specs.Grammar.{headerLine, fieldLine};
-ghost use Rattle.format.specs.Judge.{Description, faulty, ofHeader, ofFieldLine, judged, lineVerdict};
+ghost use Rattle.format.specs.Judge.{Description, afterHeader, faulty, ofHeader, ofFieldLine, judged, lineVerdict};
 ghost use Rattle.octets.specs.Octets.{partIn};
+ghost use Rattle.grammar.specs.Grammar.{shapeIn, Places};
+ghost use Rattle.grammar.specs.declared.Shape.the-variants.{IsField};
 ghost use Rattle.types.specs.Types.{kindOf};
-ghost use Rattle.stanza.specs.Stanza.{headerVerdict, fieldVerdict, sameText, namedFrom, progressOf, Stands, stepOf, Fits, VerdictWithin, outlineOf};
+ghost use Rattle.stanza.specs.Stanza.{headerVerdict, fieldVerdict, VerdictWithin, sameText, namedFrom, progressOf, Stands, stepOf, Fits, outlineOf};
 use grammar::FieldShape;
 use grammar::HeaderLine;
 use grammar::Shape;
@@ -110,8 +109,8 @@ fn header_verdict(s: &[u8], at: usize, t: usize, e: usize) -> HeaderVerdict
 
 // A field line that the grammar lets pass, from t to e.
 fn field_meant(s: &[u8], t: usize, e: usize, x: FieldShape) -> FieldVerdict
-    requires { ⌜ (t ≤ x .«type_end») × (x .«type_end» ≤ e) × (x .«qualifiers_at» ≤ x .«qualifiers_end») × (x .«qualifiers_end» ≤ e) × (x .«name_end» ≤ e) × (x .«text_at» ≤ e) × (e ≤ length (now s)) × (length (now s) ≤ 8192) ⌝ }
-    ensures { λ r. ⌜ (d : Description) → fieldVerdict (now (s .entry)) d r ≡ ofFieldLine d (shapeIn (now (s .entry)) t e (IsField x)) ⌝ }
+    requires { ⌜ Places t e x × (e ≤ length (now s)) × (length (now s) ≤ 8192) ⌝ }
+    ensures { λ r. ⌜ VerdictWithin (now (s .entry)) r × ((d : Description) → fieldVerdict (now (s .entry)) d r ≡ ofFieldLine d (shapeIn (now (s .entry)) t e (IsField x))) ⌝ }
 {
     let k = x.type_end;
     let a = x.qualifiers_at;
@@ -131,7 +130,7 @@ fn field_meant(s: &[u8], t: usize, e: usize, x: FieldShape) -> FieldVerdict
 // A field line from at to e, whose first nonblank is at t.
 fn field_verdict(s: &[u8], at: usize, t: usize, e: usize) -> FieldVerdict
     requires { ⌜ (at ≤ t) × (t ≤ e) × (e ≤ length (now s)) × (length (now s) ≤ 8192) ⌝ }
-    ensures { λ r. ⌜ (d : Description) → fieldVerdict (now (s .entry)) d r ≡ cond (not (eqb t at)) (ofFieldLine d (fieldLine e (slice t e (now (s .entry))))) (faulty 2) ⌝ }
+    ensures { λ r. ⌜ VerdictWithin (now (s .entry)) r × ((d : Description) → fieldVerdict (now (s .entry)) d r ≡ cond (not (eqb t at)) (ofFieldLine d (fieldLine e (slice t e (now (s .entry))))) (faulty 2)) ⌝ }
 {
     if t <= at {
         return FieldVerdict::BadField(2);
@@ -145,16 +144,25 @@ fn field_verdict(s: &[u8], at: usize, t: usize, e: usize) -> FieldVerdict
 
 // S[M], S[X], B64, X without C, R[L], N[O]
 pub fn is_tail(f: Form) -> bool
-    ensures { λ r. ⌜ (l : List Symbol) → r ≡ tail (kindOf l f) ⌝ }
+    ensures { λ r. ⌜ ((l : List Symbol) → r ≡ tail (kindOf l f)) ⌝ }
 {
     match f {
+        Form::Int(w) => false,
+        Form::Rrtype => false,
         Form::Bitmap => true,
+        Form::Dotted => false,
+        Form::Aa => false,
+        Form::Aaaa => false,
         Form::Name(c, a, l, o) => o,
+        Form::Str => false,
         Form::Strs => true,
         Form::Raw => true,
+        Form::Base32 => false,
         Form::Base64 => true,
         Form::Hex => true,
-        _ => false,
+        Form::Hexc => false,
+        Form::Eui(w) => false,
+        Form::Time => false,
     }
 }
 
@@ -263,7 +271,7 @@ fn rejected(number: u8, line: u16) -> Outline
 }
 
 // The judged stanza.
-pub fn outline(s: &[u8]) -> Outline
+pub fn judged_outline(s: &[u8]) -> Outline
     ensures { λ r. ⌜ outlineOf (now (s .entry)) r ≡ judged (now (s .entry)) ⌝ }
 {
     if 8192 < s.len() {
