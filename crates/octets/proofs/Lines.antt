@@ -15,7 +15,6 @@ use Rattle.octets.specs.Octets.{inClass, partIn}
 use Rattle.octets.specs.declared.Class.the-variants.{NotNewline}
 use Rattle.octets.proofs.Slices.{frontEnd, front-rest, front-within, span-rest, span-front}
 
-
 -- what follows the first separator, cut again
 abbrev cut-rest : ℕ → List ℕ → List (List ℕ)
 cut-rest c [] = []

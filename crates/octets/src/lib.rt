@@ -113,11 +113,7 @@ pub fn octet_at(s: &[u8], i: usize, e: usize) -> u16
     requires { ⌜ e ≤ length (now s) ⌝ }
     ensures { λ r. ⌜ r ≡ firstOr (slice i e (now (s .entry))) ⌝ }
 {
-    if i < e {
-        wide(s[i])
-    } else {
-        256
-    }
+    if i < e { wide(s[i]) } else { 256 }
 }
 
 fn wide(b: u8) -> u16

@@ -35,7 +35,8 @@ use Rattle.stanza.specs.declared.FieldVerdict.the-variants.{BadField, Go
 use Rattle.stanza.specs.declared.NewField.{NewField}
 use Rattle.stanza.specs.declared.HeaderVerdict.{HeaderVerdict}
 use Rattle.stanza.specs.declared.Step.{Step}
-use Rattle.stanza.specs.Stanza.{headerVerdict, fieldVerdict, fieldOf, namedFrom, Stands, progressOf, stepOf}
+use Rattle.stanza.specs.declared.Step.the-variants.{Skip, Refuse, Head, Add}
+use Rattle.stanza.specs.Stanza.{headerVerdict, fieldVerdict, fieldOf, namedFrom, Stands, progressOf, stepOf, Fits, Due}
 
 -- headers
 module _ (s : List ℕ) (at t e : ℕ) where
@@ -146,3 +147,10 @@ module _ (s : List ℕ) (t e : ℕ) (f : Shape) (g : shapeIn s t e f ≡ fieldLi
 -- where the first nonblank is
 pub nonblank : (s : List ℕ) (at e t : ℕ) → at ≤ e → e ≤ length s → t ≡ frontEnd (inClass Blank) s at e → (at ≤ t) × (t ≤ e)
 nonblank s at e t l k q = (omega arith, rw q (front-within (inClass Blank) s at e l k))
+
+-- a field's line, after the header
+pub due : (n : ℕ) (r : Step) (have : Bool) → have ≡ true → Fits n r → Due have n r
+due n Skip have h k = tt
+due n (Refuse m) have h k = tt
+due n (Head x) have h k = absurd k
+due n (Add f) have h k = (k, h)

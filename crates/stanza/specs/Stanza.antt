@@ -86,12 +86,19 @@ stepOf s p (Refuse n) = faulty n
 stepOf s p (Head h) = goesOn (afterHeader (record { header = headerOf s h; fields = [] }))
 stepOf s p (Add f) = withMore p (fieldOf s (f .field) (f .«name_at») (f .«name_end»))
 
--- a field is added only below the 64th
+-- a field's line adds a field, and only below the 64th
 abbrev pub Fits : ℕ → Step → Type 0
 Fits n Skip = Unit {0}
 Fits n (Refuse k) = Unit {0}
-Fits n (Head h) = Unit {0}
+Fits n (Head h) = ⊥
 Fits n (Add f) = n < 64
+
+-- so a header is found only before it, and a field only after it
+abbrev pub Due : Bool → ℕ → Step → Type 0
+Due have n Skip = Unit {0}
+Due have n (Refuse k) = Unit {0}
+Due have n (Head h) = have ≡ false
+Due have n (Add f) = (n < 64) × (have ≡ true)
 
 -- the description, or the refusal
 abbrev pub descriptionOf : List ℕ → Outline → Description

@@ -4,7 +4,7 @@ ghost use lib.ListN.{length};
 ghost use lib.Seq.{slice};
 ghost use lib.Dec.{eqb};
 ghost use mathlib.Core.Path.{_≡_};
-ghost use mathlib.Core.Bool.{not, cond};
+ghost use mathlib.Core.Bool.{not, cond, _||_};
 ghost use mathlib.Core.List.{List};
 ghost use Rattle.format.specs.Field.{tail, Symbol};
 ghost use Rattle.format.specs.Grammar.{headerLine, fieldLine};
@@ -13,7 +13,7 @@ ghost use Rattle.octets.specs.Octets.{partIn};
 ghost use Rattle.grammar.specs.Grammar.{shapeIn, Places};
 ghost use Rattle.grammar.specs.declared.Shape.the-variants.{IsField};
 ghost use Rattle.types.specs.Types.{kindOf};
-ghost use Rattle.stanza.specs.Stanza.{headerVerdict, fieldVerdict, VerdictWithin, sameText, namedFrom, progressOf, Stands, stepOf, Fits, outlineOf};
+ghost use Rattle.stanza.specs.Stanza.{headerVerdict, fieldVerdict, VerdictWithin, sameText, namedFrom, progressOf, Stands, stepOf, Fits, Due, outlineOf};
 use grammar::FieldShape;
 use grammar::HeaderLine;
 use grammar::Shape;
@@ -121,8 +121,18 @@ fn field_meant(s: &[u8], t: usize, e: usize, x: FieldShape) -> FieldVerdict
         Meant::Unknown => FieldVerdict::BadField(3),
         Meant::Forbidden => FieldVerdict::BadField(4),
         Meant::Means(f) => {
-            let field = FieldDesc { form: f, qualifiers_at: a as u16, qualifiers_end: b as u16, text_at: x.text_at as u16, text_end: e as u16 };
-            FieldVerdict::GoodField(NewField { field: field, name_at: x.name_at as u16, name_end: x.name_end as u16 })
+            let field = FieldDesc {
+                form: f,
+                qualifiers_at: a as u16,
+                qualifiers_end: b as u16,
+                text_at: x.text_at as u16,
+                text_end: e as u16,
+            };
+            FieldVerdict::GoodField(NewField {
+                field: field,
+                name_at: x.name_at as u16,
+                name_end: x.name_end as u16,
+            })
         }
     }
 }
@@ -166,6 +176,16 @@ pub fn is_tail(f: Form) -> bool
     }
 }
 
+// Whether a tail is among the fields, with one of the form f after them.
+fn tail_after(last: bool, f: Form) -> bool
+    ensures { λ r. ⌜ ((l : List Symbol) → r ≡ last || tail (kindOf l f)) ⌝ }
+{
+    if last {
+        return true;
+    }
+    is_tail(f)
+}
+
 // Whether the name from a to e is one of the first n.
 fn name_again(s: &[u8], names: &[u16], ends: &[u16], n: usize, a: usize, e: usize) -> bool
     requires { ⌜ (a ≤ e) × (e ≤ length (now s)) × (n ≤ length (now names)) × (n ≤ length (now ends)) ⌝ }
@@ -197,17 +217,22 @@ fn same_name(s: &[u8], x: u16, y: u16, a: usize, e: usize) -> bool
 fn least(a: usize, b: usize) -> usize
     ensures { λ r. ⌜ r ≡ min a b ⌝ }
 {
-    if a < b {
-        a
-    } else {
-        b
-    }
+    if a < b { a } else { b }
 }
 
 // What the line from at to e does, after a header or before it, after a tail or not, with n fields so far.
-fn line_step(s: &[u8], at: usize, e: usize, have: bool, last: bool, names: &[u16], ends: &[u16], n: usize) -> Step
+fn line_step(
+    s: &[u8],
+    at: usize,
+    e: usize,
+    have: bool,
+    last: bool,
+    names: &[u16],
+    ends: &[u16],
+    n: usize,
+) -> Step
     requires { ⌜ (at ≤ e) × (e ≤ length (now s)) × (length (now s) ≤ 8192) × (n ≤ length (now names)) × (n ≤ length (now ends)) ⌝ }
-    ensures { λ r. ⌜ Fits n r × ((d : Description) → Stands (now (s .entry)) d last (now (names .entry)) (now (ends .entry)) n
+    ensures { λ r. ⌜ Due have n r × ((d : Description) → Stands (now (s .entry)) d last (now (names .entry)) (now (ends .entry)) n
         → stepOf (now (s .entry)) (progressOf have d) r ≡ lineVerdict (progressOf have d) (partIn (now (s .entry)) at e)) ⌝ }
 {
     let t = octets::skip(s, at, e, Class::Blank);
@@ -265,9 +290,29 @@ fn field_step(s: &[u8], f: FieldVerdict, last: bool, names: &[u16], ends: &[u16]
 fn rejected(number: u8, line: u16) -> Outline
     ensures { λ r. ⌜ (r .number ≡ number) × (r .line ≡ line) ⌝ }
 {
-    let h = HeaderDesc { name_at: 0, name_end: 0, number: 0, text_at: 0, text_end: 0 };
-    let f = FieldDesc { form: Form::Rrtype, qualifiers_at: 0, qualifiers_end: 0, text_at: 0, text_end: 0 };
-    Outline { number: number, line: line, header: h, fields: [f; 64], names: [0u16; 64], ends: [0u16; 64], count: 0 }
+    let h = HeaderDesc {
+        name_at: 0,
+        name_end: 0,
+        number: 0,
+        text_at: 0,
+        text_end: 0,
+    };
+    let f = FieldDesc {
+        form: Form::Rrtype,
+        qualifiers_at: 0,
+        qualifiers_end: 0,
+        text_at: 0,
+        text_end: 0,
+    };
+    Outline {
+        number: number,
+        line: line,
+        header: h,
+        fields: [f; 64],
+        names: [0u16; 64],
+        ends: [0u16; 64],
+        count: 0,
+    }
 }
 
 // The judged stanza.
@@ -277,8 +322,20 @@ pub fn judged_outline(s: &[u8]) -> Outline
     if 8192 < s.len() {
         return rejected(1, 0);
     }
-    let mut header = HeaderDesc { name_at: 0, name_end: 0, number: 0, text_at: 0, text_end: 0 };
-    let nothing = FieldDesc { form: Form::Rrtype, qualifiers_at: 0, qualifiers_end: 0, text_at: 0, text_end: 0 };
+    let mut header = HeaderDesc {
+        name_at: 0,
+        name_end: 0,
+        number: 0,
+        text_at: 0,
+        text_end: 0,
+    };
+    let nothing = FieldDesc {
+        form: Form::Rrtype,
+        qualifiers_at: 0,
+        qualifiers_end: 0,
+        text_at: 0,
+        text_end: 0,
+    };
     let mut fields = [nothing; 64];
     let mut names = [0u16; 64];
     let mut ends = [0u16; 64];
@@ -310,7 +367,7 @@ pub fn judged_outline(s: &[u8]) -> Outline
                 fields[n] = f;
                 names[n] = x.name_at;
                 ends[n] = x.name_end;
-                last = is_tail(form);
+                last = tail_after(last, form);
                 n = n + 1;
                 at = e + 1;
                 line = line + 1;
@@ -320,5 +377,13 @@ pub fn judged_outline(s: &[u8]) -> Outline
     if n == 0 {
         return rejected(2, 0);
     }
-    Outline { number: 0, line: 0, header: header, fields: fields, names: names, ends: ends, count: n }
+    Outline {
+        number: 0,
+        line: 0,
+        header: header,
+        fields: fields,
+        names: names,
+        ends: ends,
+        count: n,
+    }
 }

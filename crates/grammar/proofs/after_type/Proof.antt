@@ -40,15 +40,18 @@ returns-3 : tie.Need-returns-3
 returns-3 c = (bad-text (c .before .before .before .before .before .before .before .before .before .before .before .before .args .s .now) (c .before .before .before .before .before .before .before .before .before .before .before .before .args .at) (c .before .before .before .before .before .before .before .before .before .before .before .before .args .e) (c .before .before .before .before .before .before .before .before .before .before .before .before .args .end) (c .before .before .before .before .before .before .before .before .b .given .1) (c .before .before .before .before .before .before .before .before .before .before .bracketed .ensures .0) (c .before .before .before .before .n .given .1) (c .before .before .before .before .before .before .field-name .ensures .0) (c .enum-told3 .given .1) (c .before .before .free-text .ensures .0), tt)
 
 returns-4 : tie.Need-returns-4
-returns-4 c = (line-found (c .before .before .before .before .before .before .before .before .before .before .before .before .before .args .s .now) (c .before .before .before .before .before .before .before .before .before .before .before .before .before .args .at) (c .before .before .before .before .before .before .before .before .before .before .before .before .before .args .e) (c .before .before .before .before .before .before .before .before .before .before .before .before .before .args .end) (c .before .before .before .before .before .before .before .before .before .b .given .1) (c .before .before .before .before .before .before .before .before .before .before .before .bracketed .ensures .0) (c .before .before .before .before .before .n .given .1) (c .before .before .before .before .before .before .before .field-name .ensures .0) (c .before .t .given .1) (c .before .before .before .free-text .ensures .0) (c .before .before .before .before .before .before .before .field-name .ensures .1) (c .before .before .before .before .before .before .before .before .before .before .before .before .before .pre .1), record {
-  type-from = c .before .before .before .before .before .before .before .before .before .before .before .before .before .pre .2;
-  type-to = c .before .before .before .before .before .before .before .before .before .before .before .before .before .pre .0;
-  qualifiers-from = (rw (c .before .before .before .before .before .before .before .before .before .b .given .1) at (c .before .before .before .before .before .before .before .before .before .before .before .bracketed .ensures .1)) .0;
-  qualifiers-to = (rw (c .before .before .before .before .before .before .before .before .before .b .given .1) at (c .before .before .before .before .before .before .before .before .before .before .before .bracketed .ensures .1)) .1;
-  name-from = (rw (c .before .before .before .before .before .n .given .1) at (c .before .before .before .before .before .before .before .field-name .ensures .1)) .0;
-  name-to = (rw (c .before .before .before .before .before .n .given .1) at (c .before .before .before .before .before .before .before .field-name .ensures .1)) .1;
-  text-to = (rw (c .before .t .given .1) at (c .before .before .before .free-text .ensures .1)) .1;
-})
+returns-4 c = (
+  line-found (c .before .before .before .before .before .before .before .before .before .before .before .before .before .args .s .now) (c .before .before .before .before .before .before .before .before .before .before .before .before .before .args .at) (c .before .before .before .before .before .before .before .before .before .before .before .before .before .args .e) (c .before .before .before .before .before .before .before .before .before .before .before .before .before .args .end) (c .before .before .before .before .before .before .before .before .before .b .given .1) (c .before .before .before .before .before .before .before .before .before .before .before .bracketed .ensures .0) (c .before .before .before .before .before .n .given .1) (c .before .before .before .before .before .before .before .field-name .ensures .0) (c .before .t .given .1) (c .before .before .before .free-text .ensures .0) (c .before .before .before .before .before .before .before .field-name .ensures .1) (c .before .before .before .before .before .before .before .before .before .before .before .before .before .pre .1),
+  record {
+    type-from = c .before .before .before .before .before .before .before .before .before .before .before .before .before .pre .2;
+    type-to = c .before .before .before .before .before .before .before .before .before .before .before .before .before .pre .0;
+    qualifiers-from = (rw (c .before .before .before .before .before .before .before .before .before .b .given .1) at (c .before .before .before .before .before .before .before .before .before .before .before .bracketed .ensures .1)) .0;
+    qualifiers-to = (rw (c .before .before .before .before .before .before .before .before .before .b .given .1) at (c .before .before .before .before .before .before .before .before .before .before .before .bracketed .ensures .1)) .1;
+    name-from = (rw (c .before .before .before .before .before .n .given .1) at (c .before .before .before .before .before .before .before .field-name .ensures .1)) .0;
+    name-to = (rw (c .before .before .before .before .before .n .given .1) at (c .before .before .before .before .before .before .before .field-name .ensures .1)) .1;
+    text-to = (rw (c .before .t .given .1) at (c .before .before .before .free-text .ensures .1)) .1;
+  },
+)
 
 pub after-type-spec : {M : Type 1} → statement M
 after-type-spec =

@@ -1,4 +1,4 @@
-use Rattle.stanza.proofs.Verdicts.{line-ignored, line-read, nonblank}
+use Rattle.stanza.proofs.Verdicts.{line-ignored, line-read, nonblank, due}
 use Rattle.stanza.specs.Stanza.{progressOf}
 use mathlib.Core.Path.{_≡_, refl, sym, ap, _∙_}
 use native.Mathlib.Omega.{arith}
@@ -35,7 +35,7 @@ field-step-requires c κs = search needs
 
 -- src/lib.rt:219:9
 returns-2 : tie.Need-returns-2
-returns-2 c = (c .field-step .ensures .0, λ d st. rw (c .before .before .if2 .taken) (line-read (c .before .before .before .before .before .before .before .before .before .args .s .now) (c .before .before .before .before .before .before .before .before .before .args .at) (c .before .before .before .before .before .before .before .before .before .args .e) (c .before .before .before .before .before .skip .result) (c .before .before .before .before .before .before .before .before .before .pre .0) (c .before .before .before .before .before .before .before .before .before .pre .1) (c .before .before .before .before .before .skip .ensures) _ _ (sym (c .before .before .before .before .ignored .ensures) ∙ c .before .before .before .if1 .left) (c .field-step .ensures .1 d st ∙ c .before .field-verdict .ensures .1 d)))
+returns-2 c = (due _ (c .field-step .result) _ (c .before .before .if2 .taken) (c .field-step .ensures .0), λ d st. rw (c .before .before .if2 .taken) (line-read (c .before .before .before .before .before .before .before .before .before .args .s .now) (c .before .before .before .before .before .before .before .before .before .args .at) (c .before .before .before .before .before .before .before .before .before .args .e) (c .before .before .before .before .before .skip .result) (c .before .before .before .before .before .before .before .before .before .pre .0) (c .before .before .before .before .before .before .before .before .before .pre .1) (c .before .before .before .before .before .skip .ensures) _ _ (sym (c .before .before .before .before .ignored .ensures) ∙ c .before .before .before .if1 .left) (c .field-step .ensures .1 d st ∙ c .before .field-verdict .ensures .1 d)))
 
 -- src/lib.rt:221:9
 header-verdict-requires : tie.Need-header-verdict-requires
@@ -55,7 +55,7 @@ returns-3 c = (tt, λ d st. rw (c .before .before .before .before .if2 .left) (l
 
 -- src/lib.rt:208:1
 returns-4 : tie.Need-returns-4
-returns-4 c = (tt, λ d st. rw (c .before .before .before .before .if2 .left) (line-read (c .before .before .before .before .before .before .before .before .before .before .before .args .s .now) (c .before .before .before .before .before .before .before .before .before .before .before .args .at) (c .before .before .before .before .before .before .before .before .before .before .before .args .e) (c .before .before .before .before .before .before .before .skip .result) (c .before .before .before .before .before .before .before .before .before .before .before .pre .0) (c .before .before .before .before .before .before .before .before .before .before .before .pre .1) (c .before .before .before .before .before .before .before .skip .ensures) _ _ (sym (c .before .before .before .before .before .before .ignored .ensures) ∙ c .before .before .before .before .before .if1 .left) (rw (c .before .h2 .given .1) at (c .before .before .before .header-verdict .ensures))))
+returns-4 c = (c .before .before .before .before .if2 .left, λ d st. rw (c .before .before .before .before .if2 .left) (line-read (c .before .before .before .before .before .before .before .before .before .before .before .args .s .now) (c .before .before .before .before .before .before .before .before .before .before .before .args .at) (c .before .before .before .before .before .before .before .before .before .before .before .args .e) (c .before .before .before .before .before .before .before .skip .result) (c .before .before .before .before .before .before .before .before .before .before .before .pre .0) (c .before .before .before .before .before .before .before .before .before .before .before .pre .1) (c .before .before .before .before .before .before .before .skip .ensures) _ _ (sym (c .before .before .before .before .before .before .ignored .ensures) ∙ c .before .before .before .before .before .if1 .left) (rw (c .before .h2 .given .1) at (c .before .before .before .header-verdict .ensures))))
 
 pub line-step-spec : {M : Type 1} → statement M
 line-step-spec =

@@ -1,0 +1,258 @@
+-- The fields that the judge has kept, and the lines that are left.
+use Prim.Native.Nat.{ℕ, zero, suc, _+_, _-_, _≤_, _<_}
+use mathlib.Core.Path.{_≡_, refl, sym, ap, ap₂, _∙_, subst}
+use mathlib.Core.Bool.{Bool, true, false, not, cond, _&&_, _||_, true≢false}
+use mathlib.Core.List.{List, [], _∷_, _++_}
+use native.Mathlib.Omega.{arith}
+use native.Mathlib.Numerals.{add-one}
+use lib.ListN.{length, take, drop, getD, set, length-append, length-set}
+use lib.Seq.{slice, getD-set-same, getD-set-other}
+use lib.Dec.{leb, eqb}
+use borrow.Author.Tests.{le-leb, lt-leb, ne-eqb}
+use mathlib.Core.Option.{Option, none, some}
+use Rattle.format.specs.Lists.{anyOf, null, Spanned, span}
+use Rattle.format.specs.Octets.{blank, inRange}
+use Rattle.format.specs.Grammar.{Header, FieldLine, headerLine, fieldLine}
+use Rattle.format.specs.Types.{Meaning, unknown, forbidden, means, meaning}
+use Rattle.format.specs.Field.{Part, Field, tail}
+use Rattle.format.specs.Lines.{lines}
+use Rattle.format.specs.Judge.{Description, Progress, beforeHeader, afterHeader, Verdict, faulty, goesOn, afterTail, sameName, withField, ofMeaning, ofFieldLine, ofHeader, contentLine, ignored, lineVerdict, Judged, rejected, described, atEnd, afterLine, judgedFrom, judged}
+use Rattle.octets.specs.Octets.{inClass, partIn}
+use Rattle.octets.specs.declared.Class.the-variants.{NotNewline}
+use Rattle.octets.proofs.Slices.{front-within}
+use Rattle.octets.proofs.Lines.{linesFrom, lineEnd, next-line, no-line}
+use Rattle.types.specs.declared.Form.{Form}
+use Rattle.types.specs.Types.{kindIn}
+use Rattle.stanza.specs.declared.FieldDesc.{FieldDesc}
+use Rattle.stanza.specs.declared.HeaderDesc.{HeaderDesc}
+use Rattle.stanza.specs.declared.NewField.{NewField}
+use Rattle.stanza.specs.declared.Outline.{Outline}
+use Rattle.stanza.specs.declared.Step.{Step}
+use Rattle.stanza.specs.declared.Step.the-variants.{Skip, Refuse, Head, Add}
+use Rattle.stanza.specs.Stanza.{headerOf, fieldOf, noField, fieldsFrom, namedFrom, progressOf, Stands, withMore, stepOf, Due, outlineOf}
+
+-- m fields from number k on
+module _ (s : List ℕ) (fs : List FieldDesc) (names ends : List ℕ) where
+  fields-many : (k m : ℕ) → length (fieldsFrom s fs names ends k m) ≡ m
+  fields-many k zero = refl
+  fields-many k (suc m) = ap suc (fields-many (k + 1) m)
+
+  fields-named : (k m : ℕ) (f : Field) (a e : ℕ) → f .fieldName ≡ partIn s a e → anyOf (λ g. sameName g f) (fieldsFrom s fs names ends k m) ≡ namedFrom s names ends a e k m
+  fields-named k zero f a e p = refl
+  fields-named k (suc m) f a e p = rw (fields-named (k + 1) m f a e p, p)
+
+-- one more field at the end
+module _ (s : List ℕ) (fs : List FieldDesc) (names ends : List ℕ) (n : ℕ) (f : FieldDesc) (x y : ℕ) (h : n < length fs) (i : n < length names) (j : n < length ends) where
+  new-field : fieldOf s (getD (set fs n f) n noField) (getD (set names n x) n 0) (getD (set ends n y) n 0) ≡ fieldOf s f x y
+  new-field = rw (getD-set-same fs n f noField h, getD-set-same names n x 0 i, getD-set-same ends n y 0 j)
+
+  old-field : (k : ℕ) → k < n → fieldOf s (getD (set fs n f) k noField) (getD (set names n x) k 0) (getD (set ends n y) k 0) ≡ fieldOf s (getD fs k noField) (getD names k 0) (getD ends k 0)
+  old-field k l = rw (getD-set-other fs n k f noField (λ q. omega arith), getD-set-other names n k x 0 (λ q. omega arith), getD-set-other ends n k y 0 (λ q. omega arith))
+
+  fields-more : (k m : ℕ) → k + m ≡ n → fieldsFrom s (set fs n f) (set names n x) (set ends n y) k (m + 1) ≡ fieldsFrom s fs names ends k m ++ fieldOf s f x y ∷ []
+  fields-more k zero q = let r : k ≡ n = omega arith in rw (r) (ap (λ z. z ∷ []) new-field)
+  fields-more k (suc m) q = let t : suc m + 1 ≡ suc (m + 1) = omega arith in rw (t, old-field k (omega arith), fields-more (k + 1) m (omega arith))
+
+  pub one-field-more : fieldsFrom s (set fs n f) (set names n x) (set ends n y) 0 (n + 1) ≡ fieldsFrom s fs names ends 0 n ++ fieldOf s f x y ∷ []
+  one-field-more = fields-more 0 n (omega arith)
+
+tail-snoc : (fs : List Field) (f : Field) → afterTail (fs ++ f ∷ []) ≡ afterTail fs || tail (f .kind)
+tail-snoc [] f = by (tail (f .kind))
+  where
+    by : (b : Bool) → b || false ≡ b
+    by true = refl
+    by false = refl
+tail-snoc (g ∷ fs) f = by (tail (g .kind)) (tail-snoc fs f)
+  where
+    by : (b : Bool) → afterTail (fs ++ f ∷ []) ≡ afterTail fs || tail (f .kind) → b || afterTail (fs ++ f ∷ []) ≡ (b || afterTail fs) || tail (f .kind)
+    by true e = refl
+    by false e = e
+
+-- How things stand after some lines: the description so far, and the lines from a place on come to what all of them do.
+abbrev pub soFar : List ℕ → HeaderDesc → List FieldDesc → List ℕ → List ℕ → ℕ → Description
+soFar s h fs names ends n = record { header = headerOf s h; fields = fieldsFrom s fs names ends 0 n }
+
+pub record Kept (s : List ℕ) (h : HeaderDesc) (fs : List FieldDesc) (names ends : List ℕ) (n : ℕ) (have last : Bool) (at line : ℕ) : Type 0 where
+  pub all-fields : length fs ≡ 64
+  pub all-names : length names ≡ 64
+  pub all-ends : length ends ≡ 64
+  pub none-yet : have ≡ false → n ≡ 0
+  pub tails : afterTail (fieldsFrom s fs names ends 0 n) ≡ last
+  pub left : judgedFrom line (progressOf have (soFar s h fs names ends n)) (linesFrom s at) ≡ judgedFrom 1 beforeHeader (lines s)
+
+pub stands : {s : List ℕ} {h : HeaderDesc} {fs : List FieldDesc} {names ends : List ℕ} {n : ℕ} {have last : Bool} {at line : ℕ}
+    → Kept s h fs names ends n have last at line → Stands s (soFar s h fs names ends n) last names ends n
+stands {s} {h} {fs} {names} {ends} {n} k = record { many = fields-many s fs names ends 0 n; tails = k .tails; named = λ f a e p. fields-named s fs names ends 0 n f a e p }
+
+-- the first line of those that are left
+module _ (s : List ℕ) (p : Progress) (at line : ℕ) (l : at < length s) where
+  one-line : judgedFrom line p (linesFrom s at) ≡ afterLine (lineVerdict p (partIn s at (lineEnd s at))) line (λ t. judgedFrom (line + 1) t (linesFrom s (lineEnd s at + 1)))
+  unfolding judgedFrom
+  one-line = rw (next-line s at l, add-one line)
+
+  pub after-step : (r : Step) (q : Progress) → stepOf s p r ≡ lineVerdict p (partIn s at (lineEnd s at)) → stepOf s p r ≡ goesOn q → judgedFrom (line + 1) q (linesFrom s (lineEnd s at + 1)) ≡ judgedFrom line p (linesFrom s at)
+  after-step r q e g = sym (one-line ∙ ap (λ v. afterLine v line (λ t. judgedFrom (line + 1) t (linesFrom s (lineEnd s at + 1)))) (sym e ∙ g))
+
+  pub after-refusal : (n : ℕ) → stepOf s p (Refuse n) ≡ lineVerdict p (partIn s at (lineEnd s at)) → judgedFrom line p (linesFrom s at) ≡ rejected n line
+  after-refusal n e = one-line ∙ ap (λ v. afterLine v line (λ t. judgedFrom (line + 1) t (linesFrom s (lineEnd s at + 1)))) (sym e)
+
+-- a faulty line's number is not 0
+abbrev Numbered : Verdict → Type 0
+Numbered (faulty n) = 1 ≤ n
+Numbered (goesOn p) = Unit {0}
+
+numbered-cond : (b : Bool) (v w : Verdict) → Numbered v → Numbered w → Numbered (cond b v w)
+numbered-cond true v w h k = h
+numbered-cond false v w h k = k
+
+field-numbered : (d : Description) (f : Field) → Numbered (withField d f)
+field-numbered d f =
+    numbered-cond (afterTail (d .fields) || anyOf (λ g. sameName g f) (d .fields)) (faulty 4) _ (omega arith)
+    (numbered-cond (leb 64 (length (d .fields))) (faulty 5) _ (omega arith) tt)
+
+meaning-numbered : (d : Description) (l : FieldLine) (m : Meaning) → Numbered (ofMeaning d l m)
+meaning-numbered d l unknown = omega arith
+meaning-numbered d l forbidden = omega arith
+meaning-numbered d l (means k) = field-numbered d (record { kind = k; fieldName = l .title; freeText = l .text })
+
+content-numbered : (p : Progress) (b : Bool) (e : ℕ) (t : List ℕ) → Numbered (contentLine p b e t)
+content-numbered beforeHeader true e t = omega arith
+content-numbered beforeHeader false e t = by (headerLine e t)
+  where
+    by : (o : Option Header) → Numbered (ofHeader o)
+    by none = omega arith
+    by (some h) = numbered-cond (inRange 1 65535 (h .typeNo)) _ (faulty 4) tt (omega arith)
+content-numbered (afterHeader d) true e t = by (fieldLine e t)
+  where
+    by : (o : Option FieldLine) → Numbered (ofFieldLine d o)
+    by none = omega arith
+    by (some l) = meaning-numbered d l (meaning (l .keyword) (l .qualifiers))
+content-numbered (afterHeader d) false e t = omega arith
+
+line-numbered : (p : Progress) (l : Part) → Numbered (lineVerdict p l)
+line-numbered p l =
+    numbered-cond (ignored (span blank (l .octets) .rest)) (goesOn p) _ tt
+    (content-numbered p (not (null (span blank (l .octets) .front))) (l .place + length (l .octets)) (span blank (l .octets) .rest))
+
+pub fault-number : (n : ℕ) (p : Progress) (l : Part) → faulty n ≡ lineVerdict p l → 1 ≤ n
+fault-number n p l e = by (lineVerdict p l) (line-numbered p l) e
+  where
+    by : (v : Verdict) → Numbered v → faulty n ≡ v → 1 ≤ n
+    by (faulty m) h q = let z : n ≡ m = cc in omega arith
+    by (goesOn t) h q = let z : _≡_ {A = ℕ} 0 1 = cc in absurd (omega arith)
+
+-- from one line to the next
+pub kept-start : (s : List ℕ) (h : HeaderDesc) (fs : List FieldDesc) (names ends : List ℕ) → length fs ≡ 64 → length names ≡ 64 → length ends ≡ 64 → Kept s h fs names ends 0 false false 0 1
+kept-start s h fs names ends a b c = record { all-fields = a; all-names = b; all-ends = c; none-yet = λ q. refl; tails = refl; left = refl }
+
+module _ {s : List ℕ} {h : HeaderDesc} {fs : List FieldDesc} {names ends : List ℕ} {n : ℕ} {have last : Bool} {at line : ℕ} (k : Kept s h fs names ends n have last at line) (l : at < length s) where
+  pub kept-skip : goesOn (progressOf have (soFar s h fs names ends n)) ≡ lineVerdict (progressOf have (soFar s h fs names ends n)) (partIn s at (lineEnd s at)) → Kept s h fs names ends n have last (lineEnd s at + 1) (line + 1)
+  kept-skip e = record {
+    all-fields = k .all-fields;
+    all-names = k .all-names;
+    all-ends = k .all-ends;
+    none-yet = k .none-yet;
+    tails = k .tails;
+    left = after-step s (progressOf have (soFar s h fs names ends n)) at line l Skip (progressOf have (soFar s h fs names ends n)) e refl ∙ k .left;
+  }
+
+  pub kept-head : (x : HeaderDesc) → have ≡ false → stepOf s (progressOf have (soFar s h fs names ends n)) (Head x) ≡ lineVerdict (progressOf have (soFar s h fs names ends n)) (partIn s at (lineEnd s at))
+      → Kept s x fs names ends n true last (lineEnd s at + 1) (line + 1)
+  kept-head x q e = record {
+    all-fields = k .all-fields;
+    all-names = k .all-names;
+    all-ends = k .all-ends;
+    none-yet = λ z. absurd (true≢false z);
+    tails = k .tails;
+    left = rw none-so-far (after-step s (progressOf have (soFar s h fs names ends n)) at line l (Head x) (afterHeader (record { header = headerOf s x; fields = [] })) e refl ∙ k .left);
+  }
+    where
+      none-so-far : fieldsFrom s fs names ends 0 n ≡ []
+      none-so-far = rw (k .none-yet q)
+
+  pub kept-add : (f : NewField) (b : Bool) → n < 64 → have ≡ true → b ≡ last || tail (kindIn s (f .field .«qualifiers_at») (f .field .«qualifiers_end») (f .field .form))
+      → stepOf s (progressOf have (soFar s h fs names ends n)) (Add f) ≡ lineVerdict (progressOf have (soFar s h fs names ends n)) (partIn s at (lineEnd s at))
+      → Kept s h (set fs n (f .field)) (set names n (f .«name_at»)) (set ends n (f .«name_end»)) (n + 1) have b (lineEnd s at + 1) (line + 1)
+  kept-add f b m q t e = record {
+    all-fields = length-set fs n (f .field) ∙ k .all-fields;
+    all-names = length-set names n (f .«name_at») ∙ k .all-names;
+    all-ends = length-set ends n (f .«name_end») ∙ k .all-ends;
+    none-yet = λ z. absurd (true≢false (sym q ∙ z));
+    tails = ap afterTail more ∙ tail-snoc (fieldsFrom s fs names ends 0 n) new ∙ ap (λ c. c || tail (new .kind)) (k .tails) ∙ sym t;
+    left = ap (λ gs. judgedFrom (line + 1) (progressOf have (record { header = headerOf s h; fields = gs })) (linesFrom s (lineEnd s at + 1))) more
+        ∙ after-step s (progressOf have (soFar s h fs names ends n)) at line l (Add f) (progressOf have (record { header = headerOf s h; fields = fieldsFrom s fs names ends 0 n ++ new ∷ [] })) e added ∙ k .left;
+  }
+    where
+      new : Field
+      new = fieldOf s (f .field) (f .«name_at») (f .«name_end»)
+
+      more : fieldsFrom s (set fs n (f .field)) (set names n (f .«name_at»)) (set ends n (f .«name_end»)) 0 (n + 1) ≡ fieldsFrom s fs names ends 0 n ++ new ∷ []
+      more = one-field-more s fs names ends n (f .field) (f .«name_at») (f .«name_end») (omega (arith, k .all-fields)) (omega (arith, k .all-names)) (omega (arith, k .all-ends))
+
+      added : stepOf s (progressOf have (soFar s h fs names ends n)) (Add f) ≡ goesOn (progressOf have (record { header = headerOf s h; fields = fieldsFrom s fs names ends 0 n ++ new ∷ [] }))
+      added = rw q
+
+  pub kept-refused : (m : ℕ) → faulty m ≡ lineVerdict (progressOf have (soFar s h fs names ends n)) (partIn s at (lineEnd s at)) → rejected m line ≡ judgedFrom 1 beforeHeader (lines s)
+  kept-refused m e = sym (after-refusal s (progressOf have (soFar s h fs names ends n)) at line l m e) ∙ k .left
+
+-- at the end
+module _ {s : List ℕ} {h : HeaderDesc} {fs : List FieldDesc} {names ends : List ℕ} {n : ℕ} {have last : Bool} {at line : ℕ} (k : Kept s h fs names ends n have last at line) (l : length s ≤ at) where
+  at-the-end : atEnd (progressOf have (soFar s h fs names ends n)) ≡ judgedFrom 1 beforeHeader (lines s)
+  unfolding judgedFrom
+  at-the-end = rw (no-line s at l) at (k .left)
+
+  pub no-fields : n ≡ 0 → rejected 2 0 ≡ judgedFrom 1 beforeHeader (lines s)
+  no-fields q = by have (rw q at at-the-end)
+    where
+      by : (b : Bool) → atEnd (progressOf b (soFar s h fs names ends 0)) ≡ judgedFrom 1 beforeHeader (lines s) → rejected 2 0 ≡ judgedFrom 1 beforeHeader (lines s)
+      by true e = e
+      by false e = e
+
+  pub some-fields : (n ≡ 0 → ⊥) → described (soFar s h fs names ends n) ≡ judgedFrom 1 beforeHeader (lines s)
+  some-fields q = by have refl n refl
+    where
+      by : (b : Bool) → have ≡ b → (m : ℕ) → n ≡ m → described (soFar s h fs names ends n) ≡ judgedFrom 1 beforeHeader (lines s)
+      by false e m z = absurd (q (k .none-yet e))
+      by true e zero z = absurd (q z)
+      by true e (suc m) z = rw z (rw (e, z) at at-the-end)
+
+-- the whole stanza
+pub judged-lines : (s : List ℕ) → length s ≤ 8192 → judged s ≡ judgedFrom 1 beforeHeader (lines s)
+unfolding judged
+judged-lines s h = rw (le-leb (length s) 8192 h)
+
+pub judged-long : (s : List ℕ) → 8192 < length s → judged s ≡ rejected 1 0
+unfolding judged
+judged-long s h = rw (lt-leb (length s) 8192 h)
+
+-- a turn of the loop: what the line from `at` to e does
+module _ {s : List ℕ} {h : HeaderDesc} {fs : List FieldDesc} {names ends : List ℕ} {n : ℕ} {have last : Bool} {at line : ℕ} (k : Kept s h fs names ends n have last at line) (l : at < length s)
+    (e : ℕ) (w : e ≡ lineEnd s at) (r : Step) (u : Due have n r)
+    (g : (d : Description) → Stands s d last names ends n → stepOf s (progressOf have d) r ≡ lineVerdict (progressOf have d) (partIn s at e)) where
+  here : stepOf s (progressOf have (soFar s h fs names ends n)) r ≡ lineVerdict (progressOf have (soFar s h fs names ends n)) (partIn s at (lineEnd s at))
+  here = rw w at (g (soFar s h fs names ends n) (stands k))
+
+  pub turn-skip : r ≡ Skip → Kept s h fs names ends n have last (e + 1) (line + 1)
+  turn-skip q = rw w (kept-skip k l (rw q at here))
+
+  pub turn-head : {x : HeaderDesc} → r ≡ Head x → Kept s x fs names ends n true last (e + 1) (line + 1)
+  turn-head {x} q = rw w (kept-head k l x (subst (Due have n) q u) (rw q at here))
+
+  pub turn-add : {f : NewField} → r ≡ Add f → (b : Bool) → b ≡ last || tail (kindIn s (f .field .«qualifiers_at») (f .field .«qualifiers_end») (f .field .form))
+      → Kept s h (set fs n (f .field)) (set names n (f .«name_at»)) (set ends n (f .«name_end»)) (n + 1) have b (e + 1) (line + 1)
+  turn-add {f} q b t = let z : Due have n (Add f) = subst (Due have n) q u in rw w (kept-add k l f b (z .0) (z .1) t (rw q at here))
+
+  pub add-room : {f : NewField} → r ≡ Add f → n < 64
+  add-room {f} q = let z : Due have n (Add f) = subst (Due have n) q u in z .0
+
+  pub turn-refuse : {m : ℕ} → r ≡ Refuse m → (1 ≤ m) × (rejected m line ≡ judgedFrom 1 beforeHeader (lines s))
+  turn-refuse {m} q =
+      let z : faulty m ≡ lineVerdict (progressOf have (soFar s h fs names ends n)) (partIn s at (lineEnd s at)) = rw q at here in
+      (fault-number m (progressOf have (soFar s h fs names ends n)) (partIn s at (lineEnd s at)) z, kept-refused k l m z)
+
+pub line-within : (s : List ℕ) (at e : ℕ) → at < length s → e ≡ lineEnd s at → (at ≤ e) × (e ≤ length s)
+line-within s at e h w = (omega arith, rw w (front-within (inClass NotNewline) s at (length s) (omega arith) (omega arith)))
+
+-- an outline of a refusal
+pub refused-outline : (s : List ℕ) (o : Outline) (number line : ℕ) → (o .number ≡ number) × (o .line ≡ line) → 1 ≤ number → outlineOf s o ≡ rejected number line
+refused-outline s o number line q h = rw (q .0, q .1, ne-eqb number 0 (λ z. omega arith))
