@@ -33,7 +33,7 @@ use Rattle.stanza.specs.Stanza.{headerOf, fieldOf, noField, fieldsFrom, 
 
 -- m fields from number k on
 module _ (s : List ℕ) (fs : List FieldDesc) (names ends : List ℕ) where
-  fields-many : (k m : ℕ) → length (fieldsFrom s fs names ends k m) ≡ m
+  pub fields-many : (k m : ℕ) → length (fieldsFrom s fs names ends k m) ≡ m
   fields-many k zero = refl
   fields-many k (suc m) = ap suc (fields-many (k + 1) m)
 

@@ -1,0 +1,45 @@
+-- What the judged outline answers.
+use Prim.Native.Nat.{ℕ, zero, suc, _≤_, _<_}
+use mathlib.Core.Path.{_≡_, refl, sym, ap, _∙_}
+use mathlib.Core.Bool.{Bool, true, false, cond}
+use mathlib.Core.List.{List, [], _∷_}
+use native.Mathlib.Omega.{arith}
+use lib.ListN.{length}
+use lib.Dec.{eqb}
+use borrow.Author.Tests.{eq-eqb, ne-eqb}
+use Rattle.format.specs.Field.{Field}
+use Rattle.format.specs.Judge.{Description, Judged, rejected, described, judged}
+use Rattle.format.specs.Entries.{Outcome, judgeOutcome, judge}
+use Rattle.format.proofs.Judge.{judges}
+use Rattle.stanza.specs.declared.Outline.{Outline}
+use Rattle.stanza.specs.Stanza.{descriptionOf, outlineOf}
+use Rattle.stanza.proofs.Outlines.{fields-many}
+
+module _ (s : List ℕ) (o : Outline) (q : outlineOf s o ≡ judged s) where
+  accepted : o .number ≡ 0 → judged s ≡ described (descriptionOf s o)
+  accepted h = sym q ∙ rw (eq-eqb (o .number) 0 h)
+
+  many : length (descriptionOf s o .fields) ≡ o .count
+  many = fields-many s (o .fields) (o .names) (o .ends) 0 (o .count)
+
+  pub accepted-count : o .number ≡ 0 → o .count ≤ 64
+  accepted-count h = omega (arith, judges s (descriptionOf s o) (accepted h) .most-fields, many)
+
+  pub accepted-number : o .number ≡ 0 → 0 ≡ judge s .number
+  unfolding judge
+  accepted-number h = rw (accepted h)
+
+  pub accepted-place : o .number ≡ 0 → o .count ≡ judge s .place
+  unfolding judge
+  accepted-place h = rw (accepted h) (sym many)
+
+  refused : (o .number ≡ 0 → ⊥) → judged s ≡ rejected (o .number) (o .line)
+  refused h = sym q ∙ rw (ne-eqb (o .number) 0 h)
+
+  pub refused-number : (o .number ≡ 0 → ⊥) → o .number ≡ judge s .number
+  unfolding judge
+  refused-number h = rw (refused h)
+
+  pub refused-place : (o .number ≡ 0 → ⊥) → o .line ≡ judge s .place
+  unfolding judge
+  refused-place h = rw (refused h)
