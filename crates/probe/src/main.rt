@@ -1,0 +1,478 @@
+// Answers request lines, one line each:
+//
+//     J STANZA -> NUMBER PLACE      (PLACE is the count of fields where NUMBER is 0)
+//
+// The stanza's octets are in hex of either case, '-' for none; one space parts two words. A line
+// that is no request, or has more than 2,200,000 octets, answers '?'. The last line may lack its LF.
+ghost use mathlib.Core.Path.{_≡_};
+ghost use Prim.Native.Nat.{_+_, _≤_, _<_};
+ghost use lib.ListN.{length};
+use libc::STDIN_FILENO;
+use libc::STDOUT_FILENO;
+
+// The longest line that may be a request, without its LF.
+const LONGEST: usize = 2200000;
+
+// The most that one read takes.
+const PIECE: usize = 65536;
+
+// A line that is not whole yet, and a piece.
+const SPACE: usize = 2265536;
+
+// The room for answers, and the most that one answer takes of it.
+const ROOM: usize = 65536;
+
+const ANSWER: usize = 64;
+
+// How much of the room is taken. Once a write has failed, nothing more is written.
+struct Output {
+    taken: usize,
+    open: bool,
+}
+
+// A word that spells octets, and how many they are.
+struct Word {
+    good: bool,
+    count: usize,
+}
+
+// What is left when the whole lines are answered: the rest starts at start, and where long it
+// belongs to a line that was answered already.
+struct Rest {
+    start: usize,
+    long: bool,
+    output: Output,
+}
+
+// Between two reads: how many octets are kept of a line that is not whole yet, or, where long, that
+// the line was answered already and is skipped up to its LF.
+struct State {
+    kept: usize,
+    long: bool,
+    going: bool,
+}
+
+// The value of a hex digit of either case, and 16 of any other octet.
+fn hex_value(b: u8) -> u8 {
+    if b < b'0' {
+        return 16;
+    }
+    if b <= b'9' {
+        return b - b'0';
+    }
+    if b < b'A' {
+        return 16;
+    }
+    if b <= b'F' {
+        return b - b'A' + 10;
+    }
+    if b < b'a' {
+        return 16;
+    }
+    if b <= b'f' {
+        return b - b'a' + 10;
+    }
+    16
+}
+
+// The values of all octets, made once, so that each digit costs one look.
+fn hex_values() -> [u8; 256] {
+    let mut values = [16u8; 256];
+    let mut i: usize = 0;
+    while i < 256 {
+        values[i] = hex_value(i as u8);
+        i = i + 1;
+    }
+    values
+}
+
+fn wide(b: u8) -> usize
+    ensures { λ r. ⌜ r < 256 ⌝ }
+{
+    b as usize
+}
+
+// Puts the octets that the digits of word spell at its own start.
+fn unhex(values: &[u8; 256], word: &mut [u8]) -> Word
+    ensures { λ r. ⌜ r .count ≤ length (now (word .exit)) ⌝ }
+{
+    let n = word.len() / 2;
+    if n * 2 < word.len() {
+        return Word {
+            good: false,
+            count: 0,
+        };
+    }
+    let mut i = 0;
+    while i < n {
+        let high = values[wide(word[i * 2])];
+        let low = values[wide(word[i * 2 + 1])];
+        if 15 < high {
+            return Word {
+                good: false,
+                count: 0,
+            };
+        }
+        if 15 < low {
+            return Word {
+                good: false,
+                count: 0,
+            };
+        }
+        word[i] = high * 16 + low;
+        i = i + 1;
+    }
+    Word {
+        good: true,
+        count: n,
+    }
+}
+
+// The octets that a word spells, put at its own start.
+fn octets(values: &[u8; 256], word: &mut [u8]) -> Word
+    ensures { λ r. ⌜ r .count ≤ length (now (word .exit)) ⌝ }
+{
+    if word.len() < 1 {
+        return Word {
+            good: false,
+            count: 0,
+        };
+    }
+    if word.len() == 1 {
+        return Word {
+            good: word[0] == b'-',
+            count: 0,
+        };
+    }
+    unhex(values, word)
+}
+
+// How many decimal digits a number has.
+fn digit_count(number: u32) -> usize
+    ensures { λ r. ⌜ r ≤ 10 ⌝ }
+{
+    let mut rest = number / 10;
+    let mut n = 1;
+    while n < 10 {
+        if rest == 0 {
+            return n;
+        }
+        rest = rest / 10;
+        n = n + 1;
+    }
+    n
+}
+
+// Puts a number's decimal digits at taken, and answers where they end.
+fn put_decimal(out: &mut [u8], taken: usize, number: u32) -> usize
+    requires { ⌜ taken + 10 ≤ length (now out) ⌝ }
+    ensures { λ r. ⌜ (taken ≤ r) × (r ≤ taken + 10) ⌝ }
+{
+    let n = digit_count(number);
+    let mut i = n;
+    let mut rest = number;
+    while i > 0 {
+        i = i - 1;
+        out[taken + i] = b'0' + (rest % 10) as u8;
+        rest = rest / 10;
+    }
+    taken + n
+}
+
+fn put(out: &mut [u8], taken: usize, b: u8)
+    requires { ⌜ taken < length (now out) ⌝ }
+{
+    out[taken] = b;
+}
+
+// Puts the answer to a request at taken, and answers where it ends.
+fn put_reply(out: &mut [u8], taken: usize, number: u32, place: u32) -> usize
+    requires { ⌜ taken + 64 ≤ length (now out) ⌝ }
+    ensures { λ r. ⌜ r ≤ taken + 64 ⌝ }
+{
+    let space = put_decimal(out, taken, number);
+    put(out, space, b' ');
+    let end = put_decimal(out, space + 1, place);
+    put(out, end, b'\n');
+    end + 1
+}
+
+// Puts the answer to a line that is no request.
+fn put_unknown(out: &mut [u8], taken: usize) -> usize
+    requires { ⌜ taken + 64 ≤ length (now out) ⌝ }
+    ensures { λ r. ⌜ r ≤ taken + 64 ⌝ }
+{
+    put(out, taken, b'?');
+    put(out, taken + 1, b'\n');
+    taken + 2
+}
+
+// Puts the answer to the request to judge the stanza that word spells.
+fn put_judged(values: &[u8; 256], word: &mut [u8], out: &mut [u8], taken: usize) -> usize
+    requires { ⌜ taken + 64 ≤ length (now out) ⌝ }
+    ensures { λ r. ⌜ r ≤ taken + 64 ⌝ }
+{
+    let stanza = octets(values, word);
+    let n = stanza.count;
+    if stanza.good {
+        let reply = extlang::judge(&word[0..n]);
+        put_reply(out, taken, reply.number, reply.place)
+    } else {
+        put_unknown(out, taken)
+    }
+}
+
+// Puts the answer to a line, which is without its LF. The line's octets may change.
+fn answer_line(values: &[u8; 256], line: &mut [u8], out: &mut [u8], taken: usize) -> usize
+    requires { ⌜ taken + 64 ≤ length (now out) ⌝ }
+    ensures { λ r. ⌜ r ≤ taken + 64 ⌝ }
+{
+    if line.len() < 2 {
+        return put_unknown(out, taken);
+    }
+    if LONGEST < line.len() {
+        return put_unknown(out, taken);
+    }
+    if line[1] != b' ' {
+        return put_unknown(out, taken);
+    }
+    if line[0] == b'J' {
+        return put_judged(values, &mut line[2..], out, taken);
+    }
+    put_unknown(out, taken)
+}
+
+// Writes the answers that are in the room.
+fn flush(out: &[u8], output: Output) -> Output
+    requires { ⌜ output .taken ≤ length (now out) ⌝ }
+    ensures { λ r. ⌜ r .taken ≡ 0 ⌝ }
+{
+    let taken = output.taken;
+    if output.open {
+        let open = io::write_all(STDOUT_FILENO, &out[0..taken]);
+        return Output {
+            taken: 0,
+            open: open,
+        };
+    }
+    Output {
+        taken: 0,
+        open: false,
+    }
+}
+
+// Sees that the room has space for one answer more.
+fn make_room(out: &[u8], output: Output) -> Output
+    requires { ⌜ (output .taken ≤ length (now out)) × (64 ≤ length (now out)) ⌝ }
+    ensures { λ r. ⌜ r .taken + 64 ≤ length (now (out .entry)) ⌝ }
+{
+    if out.len() - output.taken < ANSWER {
+        return flush(out, output);
+    }
+    output
+}
+
+// Answers a line, unless it is the end of one that was answered already.
+fn answer(values: &[u8; 256], line: &mut [u8], long: bool, out: &mut [u8], output: Output) -> Output
+    requires { ⌜ (output .taken ≤ length (now out)) × (64 ≤ length (now out)) ⌝ }
+    ensures { λ r. ⌜ r .taken ≤ length (now (out .entry)) ⌝ }
+{
+    if long {
+        return output;
+    }
+    let roomy = make_room(out, output);
+    let taken = answer_line(values, line, out, roomy.taken);
+    Output {
+        taken: taken,
+        open: roomy.open,
+    }
+}
+
+// Whether one of the 32 octets from i on is an LF. All are looked at, so that it is done with a few
+// wide instructions.
+fn has_line_end(s: &[u8], i: usize) -> bool
+    requires { ⌜ i + 32 ≤ length (now s) ⌝ }
+{
+    let mut found = false;
+    let mut k = 0;
+    while k < 32 {
+        found = found | (s[i + k] == b'\n');
+        k = k + 1;
+    }
+    found
+}
+
+// A place from i on that no LF lies before, and that has one within 32 octets or the end.
+fn near_line_end(s: &[u8], i: usize) -> usize
+    requires { ⌜ i ≤ length (now s) ⌝ }
+    ensures { λ r. ⌜ (i ≤ r) × (r ≤ length (now (s .entry))) ⌝ }
+{
+    let mut j = i;
+    while 32 <= s.len() - j {
+        if has_line_end(s, j) {
+            return j;
+        }
+        j = j + 32;
+    }
+    j
+}
+
+// The place of the first LF from i on, or the length where there is none.
+fn line_end(s: &[u8], i: usize) -> usize
+    requires { ⌜ i ≤ length (now s) ⌝ }
+    ensures { λ r. ⌜ (i ≤ r) × (r ≤ length (now (s .entry))) ⌝ }
+{
+    let mut j = near_line_end(s, i);
+    while j < s.len() {
+        if s[j] == b'\n' {
+            return j;
+        }
+        j = j + 1;
+    }
+    j
+}
+
+// Answers the whole lines of buf, whose first kept octets have no LF.
+fn answer_lines(values: &[u8; 256], buf: &mut [u8], kept: usize, long: bool, out: &mut [u8]) -> Rest
+    requires { ⌜ (kept ≤ length (now buf)) × (64 ≤ length (now out)) ⌝ }
+    ensures { λ r. ⌜ (r .start ≤ length (now (buf .entry))) × (r .output .taken ≤ length (now (out .entry))) ⌝ }
+{
+    let mut start = 0;
+    let mut skipping = long;
+    let mut output = Output {
+        taken: 0,
+        open: true,
+    };
+    let mut end = line_end(buf, kept);
+    while end < buf.len() {
+        output = answer(values, &mut buf[start..end], skipping, out, output);
+        skipping = false;
+        start = end + 1;
+        end = line_end(buf, start);
+    }
+    Rest {
+        start: start,
+        long: skipping,
+        output: output,
+    }
+}
+
+// Moves the octets of buf from start on to its front. Where they are there already nothing is
+// done, so that a long line, which comes in many pieces, is not copied again with each.
+fn move_down(buf: &mut [u8], start: usize)
+    requires { ⌜ start ≤ length (now buf) ⌝ }
+{
+    if start == 0 {
+        return;
+    }
+    let n = buf.len() - start;
+    let mut i = 0;
+    while i < n {
+        buf[i] = buf[start + i];
+        i = i + 1;
+    }
+}
+
+// Ends a turn: writes the answers.
+fn settle(out: &[u8], output: Output, kept: usize, long: bool) -> State
+    requires { ⌜ output .taken ≤ length (now out) ⌝ }
+    ensures { λ r. ⌜ r .kept ≡ kept ⌝ }
+{
+    let done = flush(out, output);
+    State {
+        kept: kept,
+        long: long,
+        going: done.open,
+    }
+}
+
+// Keeps what follows the last LF of buf. Where that is too long already it is answered, and dropped.
+fn keep_rest(buf: &mut [u8], rest: Rest, out: &mut [u8]) -> State
+    requires { ⌜ (rest .start ≤ length (now buf)) × (rest .output .taken ≤ length (now out)) × (64 ≤ length (now out)) ⌝ }
+    ensures { λ r. ⌜ r .kept ≤ 2200000 ⌝ }
+{
+    let start = rest.start;
+    let output = rest.output;
+    let n = buf.len() - start;
+    if rest.long {
+        return settle(out, output, 0, true);
+    }
+    if LONGEST < n {
+        let roomy = make_room(out, output);
+        let taken = put_unknown(out, roomy.taken);
+        let answered = Output {
+            taken: taken,
+            open: roomy.open,
+        };
+        return settle(out, answered, 0, true);
+    }
+    move_down(buf, start);
+    settle(out, output, n, false)
+}
+
+// Answers the last line, where it has no LF.
+fn finish(values: &[u8; 256], line: &mut [u8], long: bool, out: &mut [u8])
+    requires { ⌜ 64 ≤ length (now out) ⌝ }
+{
+    if line.len() > 0 {
+        let output = answer(
+            values,
+            line,
+            long,
+            out,
+            Output {
+                taken: 0,
+                open: true,
+            },
+        );
+        flush(out, output);
+    }
+}
+
+// Reads once, and answers the lines that are whole by then.
+fn turn(values: &[u8; 256], buf: &mut [u8], out: &mut [u8], state: State) -> State
+    requires { ⌜ (state .kept ≤ 2200000) × (2265536 ≤ length (now buf)) × (64 ≤ length (now out)) ⌝ }
+    ensures { λ r. ⌜ r .kept ≤ 2200000 ⌝ }
+{
+    let kept = state.kept;
+    let most = kept + PIECE;
+    let got = libc::read(STDIN_FILENO, &mut buf[kept..most]);
+    let n = io::count(got, &buf[kept..most]);
+    if n == 0 {
+        finish(values, &mut buf[0..kept], state.long, out);
+        return State {
+            kept: 0,
+            long: false,
+            going: false,
+        };
+    }
+    let end = kept + n;
+    let rest = answer_lines(values, &mut buf[0..end], kept, state.long, out);
+    keep_rest(&mut buf[0..end], rest, out)
+}
+
+// A proved loop has to end, and nothing says that the input does. So the loop counts its turns
+// down, from a number that no run uses up.
+fn run(values: &[u8; 256], buf: &mut [u8; SPACE], out: &mut [u8; ROOM]) {
+    let mut state = State {
+        kept: 0,
+        long: false,
+        going: true,
+    };
+    let mut turns = u64::MAX;
+    while turns > 0 {
+        state = turn(values, buf, out, state);
+        if state.going {
+            turns = turns - 1;
+        } else {
+            return;
+        }
+    }
+}
+
+fn main() {
+    let values = hex_values();
+    let mut buf = [0u8; SPACE];
+    let mut out = [0u8; ROOM];
+    run(&values, &mut buf, &mut out);
+}
