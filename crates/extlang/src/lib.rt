@@ -17,9 +17,15 @@ pub fn judge(s: &[u8]) -> Reply
     let o = stanza::judged_outline(s);
     let n = o.number;
     if n == 0 {
-        return Reply { number: 0, place: o.count as u32 };
+        return Reply {
+            number: 0,
+            place: o.count as u32,
+        };
     }
-    Reply { number: n as u32, place: o.line as u32 }
+    Reply {
+        number: n as u32,
+        place: o.line as u32,
+    }
 }
 
 // The same for C: the number in the upper 32 bits, the place or the count in the lower.
