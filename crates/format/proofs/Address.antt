@@ -8,15 +8,15 @@ use native.Mathlib.Omega.{arith}
 use lib.ListN.{length, drop, length-append, length-map, replicate, length-replicate, length-drop}
 use lib.Dec.{leb, ltb, eqb}
 use borrow.Author.Tests.{le-leb, eqb-true, ltb-false, leb-true, eqb-false}
-use Rattle.format.specs.Lists.{_>>=_, eachOf}
-use Rattle.format.specs.Octets.{Below}
+use Rattle.format.specs.Lists.{_>>=_, eachOf, exactly}
+use Rattle.format.specs.Octets.{Below, splitOn}
 use Rattle.format.specs.Field.{a4, aa, aaaa}
 use Rattle.format.specs.Digits.{digits, withoutZeros, lowerDigit, digitValue}
 use Rattle.format.specs.Number.{decimal}
 use Rattle.format.specs.Token.{between, scanned, plain}
-use Rattle.format.specs.Address.{smallNumber, exactly, splitOn, readA, groups, groupOctets, groupText, colons, groupOf, readAA, zerosAt, longestZeros, beforeRun, afterRun, aaaaText, groupsOf, sideOf, Doubled, single, double, intoBefore, atDoubleColon, eightGroups, readAAAA}
+use Rattle.format.specs.Address.{smallNumber, readA, groups, groupOctets, groupText, colons, groupOf, readAA, zerosAt, longestZeros, beforeRun, afterRun, aaaaText, groupsOf, sideOf, Doubled, single, double, intoBefore, atDoubleColon, eightGroups, readAAAA}
 use Rattle.format.specs.Run.{shown, got, oneBare, readField}
-use Rattle.format.proofs.Lists.{not-true, bind-some, provided-some}
+use Rattle.format.proofs.Lists.{not-true, bind-some, provided-some, below-parts}
 use Rattle.format.proofs.Finite.{at-each}
 use Rattle.format.proofs.Digits.{digits-below, digits-length, number-digits, digits-number, zeros-number, zeros-below, zeros-length, chars-back}
 use Rattle.format.proofs.Wire.{octets-taken}
@@ -201,10 +201,6 @@ run-split (g ∷ gs) m e h = by (eqb (zerosAt (g ∷ gs)) m) refl (λ f. run-spl
       where
         apart : (z : ℕ) → (z ≡ m → ⊥) → max z (longestZeros gs) ≡ m → longestZeros gs ≡ m
         apart z n q = omega arith
-
-below-parts : (m : ℕ) (xs ys : List ℕ) → Below m (xs ++ ys) → Below m xs × Below m ys
-below-parts m [] ys h = (tt, h)
-below-parts m (x ∷ xs) ys h = let r = below-parts m xs ys (h .1) in ((h .0, r .0), r .1)
 
 double-at : (b u : List ℕ) → atDoubleColon (colons b ++ 58 ∷ 58 ∷ u) ≡ double (colons b) u
 double-at [] u = refl

@@ -4,9 +4,9 @@ use mathlib.Core.Path.{refl}
 use mathlib.Core.List.{List, map}
 use native.Mathlib.Omega.{arith}
 use Rattle.format.specs.Lists.{eachOf}
+use Rattle.format.specs.Octets.{splitOn}
 use Rattle.format.specs.Field.{eui}
 use Rattle.format.specs.Digits.{digits, lowerDigit}
-use Rattle.format.specs.Address.{splitOn}
 use Rattle.format.specs.Hex.{hexPair}
 use Rattle.format.specs.Eui.{readEui}
 use Rattle.format.specs.Run.{shown, readField}

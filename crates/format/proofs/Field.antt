@@ -8,12 +8,11 @@ use native.Mathlib.Omega.{arith}
 use lib.ListN.{length, length-append, length-map}
 use lib.Dec.{leb, ltb, eqb}
 use borrow.Author.Tests.{le-leb, eq-eqb, eqb-true, ltb-false, leb-true}
-use Rattle.format.specs.Lists.{_>>=_, provided, eachOf, allOf, flat, parted}
-use Rattle.format.specs.Octets.{Below, Octets, inRange}
+use Rattle.format.specs.Lists.{_>>=_, provided, eachOf, exactly, allOf, flat, parted}
+use Rattle.format.specs.Octets.{Below, Octets, inRange, splitOn}
 use Rattle.format.specs.Wire.{Stage, anyOctet, count, toTheEnd, Move, stop, fault, go, moreOctets, step, took, taken}
 use Rattle.format.specs.Field.{Kind, anyOctets, start, tail}
 use Rattle.format.specs.Token.{Token, bare, between, scanned, plain}
-use Rattle.format.specs.Address.{exactly, splitOn}
 use Rattle.format.specs.Text.{withCount, counted, notEmpty}
 use Rattle.format.specs.Name.{isWireName}
 use Rattle.format.specs.Run.{shown, Got, got, gotOr, bareOf, oneToken, oneBare, joinedBares, readField}

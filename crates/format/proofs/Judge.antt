@@ -9,10 +9,9 @@ use lib.ListN.{length, length-append}
 use lib.Dec.{leb, ltb, eqb}
 use borrow.Author.Tests.{leb-false}
 use Rattle.format.specs.Lists.{_>>=_, provided, consBoth, eachOf, null, anyOf, allOf, twice, Spanned, span}
-use Rattle.format.specs.Octets.{ascii, inRange, among, blank, alphanumeric, nameOctet, sameOctets}
+use Rattle.format.specs.Octets.{ascii, inRange, among, blank, alphanumeric, nameOctet, sameOctets, splitOn}
 use Rattle.format.specs.Field.{Part, Symbol, Kind, int, rrtype, bitmap, a4, aa, aaaa, str, strs, raw, b32, b64, hex, hexc, eui, time, tail, Field, kinds}
 use Rattle.format.specs.Number.{decimalOf}
-use Rattle.format.specs.Address.{splitOn}
 use Rattle.format.specs.Lines.{placed, lines}
 use Rattle.format.specs.Grammar.{partAt, isName, nameAt, after, freeTextAt, Header, headerLine, Qualifier, word, symbol, ifQualifier, qualifier, Qualified, notBracket, ifQualifiers, qualifiersAt, fieldNameAt, FieldLine, ifType, fieldLine}
 use Rattle.format.specs.Types.{Takes, symbols, words, TypeRow, hasWord, nameKind, stringKind, typeRows, takesOf, unknownWord, symbolOf, wordOf, sameSymbol, allowed, Meaning, unknown, forbidden, means, orForbidden, meaningOf, meaning}
@@ -66,7 +65,7 @@ line-named end t l e =
     let (q, c, d) = bind-some (qualifiersAt end (k .rest)) _ l b in
     let (n, f, g) = bind-some (fieldNameAt (q .rest)) _ l d in
     let (x, h, i) = bind-some (freeTextAt end (n .rest)) _ l g in
-    let w : _≡_ {A = FieldLine} (record { keyword = k .front; qualifiers = q .qualifiers; title = partAt end (n .front ++ n .rest) (n .front); text = x }) l = cc in
+    let w : _≡_ {A = FieldLine} (record { keyword = k .front; qualifiers = q .qualifiers; fieldName = partAt end (n .front ++ n .rest) (n .front); freeText = x }) l = cc in
     rw (← w) (qualifiers-named end (k .rest) q c)
 
 -- the types: what each row makes is sound
@@ -219,7 +218,7 @@ field-leads d f h k =
 meaning-leads : (d : Description) (l : FieldLine) (m : Meaning) → Fine (d .fields) → ((k : Kind) → m ≡ means k → soundKind k ≡ true) → Leading (ofMeaning d l m)
 meaning-leads d l unknown h s = tt
 meaning-leads d l forbidden h s = tt
-meaning-leads d l (means k) h s = field-leads d (record { kind = k; fieldName = l .title; freeText = l .text }) h (s k refl)
+meaning-leads d l (means k) h s = field-leads d (record { kind = k; fieldName = l .fieldName; freeText = l .freeText }) h (s k refl)
 
 line-leads : (d : Description) (end : ℕ) (t : List ℕ) → Fine (d .fields) → Leading (ofFieldLine d (fieldLine end t))
 line-leads d end t h = by (fieldLine end t) refl

@@ -93,3 +93,7 @@ pub all-drop : {A : Type 0} (f : A → Bool) (n : ℕ) (xs : List A) → allOf f
 all-drop f zero xs h = h
 all-drop f (suc n) [] h = refl
 all-drop f (suc n) (x ∷ xs) h = all-drop f n xs (and-right (f x) (allOf f xs) h)
+
+pub below-parts : (b : ℕ) (s q : List ℕ) → Below b (s ++ q) → Below b s × Below b q
+below-parts b [] q h = (tt, h)
+below-parts b (x ∷ s) q h = let (f, g) = below-parts b s q (h .1) in ((h .0, f), g)

@@ -16,12 +16,12 @@ use Rattle.format.specs.Token.{Token, between, inBare, scanned, Item, pl
 use Rattle.format.specs.Text.{withCount}
 use Rattle.format.specs.Name.{nameEscape, orRoot, nameText, isDot, labelBefore, wireName, nameOf, readName, isWireName}
 use Rattle.format.specs.Run.{shown, Got, got, oneBare, readField}
-use Rattle.format.proofs.Lists.{and-left, and-right, not-true, bind-some, provided-some}
+use Rattle.format.proofs.Lists.{and-left, and-right, not-true, bind-some, provided-some, below-parts}
 use Rattle.format.proofs.Finite.{at-each}
 use Rattle.format.proofs.Wire.{at-end}
 use Rattle.format.proofs.Token.{Parted, kept, kept-append, word-scanned, name-kept, name-begins, given-unescaped, Itemed, item, name-item, none-scanned}
 use Rattle.format.proofs.Field.{Back, cap, FieldLaws, bare-accepted}
-use Rattle.format.proofs.Text.{all-pieces, counted-bound, escape-bound, escapes-bound, went-on, piece-taken, takes-piece, with-rest, below-parts}
+use Rattle.format.proofs.Text.{all-pieces, counted-bound, escape-bound, escapes-bound, went-on, piece-taken, takes-piece, with-rest}
 
 -- labels of 1 to 63 octets
 abbrev Labels : List (List ℕ) → Type 0

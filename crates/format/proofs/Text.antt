@@ -7,7 +7,7 @@ use mathlib.Core.Option.{Option, none, some}
 use native.Mathlib.Omega.{arith}
 use lib.ListN.{length, drop, length-append, length-drop}
 use Rattle.format.specs.Lists.{_>>=_, consBoth, eachOf, null, flat, flatMap, parted}
-use Rattle.format.specs.Octets.{Below, Octets, ascii, inRange, among}
+use Rattle.format.specs.Octets.{Octets, ascii, inRange, among}
 use Rattle.format.specs.Wire.{Stage, count, toTheEnd, stringCount, stringOctet, fault, go, step, mayEnd, Taken, short, bad, took, oneMore, taken}
 use Rattle.format.specs.Field.{str, strs, raw}
 use Rattle.format.specs.Number.{fixedDecimal}
@@ -15,7 +15,7 @@ use Rattle.format.specs.Token.{Token, quoted, between, scanned, escaped}
 use Rattle.format.specs.Text.{pieces, withCount, counted, stringEscape, stringText, stringValue, readString, notEmpty, readRaw}
 use Rattle.format.specs.Grammar.{after}
 use Rattle.format.specs.Run.{shown, got, oneToken, readField}
-use Rattle.format.proofs.Lists.{bind-some, provided-some}
+use Rattle.format.proofs.Lists.{bind-some, provided-some, below-parts}
 use Rattle.format.proofs.Wire.{at-end, takes-end, end-some}
 use Rattle.format.proofs.Token.{Parted, at-end-of-text, spaced, quote-scanned, strings-kept, string-read, none-scanned, space-scanned}
 use Rattle.format.proofs.Field.{Back, FieldLaws, got-some, token-accepted, not-empty, counted-accepted, Counted, is-counted, counted-octets, counted-some}
@@ -117,10 +117,6 @@ module _ (inside : ℕ → Stage) (after : Stage) (last : (x : ℕ) → step (in
 
 pub with-rest : (n : ℕ) (p s q r : List ℕ) → p ≡ s ++ q → length s ≡ n → q ≡ r → n ∷ p ≡ withCount s ++ r
 with-rest n p s q r e l f = rw (e, ← l, f)
-
-pub below-parts : (b : ℕ) (s q : List ℕ) → Below b (s ++ q) → Below b s × Below b q
-below-parts b [] q h = (tt, h)
-below-parts b (x ∷ s) q h = let (f, g) = below-parts b s q (h .1) in ((h .0, f), g)
 
 -- strings, each of at most 255 octets
 abbrev Strings : List (List ℕ) → Type 0

@@ -9,7 +9,6 @@ use lib.Dec.{eqb}
 use borrow.Author.Tests.{eqb-true}
 use Rattle.format.specs.Lists.{consBoth, flatMap}
 use Rattle.format.specs.Octets.{Below, blank}
-use Rattle.format.specs.Digits.{upperDigit, lowerDigit}
 use Rattle.format.specs.Token.{textOctet, quoteMark, guarded, Token, bare, quoted, Scan, between, inBare, inQuotes, closed, ScanMove, skip, keep, endBare, endQuoted, breaks, bareOctet, scanStep, intoFirst, afterScan, scanned, Item, octetOf, Escaping, outside, EscapeMove, moves, gives, badEscape, escapeStep, afterEscape, unescapedFrom}
 use Rattle.format.specs.Text.{stringEscape}
 use Rattle.format.specs.Name.{nameEscape, isDot}
@@ -64,13 +63,6 @@ rest-scanned (x ∷ t) r h p = rw (in-bare x (h .0), rest-scanned t r (h .1) p)
 pub bare-scanned : (x : ℕ) (t r : List ℕ) → Plainly (x ∷ t) → Parted r → scanned between (x ∷ t ++ r) ≡ bare (x ∷ t) ∷ scanned between r
 unfolding scanned
 bare-scanned x t r h p = rw (from-between x (h .0), rest-scanned t r (h .1) p)
-
--- printed digits are plain
-pub upper-plain : (d : ℕ) → d < 36 → plainly (upperDigit d) ≡ true
-upper-plain d h = at-each (λ d. plainly (upperDigit d)) 36 refl d h
-
-pub lower-plain : (d : ℕ) → d < 36 → plainly (lowerDigit d) ≡ true
-lower-plain d h = at-each (λ d. plainly (lowerDigit d)) 36 refl d h
 
 -- where a scan comes to that keeps every octet
 abbrev pub onKeep : ScanMove → (Scan → Option Scan) → Option Scan

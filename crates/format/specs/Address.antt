@@ -6,8 +6,8 @@ use mathlib.Core.List.{List, [], _∷_, _++_, map}
 use mathlib.Core.Option.{Option, none, some}
 use lib.ListN.{length, drop, replicate}
 use lib.Dec.{leb, ltb, eqb}
-use Rattle.format.specs.Lists.{_>>=_, provided, orElse, consBoth, eachOf, null, flatMap, parted, split}
-use Rattle.format.specs.Octets.{ascii, inRange, sameOctets}
+use Rattle.format.specs.Lists.{_>>=_, provided, orElse, consBoth, eachOf, exactly, null, flatMap, parted}
+use Rattle.format.specs.Octets.{ascii, inRange, sameOctets, splitOn}
 use Rattle.format.specs.Digits.{digits, number, withoutZeros, lowerDigit, digitValue}
 use Rattle.format.specs.Number.{decimal, decimalOf, below}
 
@@ -17,13 +17,6 @@ dottedText xs = parted (ascii ".") (map decimal xs)
 
 abbrev pub smallNumber : List ℕ → Option ℕ
 smallNumber t = below 256 (decimalOf t) >>= λ v. provided (sameOctets (decimal v) t) v
-
--- a list of exactly n
-abbrev pub exactly : ℕ → Option (List ℕ) → Option (List ℕ)
-exactly n o = o >>= λ l. provided (eqb (length l) n) l
-
-abbrev pub splitOn : ℕ → List ℕ → List (List ℕ)
-splitOn c t = split (λ x. eqb x c) t
 
 abbrev pub readA : List ℕ → Option (List ℕ)
 readA t = exactly 4 (eachOf smallNumber (splitOn (code ".") t))

@@ -3,10 +3,9 @@ use Prim.Native.Nat.{ℕ}
 use Prim.Native.Char.{code}
 use mathlib.Core.List.{List, map}
 use mathlib.Core.Option.{Option}
-use Rattle.format.specs.Lists.{eachOf, parted}
-use Rattle.format.specs.Octets.{ascii}
+use Rattle.format.specs.Lists.{eachOf, exactly, parted}
+use Rattle.format.specs.Octets.{ascii, splitOn}
 use Rattle.format.specs.Digits.{digits, lowerDigit}
-use Rattle.format.specs.Address.{exactly, splitOn}
 use Rattle.format.specs.Hex.{hexPair}
 
 abbrev pub euiText : List ℕ → List ℕ

@@ -7,10 +7,9 @@ use mathlib.Core.Option.{Option, none, some}
 use lib.ListN.{length}
 use lib.Dec.{leb, eqb}
 use Rattle.format.specs.Lists.{_>>=_, provided, eachOf, null, allOf, Spanned, span}
-use Rattle.format.specs.Octets.{inRange, blank, digit, letter, alphanumeric, nameOctet}
+use Rattle.format.specs.Octets.{inRange, blank, digit, letter, alphanumeric, nameOctet, splitOn}
 use Rattle.format.specs.Field.{Part, Symbol}
 use Rattle.format.specs.Number.{decimalOf}
-use Rattle.format.specs.Address.{splitOn}
 use Rattle.format.specs.Lines.{placed}
 
 -- the part of a line that begins where `rest` does
@@ -116,8 +115,8 @@ fieldNameAt (x ∷ t) = cond (eqb x (code ":")) (nameAt t) (some (record { front
 pub record FieldLine : Type 0 where
   pub keyword : List ℕ
   pub qualifiers : List Qualifier
-  pub title : Part
-  pub text : Part
+  pub fieldName : Part
+  pub freeText : Part
 
 -- "A field type is a letter, then letters and digits."
 abbrev pub ifType : Spanned → Option Spanned
@@ -130,4 +129,4 @@ fieldLine end t = do
   q ← qualifiersAt end (k .rest)
   n ← fieldNameAt (q .rest)
   text ← freeTextAt end (n .rest)
-  some (record { keyword = k .front; qualifiers = q .qualifiers; title = partAt end (n .front ++ n .rest) (n .front); text = text })
+  some (record { keyword = k .front; qualifiers = q .qualifiers; fieldName = partAt end (n .front ++ n .rest) (n .front); freeText = text })

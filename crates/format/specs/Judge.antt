@@ -46,7 +46,7 @@ withField d f =
 abbrev pub ofMeaning : Description → FieldLine → Meaning → Verdict
 ofMeaning d l unknown = faulty 3
 ofMeaning d l forbidden = faulty 4
-ofMeaning d l (means k) = withField d (record { kind = k; fieldName = l .title; freeText = l .text })
+ofMeaning d l (means k) = withField d (record { kind = k; fieldName = l .fieldName; freeText = l .freeText })
 
 abbrev pub ofFieldLine : Description → Option FieldLine → Verdict
 ofFieldLine d none = faulty 2

@@ -2,8 +2,8 @@
 use Prim.Native.Nat.{ℕ, _+_}
 use mathlib.Core.List.{List, [], _∷_}
 use lib.ListN.{length}
+use Rattle.format.specs.Octets.{splitOn}
 use Rattle.format.specs.Field.{Part}
-use Rattle.format.specs.Address.{splitOn}
 
 -- texts that stood one after the other, one octet between them, from a place on
 abbrev pub placed : ℕ → List (List ℕ) → List Part

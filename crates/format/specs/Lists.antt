@@ -3,6 +3,8 @@ use Prim.Native.Nat.{ℕ}
 use mathlib.Core.Bool.{Bool, true, false, _&&_, _||_}
 use mathlib.Core.List.{List, [], _∷_, _++_}
 use mathlib.Core.Option.{Option, none, some}
+use lib.ListN.{length}
+use lib.Dec.{eqb}
 
 infixl 10 _>>=_
 -- what is there handed on: `do` blocks are read by this
@@ -29,6 +31,10 @@ consBoth (some x) (some xs) = some (x ∷ xs)
 abbrev pub eachOf : {A B : Type 0} → (A → Option B) → List A → Option (List B)
 eachOf f [] = some []
 eachOf f (x ∷ xs) = consBoth (f x) (eachOf f xs)
+
+-- a list of exactly n
+abbrev pub exactly : ℕ → Option (List ℕ) → Option (List ℕ)
+exactly n o = o >>= λ l. provided (eqb (length l) n) l
 
 abbrev pub null : {A : Type 0} → List A → Bool
 null [] = true

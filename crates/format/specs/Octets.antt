@@ -4,7 +4,7 @@ use Prim.Native.Char.{code}
 use mathlib.Core.Bool.{Bool, true, false, cond, _&&_, _||_}
 use mathlib.Core.List.{List, [], _∷_}
 use lib.Dec.{leb, eqb}
-use Rattle.format.specs.Lists.{anyOf}
+use Rattle.format.specs.Lists.{anyOf, split}
 use Prim.Native.String.{String, [] as none, _∷_ as _then_}
 
 -- every number of a list is below b
@@ -50,6 +50,10 @@ sameOctets [] [] = true
 sameOctets [] (y ∷ ys) = false
 sameOctets (x ∷ xs) [] = false
 sameOctets (x ∷ xs) (y ∷ ys) = eqb x y && sameOctets xs ys
+
+-- the parts between the octets c: one more than those
+abbrev pub splitOn : ℕ → List ℕ → List (List ℕ)
+splitOn c t = split (λ x. eqb x c) t
 
 -- "letters' case ignored"
 abbrev pub lowered : ℕ → ℕ

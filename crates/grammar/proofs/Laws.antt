@@ -11,17 +11,16 @@ use lib.Seq.{slice, slice-empty, length-slice, take-take, take-add, drop-at}
 use lib.Dec.{leb}
 use borrow.Author.Tests.{le-leb, lt-leb, eq-eqb, ne-eqb}
 use Rattle.format.specs.Lists.{_>>=_, provided, eachOf, null, allOf, Spanned, spanning, span}
-use Rattle.format.specs.Octets.{inRange, blank, digit, letter, alphanumeric, nameOctet}
+use Rattle.format.specs.Octets.{inRange, blank, digit, letter, alphanumeric, nameOctet, splitOn}
 use Rattle.format.specs.Number.{decimalOf}
 use Rattle.format.specs.Grammar.{partAt, Header, headerLine, Numbered, ifDecimal, startsWithLetter, isName, nameAt, after, afterOptions, freeTextAt, notBracket, Qualifier, qualifier, Qualified, qualifiersAt, fieldNameAt, FieldLine, fieldLine}
 use Rattle.format.specs.Field.{Part}
-use Rattle.format.specs.Address.{splitOn}
 use Rattle.format.specs.Lines.{placed}
 use Rattle.octets.specs.Octets.{partIn, firstOr, numberOf}
 use Rattle.octets.specs.declared.Number.the-variants.{Value, Fault}
 use Rattle.qualifiers.specs.Qualifiers.{piecesIn, qualifiersIn}
 use Rattle.grammar.specs.Grammar.{headerIn, shapeIn}
-use Rattle.grammar.specs.Parts.{Within, cutIn, restIn, textIn, numberAfter, textAfter, numberIn, bracketsIn, titleIn, TitleWithin, afterType}
+use Rattle.grammar.specs.Parts.{Within, cutIn, restIn, textIn, numberAfter, textAfter, numberIn, bracketsIn, namedIn, NamedWithin, afterType}
 use Rattle.grammar.specs.declared.HeaderLine.the-variants.{IsHeader}
 use Rattle.grammar.specs.declared.Shape.the-variants.{IsField}
 use Rattle.grammar.specs.declared.Place.{Place}
@@ -30,8 +29,8 @@ use Rattle.grammar.specs.declared.Digits.{Digits}
 use Rattle.grammar.specs.declared.Digits.the-variants.{NoDigits, UpTo}
 use Rattle.grammar.specs.declared.Brackets.{Brackets}
 use Rattle.grammar.specs.declared.Brackets.the-variants.{Unclosed, Between}
-use Rattle.grammar.specs.declared.Title.{Title}
-use Rattle.grammar.specs.declared.Title.the-variants.{Broken, From}
+use Rattle.grammar.specs.declared.Named.{Named}
+use Rattle.grammar.specs.declared.Named.the-variants.{Broken, From}
 use Rattle.octets.proofs.Slices.{next, none as nothing, frontEnd, front-rest, front-within, span-front}
 
 -- the first octet of a part
@@ -297,11 +296,11 @@ module _ (s : List ℕ) (i e : ℕ) (l : e ≤ length s) where
     brackets-empty h = ap (λ t. qualifiedBy (after 93 (slice z e s)) (eachOf qualifier (placed (i + 1) (splitOn 44 t)))) (sym (nothing s (i + 1) z h)) ∙ sym opened
 
 -- a field's name
-pub titled : (s : List ℕ) (i e : ℕ) → e ≤ length s → firstOr (slice i e s) ≡ 58 → nameAt (slice (i + 1) e s) ≡ fieldNameAt (slice i e s)
-titled s i e l c = rw (first-cons s i e 58 l (omega arith) c)
+pub colon-named : (s : List ℕ) (i e : ℕ) → e ≤ length s → firstOr (slice i e s) ≡ 58 → nameAt (slice (i + 1) e s) ≡ fieldNameAt (slice i e s)
+colon-named s i e l c = rw (first-cons s i e 58 l (omega arith) c)
 
-pub untitled : (s : List ℕ) (i e : ℕ) → (firstOr (slice i e s) ≡ 58 → ⊥) → some (record { front = slice i i s; rest = slice i e s }) ≡ fieldNameAt (slice i e s)
-untitled s i e h = rw (slice-empty i s) (by (slice i e s) h)
+pub unnamed : (s : List ℕ) (i e : ℕ) → (firstOr (slice i e s) ≡ 58 → ⊥) → some (record { front = slice i i s; rest = slice i e s }) ≡ fieldNameAt (slice i e s)
+unnamed s i e h = rw (slice-empty i s) (by (slice i e s) h)
   where
     by : (t : List ℕ) → (firstOr t ≡ 58 → ⊥) → some (record { front = []; rest = t }) ≡ fieldNameAt t
     by [] h = refl
@@ -316,7 +315,7 @@ abbrev lineOf : ℕ → List ℕ → Qualified → Option FieldLine
 lineOf e k q = do
   n ← fieldNameAt (q .rest)
   x ← freeTextAt e (n .rest)
-  some (record { keyword = k; qualifiers = q .qualifiers; title = partAt e (n .front ++ n .rest) (n .front); text = x })
+  some (record { keyword = k; qualifiers = q .qualifiers; fieldName = partAt e (n .front ++ n .rest) (n .front); freeText = x })
 
 module _ (s : List ℕ) (i k e : ℕ) where
   pub unbracketed : {r : Brackets} → r ≡ Unclosed → bracketsIn s e r ≡ qualifiersAt e (slice k e s) → none ≡ afterType e (slice i k s) (slice k e s)
@@ -338,24 +337,24 @@ module _ (s : List ℕ) (i k e : ℕ) where
         by none = refl
         by (some qs) = refl
 
-    pub bad-title : {t : Title} → t ≡ Broken → titleIn s e t ≡ fieldNameAt (slice j e s) → none ≡ afterType e (slice i k s) (slice k e s)
-    bad-title d n = let q : none ≡ fieldNameAt (slice j e s) = rw d at n in broken-line (λ qs. rw (← q))
+    pub bad-name : {t : Named} → t ≡ Broken → namedIn s e t ≡ fieldNameAt (slice j e s) → none ≡ afterType e (slice i k s) (slice k e s)
+    bad-name d n = let q : none ≡ fieldNameAt (slice j e s) = rw d at n in broken-line (λ qs. rw (← q))
 
-    module _ {t : Title} {m z : ℕ} (d : t ≡ From m z) (n : titleIn s e t ≡ fieldNameAt (slice j e s)) {p : Place} where
+    module _ {t : Named} {m z : ℕ} (d : t ≡ From m z) (n : namedIn s e t ≡ fieldNameAt (slice j e s)) {p : Place} where
       pub bad-text : p ≡ NoPlace → textIn s e p ≡ freeTextAt e (slice z e s) → none ≡ afterType e (slice i k s) (slice k e s)
       bad-text y v =
           let q : some (record { front = slice m z s; rest = slice z e s }) ≡ fieldNameAt (slice j e s) = rw d at n in
           let x : none ≡ freeTextAt e (slice z e s) = rw y at v in
           broken-line (λ qs. rw (← q, ← x))
 
-      pub line-found : {x : ℕ} → p ≡ At x → textIn s e p ≡ freeTextAt e (slice z e s) → TitleWithin e t → e ≤ length s
+      pub line-found : {x : ℕ} → p ≡ At x → textIn s e p ≡ freeTextAt e (slice z e s) → NamedWithin e t → e ≤ length s
           → shapeIn s i e (IsField (record { «type_end» = k; «qualifiers_at» = a; «qualifiers_end» = b; «name_at» = m; «name_end» = z; «text_at» = x }))
           ≡ afterType e (slice i k s) (slice k e s)
       line-found {x = x} y v u l =
           let w : (m ≤ z) × (z ≤ e) = rw d at u in
           let q : some (record { front = slice m z s; rest = slice z e s }) ≡ fieldNameAt (slice j e s) = rw d at n in
           let o : some (partIn s x e) ≡ freeTextAt e (slice z e s) = rw y at v in
-          line-by (λ qs. some (record { keyword = slice i k s; qualifiers = qs; title = partIn s m z; text = partIn s x e })) (λ qs. rw (← q, ← o, parts-place s m z e (w .0) (w .1) l))
+          line-by (λ qs. some (record { keyword = slice i k s; qualifiers = qs; fieldName = partIn s m z; freeText = partIn s x e })) (λ qs. rw (← q, ← o, parts-place s m z e (w .0) (w .1) l))
 
 -- a field line after its type
 typed-by : (t : List ℕ) → startsWithLetter (span alphanumeric t .front) ≡ startsWithLetter t

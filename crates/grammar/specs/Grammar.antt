@@ -27,8 +27,8 @@ shapeIn s at end (IsField f) =
     qualifiersIn s (f .«qualifiers_at») (f .«qualifiers_end») >>= λ qs. some (record {
       keyword = slice at (f .«type_end») s;
       qualifiers = qs;
-      title = partIn s (f .«name_at») (f .«name_end»);
-      text = partIn s (f .«text_at») end;
+      fieldName = partIn s (f .«name_at») (f .«name_end»);
+      freeText = partIn s (f .«text_at») end;
     })
 
 -- the places of a header and of a field line lie in the line

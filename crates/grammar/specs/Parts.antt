@@ -16,8 +16,8 @@ use Rattle.grammar.specs.declared.Digits.{Digits}
 use Rattle.grammar.specs.declared.Digits.the-variants.{NoDigits, UpTo}
 use Rattle.grammar.specs.declared.Brackets.{Brackets}
 use Rattle.grammar.specs.declared.Brackets.the-variants.{Unclosed, Between}
-use Rattle.grammar.specs.declared.Title.{Title}
-use Rattle.grammar.specs.declared.Title.the-variants.{Broken, From}
+use Rattle.grammar.specs.declared.Named.{Named}
+use Rattle.grammar.specs.declared.Named.the-variants.{Broken, From}
 
 -- a place from a to e, if there is one
 abbrev pub Within : ℕ → ℕ → Place → Type 0
@@ -63,13 +63,13 @@ BracketsWithin end Unclosed = Unit {0}
 BracketsWithin end (Between a e j) = (a ≤ e) × (e ≤ end) × (j ≤ end)
 
 -- a field's name, and the rest after it
-abbrev pub titleIn : List ℕ → ℕ → Title → Option Spanned
-titleIn s end Broken = none
-titleIn s end (From a e) = some (record { front = slice a e s; rest = slice e end s })
+abbrev pub namedIn : List ℕ → ℕ → Named → Option Spanned
+namedIn s end Broken = none
+namedIn s end (From a e) = some (record { front = slice a e s; rest = slice e end s })
 
-abbrev pub TitleWithin : ℕ → Title → Type 0
-TitleWithin end Broken = Unit {0}
-TitleWithin end (From a e) = (a ≤ e) × (e ≤ end)
+abbrev pub NamedWithin : ℕ → Named → Type 0
+NamedWithin end Broken = Unit {0}
+NamedWithin end (From a e) = (a ≤ e) × (e ≤ end)
 
 -- a field line after its type k
 abbrev pub afterType : ℕ → List ℕ → List ℕ → Option FieldLine
@@ -77,4 +77,4 @@ afterType end k t = do
   q ← qualifiersAt end t
   n ← fieldNameAt (q .rest)
   text ← freeTextAt end (n .rest)
-  some (record { keyword = k; qualifiers = q .qualifiers; title = partAt end (n .front ++ n .rest) (n .front); text = text })
+  some (record { keyword = k; qualifiers = q .qualifiers; fieldName = partAt end (n .front ++ n .rest) (n .front); freeText = text })

@@ -16,8 +16,8 @@ ghost use Rattle.grammar.specs.Parts.{
   DigitsWithin,
   bracketsIn,
   BracketsWithin,
-  titleIn,
-  TitleWithin,
+  namedIn,
+  NamedWithin,
   afterType,
 };
 use octets::Class;
@@ -69,7 +69,7 @@ enum Brackets {
 }
 
 // A field's name, of no octets where it has none.
-enum Title {
+enum Named {
     Broken,
     From(usize, usize),
 }
@@ -207,22 +207,22 @@ fn bracketed(s: &[u8], i: usize, end: usize) -> Brackets
 }
 
 // The name after `:`, or none where the rest begins otherwise.
-fn field_name(s: &[u8], i: usize, end: usize) -> Title
+fn field_name(s: &[u8], i: usize, end: usize) -> Named
     requires { ⌜ (i ≤ end) × (end ≤ length (now s)) ⌝ }
-    ensures { λ r. ⌜ (titleIn (now (s .entry)) end r ≡ fieldNameAt (slice i end (now (s .entry)))) × TitleWithin end r ⌝ }
+    ensures { λ r. ⌜ (namedIn (now (s .entry)) end r ≡ fieldNameAt (slice i end (now (s .entry)))) × NamedWithin end r ⌝ }
 {
     if octets::octet_at(s, i, end) == 58 {
         let p = name_end(s, i + 1, end);
         match p {
             Place::NoPlace => {
-                return Title::Broken;
+                return Named::Broken;
             }
             Place::At(e) => {
-                return Title::From(i + 1, e);
+                return Named::From(i + 1, e);
             }
         }
     }
-    Title::From(i, i)
+    Named::From(i, i)
 }
 
 // The field line whose type ends at e.
@@ -236,8 +236,8 @@ fn after_type(s: &[u8], at: usize, e: usize, end: usize) -> Shape
         Brackets::Between(qualifiers_at, qualifiers_end, i) => {
             let n = field_name(s, i, end);
             match n {
-                Title::Broken => Shape::NoField,
-                Title::From(name_at, name_end) => {
+                Named::Broken => Shape::NoField,
+                Named::From(name_at, name_end) => {
                     let t = free_text(s, name_end, end);
                     match t {
                         Place::NoPlace => Shape::NoField,

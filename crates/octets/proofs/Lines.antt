@@ -8,7 +8,7 @@ use lib.ListN.{length, take, drop, length-take, length-drop, drop-of-length-le}
 use lib.Seq.{slice, take-length, drop-drop, take-nil}
 use lib.Dec.{eqb}
 use Rattle.format.specs.Lists.{Spanned, spanning, span, consFirst, parting, split}
-use Rattle.format.specs.Address.{splitOn}
+use Rattle.format.specs.Octets.{splitOn}
 use Rattle.format.specs.Field.{Part}
 use Rattle.format.specs.Lines.{placed, withoutEmptyLast, linesOf}
 use Rattle.octets.specs.Octets.{inClass, partIn}

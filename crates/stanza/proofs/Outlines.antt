@@ -113,7 +113,7 @@ field-numbered d f =
 meaning-numbered : (d : Description) (l : FieldLine) (m : Meaning) → Numbered (ofMeaning d l m)
 meaning-numbered d l unknown = omega arith
 meaning-numbered d l forbidden = omega arith
-meaning-numbered d l (means k) = field-numbered d (record { kind = k; fieldName = l .title; freeText = l .text })
+meaning-numbered d l (means k) = field-numbered d (record { kind = k; fieldName = l .fieldName; freeText = l .freeText })
 
 content-numbered : (p : Progress) (b : Bool) (e : ℕ) (t : List ℕ) → Numbered (contentLine p b e t)
 content-numbered beforeHeader true e t = omega arith

@@ -62,7 +62,7 @@ module _ (s : List ℕ) (t e : ℕ) (h : HeaderLine) (g : headerIn s t e h ≡ h
 
 -- fields: what a line of the given shape comes to, by what its type and qualifiers mean
 abbrev lineOf : List ℕ → ℕ → ℕ → FieldShape → List Qualifier → FieldLine
-lineOf s t e x qs = record { keyword = slice t (x .«type_end») s; qualifiers = qs; title = partIn s (x .«name_at») (x .«name_end»); text = partIn s (x .«text_at») e }
+lineOf s t e x qs = record { keyword = slice t (x .«type_end») s; qualifiers = qs; fieldName = partIn s (x .«name_at») (x .«name_end»); freeText = partIn s (x .«text_at») e }
 
 -- a line is its meaning's verdict
 abbrev byMeaning : Description → FieldLine → Option Meaning → Verdict

@@ -10,8 +10,7 @@ use borrow.Author.Tests.{eq-eqb, ne-eqb}
 use lib.Seq.{slice}
 use Rattle.format.specs.Lists.{_>>=_, consBoth, eachOf, anyOf, allOf, twice, provided, null, parting}
 use Rattle.format.specs.Lines.{placed}
-use Rattle.format.specs.Address.{splitOn}
-use Rattle.format.specs.Octets.{ascii, sameOctets}
+use Rattle.format.specs.Octets.{ascii, sameOctets, splitOn}
 use Rattle.format.specs.Field.{Part, Kind, Symbol, rrtype, bitmap, str, strs, raw, hex, hexc}
 use Rattle.format.specs.Grammar.{Qualifier, qualifier}
 use Rattle.format.specs.Types.{Takes, symbols, words, noWords, hasWord, nameKind, stringKind, unknownWord, symbolOf, wordOf, sameSymbol, allowed, Meaning, unknown, forbidden, means, orForbidden, meaningOf, typeRows, takesOf}

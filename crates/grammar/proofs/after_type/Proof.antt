@@ -1,4 +1,4 @@
-use Rattle.grammar.proofs.Laws.{unbracketed, bad-title, bad-text, line-found}
+use Rattle.grammar.proofs.Laws.{unbracketed, bad-name, bad-text, line-found}
 use borrow.Author.Needs.{needs}
 use Rattle.grammar.proofs.after_type.Statement.{statement}
 use Rattle.grammar.proofs.after_type.Tie as tie
@@ -34,7 +34,7 @@ returns : tie.Need-returns
 returns c = (unbracketed (c .before .before .before .before .args .s .now) (c .before .before .before .before .args .at) (c .before .before .before .before .args .e) (c .before .before .before .before .args .end) (c .enum-told .given .1) (c .before .before .bracketed .ensures .0), tt)
 
 returns-2 : tie.Need-returns-2
-returns-2 c = (bad-title (c .before .before .before .before .before .before .before .before .args .s .now) (c .before .before .before .before .before .before .before .before .args .at) (c .before .before .before .before .before .before .before .before .args .e) (c .before .before .before .before .before .before .before .before .args .end) (c .before .before .before .before .b .given .1) (c .before .before .before .before .before .before .bracketed .ensures .0) (c .enum-told2 .given .1) (c .before .before .field-name .ensures .0), tt)
+returns-2 c = (bad-name (c .before .before .before .before .before .before .before .before .args .s .now) (c .before .before .before .before .before .before .before .before .args .at) (c .before .before .before .before .before .before .before .before .args .e) (c .before .before .before .before .before .before .before .before .args .end) (c .before .before .before .before .b .given .1) (c .before .before .before .before .before .before .bracketed .ensures .0) (c .enum-told2 .given .1) (c .before .before .field-name .ensures .0), tt)
 
 returns-3 : tie.Need-returns-3
 returns-3 c = (bad-text (c .before .before .before .before .before .before .before .before .before .before .before .before .args .s .now) (c .before .before .before .before .before .before .before .before .before .before .before .before .args .at) (c .before .before .before .before .before .before .before .before .before .before .before .before .args .e) (c .before .before .before .before .before .before .before .before .before .before .before .before .args .end) (c .before .before .before .before .before .before .before .before .b .given .1) (c .before .before .before .before .before .before .before .before .before .before .bracketed .ensures .0) (c .before .before .before .before .n .given .1) (c .before .before .before .before .before .before .field-name .ensures .0) (c .enum-told3 .given .1) (c .before .before .free-text .ensures .0), tt)

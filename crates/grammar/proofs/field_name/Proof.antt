@@ -1,5 +1,5 @@
 use mathlib.Core.Path.{sym, _∙_}
-use Rattle.grammar.proofs.Laws.{first-in, titled, untitled}
+use Rattle.grammar.proofs.Laws.{first-in, colon-named, unnamed}
 use native.Mathlib.Omega.{arith}
 use borrow.Author.Needs.{needs}
 use Rattle.grammar.proofs.field_name.Statement.{statement}
@@ -18,7 +18,7 @@ enum-told : tie.Need-enum-told
 enum-told c = search needs
 
 returns : tie.Need-returns
-returns c = (rw (c .enum-told .given .1) at (c .before .before .name-end .ensures .0) ∙ titled (c .before .before .before .before .before .before .args .s .now) (c .before .before .before .before .before .before .args .i) (c .before .before .before .before .before .before .args .end) (c .before .before .before .before .before .before .pre .1) (sym (c .before .before .before .before .octet-at .ensures) ∙ c .before .before .before .if1 .taken), tt)
+returns c = (rw (c .enum-told .given .1) at (c .before .before .name-end .ensures .0) ∙ colon-named (c .before .before .before .before .before .before .args .s .now) (c .before .before .before .before .before .before .args .i) (c .before .before .before .before .before .before .args .end) (c .before .before .before .before .before .before .pre .1) (sym (c .before .before .before .before .octet-at .ensures) ∙ c .before .before .before .if1 .taken), tt)
 
 enum-known-p : tie.Need-enum-known-p
 enum-known-p c = search needs
@@ -27,10 +27,10 @@ add-t9 : tie.Need-add-t9
 add-t9 c = search needs
 
 returns-2 : tie.Need-returns-2
-returns-2 c = ((rw (c .before .p .given .1) at (c .before .before .before .name-end .ensures .0)) ∙ titled (c .before .before .before .before .before .before .before .args .s .now) (c .before .before .before .before .before .before .before .args .i) (c .before .before .before .before .before .before .before .args .end) (c .before .before .before .before .before .before .before .pre .1) (sym (c .before .before .before .before .before .octet-at .ensures) ∙ c .before .before .before .before .if1 .taken), rw (c .before .p .given .1) at (c .before .before .before .name-end .ensures .1))
+returns-2 c = ((rw (c .before .p .given .1) at (c .before .before .before .name-end .ensures .0)) ∙ colon-named (c .before .before .before .before .before .before .before .args .s .now) (c .before .before .before .before .before .before .before .args .i) (c .before .before .before .before .before .before .before .args .end) (c .before .before .before .before .before .before .before .pre .1) (sym (c .before .before .before .before .before .octet-at .ensures) ∙ c .before .before .before .before .if1 .taken), rw (c .before .p .given .1) at (c .before .before .before .name-end .ensures .1))
 
 returns-3 : tie.Need-returns-3
-returns-3 c = (untitled (c .before .before .before .args .s .now) (c .before .before .before .args .i) (c .before .before .before .args .end) (λ h. c .if1 .left (c .before .octet-at .ensures ∙ h)), (omega arith, c .before .before .before .pre .0))
+returns-3 c = (unnamed (c .before .before .before .args .s .now) (c .before .before .before .args .i) (c .before .before .before .args .end) (λ h. c .if1 .left (c .before .octet-at .ensures ∙ h)), (omega arith, c .before .before .before .pre .0))
 
 pub field-name-spec : {M : Type 1} → statement M
 field-name-spec =
