@@ -5,6 +5,7 @@ use mathlib.Core.Bool.{Bool, true, false, not, cond, _&&_, _||_, true≢false}
 use mathlib.Core.List.{List, [], _∷_, _++_}
 use native.Mathlib.Omega.{arith}
 use native.Mathlib.Numerals.{add-one}
+use native.Mathlib.Decide.{decLt}
 use lib.ListN.{length, take, drop, getD, set, length-append, length-set}
 use lib.Seq.{slice, getD-set-same, getD-set-other}
 use lib.Dec.{leb, eqb}
@@ -29,7 +30,7 @@ use Rattle.stanza.specs.declared.NewField.{NewField}
 use Rattle.stanza.specs.declared.Outline.{Outline}
 use Rattle.stanza.specs.declared.Step.{Step}
 use Rattle.stanza.specs.declared.Step.the-variants.{Skip, Refuse, Head, Add}
-use Rattle.stanza.specs.Stanza.{headerOf, fieldOf, noField, fieldsFrom, namedFrom, progressOf, Stands, withMore, stepOf, Due, outlineOf}
+use Rattle.stanza.specs.Stanza.{headerOf, fieldOf, Placed, noField, fieldsFrom, namedFrom, progressOf, Stands, withMore, stepOf, Due, outlineOf, AllPlaced, Outlined}
 
 -- m fields from number k on
 module _ (s : List ℕ) (fs : List FieldDesc) (names ends : List ℕ) where
@@ -56,6 +57,14 @@ module _ (s : List ℕ) (fs : List FieldDesc) (names ends : List ℕ) (n : ℕ) 
   pub one-field-more : fieldsFrom s (set fs n f) (set names n x) (set ends n y) 0 (n + 1) ≡ fieldsFrom s fs names ends 0 n ++ fieldOf s f x y ∷ []
   one-field-more = fields-more 0 n (omega arith)
 
+-- and its qualifiers are placed as theirs are
+more-placed : (s : List ℕ) (fs : List FieldDesc) (n : ℕ) (f : FieldDesc) → n < length fs → AllPlaced s fs n → Placed s f → AllPlaced s (set fs n f) (n + 1)
+more-placed s fs n f h p q k l = by (decLt k n)
+  where
+    by : Dec (k < n) → Placed s (getD (set fs n f) k noField)
+    by (yes a) = subst (Placed s) (sym (getD-set-other fs n k f noField (λ z. omega arith))) (p k a)
+    by (no a) = let z : k ≡ n = omega arith in subst (Placed s) (sym (ap (λ i. getD (set fs n f) i noField) z ∙ getD-set-same fs n f noField h)) q
+
 tail-snoc : (fs : List Field) (f : Field) → afterTail (fs ++ f ∷ []) ≡ afterTail fs || tail (f .kind)
 tail-snoc [] f = by (tail (f .kind))
   where
@@ -78,6 +87,7 @@ pub record Kept (s : List ℕ) (h : HeaderDesc) (fs : List FieldDesc) (names end
   pub all-ends : length ends ≡ 64
   pub none-yet : have ≡ false → n ≡ 0
   pub tails : afterTail (fieldsFrom s fs names ends 0 n) ≡ last
+  pub placed : AllPlaced s fs n
   pub left : judgedFrom line (progressOf have (soFar s h fs names ends n)) (linesFrom s at) ≡ judgedFrom 1 beforeHeader (lines s)
 
 pub stands : {s : List ℕ} {h : HeaderDesc} {fs : List FieldDesc} {names ends : List ℕ} {n : ℕ} {have last : Bool} {at line : ℕ}
@@ -143,7 +153,7 @@ fault-number n p l e = by (lineVerdict p l) (line-numbered p l) e
 
 -- from one line to the next
 pub kept-start : (s : List ℕ) (h : HeaderDesc) (fs : List FieldDesc) (names ends : List ℕ) → length fs ≡ 64 → length names ≡ 64 → length ends ≡ 64 → Kept s h fs names ends 0 false false 0 1
-kept-start s h fs names ends a b c = record { all-fields = a; all-names = b; all-ends = c; none-yet = λ q. refl; tails = refl; left = refl }
+kept-start s h fs names ends a b c = record { all-fields = a; all-names = b; all-ends = c; none-yet = λ q. refl; tails = refl; placed = λ k q. absurd (omega arith); left = refl }
 
 module _ {s : List ℕ} {h : HeaderDesc} {fs : List FieldDesc} {names ends : List ℕ} {n : ℕ} {have last : Bool} {at line : ℕ} (k : Kept s h fs names ends n have last at line) (l : at < length s) where
   pub kept-skip : goesOn (progressOf have (soFar s h fs names ends n)) ≡ lineVerdict (progressOf have (soFar s h fs names ends n)) (partIn s at (lineEnd s at)) → Kept s h fs names ends n have last (lineEnd s at + 1) (line + 1)
@@ -153,6 +163,7 @@ module _ {s : List ℕ} {h : HeaderDesc} {fs : List FieldDesc} {names ends : Lis
     all-ends = k .all-ends;
     none-yet = k .none-yet;
     tails = k .tails;
+    placed = k .placed;
     left = after-step s (progressOf have (soFar s h fs names ends n)) at line l Skip (progressOf have (soFar s h fs names ends n)) e refl ∙ k .left;
   }
 
@@ -164,21 +175,23 @@ module _ {s : List ℕ} {h : HeaderDesc} {fs : List FieldDesc} {names ends : Lis
     all-ends = k .all-ends;
     none-yet = λ z. absurd (true≢false z);
     tails = k .tails;
+    placed = k .placed;
     left = rw none-so-far (after-step s (progressOf have (soFar s h fs names ends n)) at line l (Head x) (afterHeader (record { header = headerOf s x; fields = [] })) e refl ∙ k .left);
   }
     where
       none-so-far : fieldsFrom s fs names ends 0 n ≡ []
       none-so-far = rw (k .none-yet q)
 
-  pub kept-add : (f : NewField) (b : Bool) → n < 64 → have ≡ true → b ≡ last || tail (kindIn s (f .field .«qualifiers_at») (f .field .«qualifiers_end») (f .field .form))
+  pub kept-add : (f : NewField) (b : Bool) → n < 64 → have ≡ true → Placed s (f .field) → b ≡ last || tail (kindIn s (f .field .«qualifiers_at») (f .field .«qualifiers_end») (f .field .form))
       → stepOf s (progressOf have (soFar s h fs names ends n)) (Add f) ≡ lineVerdict (progressOf have (soFar s h fs names ends n)) (partIn s at (lineEnd s at))
       → Kept s h (set fs n (f .field)) (set names n (f .«name_at»)) (set ends n (f .«name_end»)) (n + 1) have b (lineEnd s at + 1) (line + 1)
-  kept-add f b m q t e = record {
+  kept-add f b m q g t e = record {
     all-fields = length-set fs n (f .field) ∙ k .all-fields;
     all-names = length-set names n (f .«name_at») ∙ k .all-names;
     all-ends = length-set ends n (f .«name_end») ∙ k .all-ends;
     none-yet = λ z. absurd (true≢false (sym q ∙ z));
     tails = ap afterTail more ∙ tail-snoc (fieldsFrom s fs names ends 0 n) new ∙ ap (λ c. c || tail (new .kind)) (k .tails) ∙ sym t;
+    placed = more-placed s fs n (f .field) (omega (arith, k .all-fields)) (k .placed) g;
     left = ap (λ gs. judgedFrom (line + 1) (progressOf have (record { header = headerOf s h; fields = gs })) (linesFrom s (lineEnd s at + 1))) more
         ∙ after-step s (progressOf have (soFar s h fs names ends n)) at line l (Add f) (progressOf have (record { header = headerOf s h; fields = fieldsFrom s fs names ends 0 n ++ new ∷ [] })) e added ∙ k .left;
   }
@@ -227,7 +240,7 @@ judged-long s h = rw (lt-leb (length s) 8192 h)
 
 -- a turn of the loop: what the line from `at` to e does
 module _ {s : List ℕ} {h : HeaderDesc} {fs : List FieldDesc} {names ends : List ℕ} {n : ℕ} {have last : Bool} {at line : ℕ} (k : Kept s h fs names ends n have last at line) (l : at < length s)
-    (e : ℕ) (w : e ≡ lineEnd s at) (r : Step) (u : Due have n r)
+    (e : ℕ) (w : e ≡ lineEnd s at) (r : Step) (u : Due s have n r)
     (g : (d : Description) → Stands s d last names ends n → stepOf s (progressOf have d) r ≡ lineVerdict (progressOf have d) (partIn s at e)) where
   here : stepOf s (progressOf have (soFar s h fs names ends n)) r ≡ lineVerdict (progressOf have (soFar s h fs names ends n)) (partIn s at (lineEnd s at))
   here = rw w at (g (soFar s h fs names ends n) (stands k))
@@ -236,14 +249,14 @@ module _ {s : List ℕ} {h : HeaderDesc} {fs : List FieldDesc} {names ends : Lis
   turn-skip q = rw w (kept-skip k l (rw q at here))
 
   pub turn-head : {x : HeaderDesc} → r ≡ Head x → Kept s x fs names ends n true last (e + 1) (line + 1)
-  turn-head {x} q = rw w (kept-head k l x (subst (Due have n) q u) (rw q at here))
+  turn-head {x} q = rw w (kept-head k l x (subst (Due s have n) q u) (rw q at here))
 
   pub turn-add : {f : NewField} → r ≡ Add f → (b : Bool) → b ≡ last || tail (kindIn s (f .field .«qualifiers_at») (f .field .«qualifiers_end») (f .field .form))
       → Kept s h (set fs n (f .field)) (set names n (f .«name_at»)) (set ends n (f .«name_end»)) (n + 1) have b (e + 1) (line + 1)
-  turn-add {f} q b t = let z : Due have n (Add f) = subst (Due have n) q u in rw w (kept-add k l f b (z .0) (z .1) t (rw q at here))
+  turn-add {f} q b t = let z : Due s have n (Add f) = subst (Due s have n) q u in rw w (kept-add k l f b (z .0) (z .1) (z .2) t (rw q at here))
 
   pub add-room : {f : NewField} → r ≡ Add f → n < 64
-  add-room {f} q = let z : Due have n (Add f) = subst (Due have n) q u in z .0
+  add-room {f} q = let z : Due s have n (Add f) = subst (Due s have n) q u in z .0
 
   pub turn-refuse : {m : ℕ} → r ≡ Refuse m → (1 ≤ m) × (rejected m line ≡ judgedFrom 1 beforeHeader (lines s))
   turn-refuse {m} q =
@@ -254,5 +267,8 @@ pub line-within : (s : List ℕ) (at e : ℕ) → at < length s → e ≡ lineEn
 line-within s at e h w = (omega arith, rw w (front-within (inClass NotNewline) s at (length s) (omega arith) (omega arith)))
 
 -- an outline of a refusal
-pub refused-outline : (s : List ℕ) (o : Outline) (number line : ℕ) → (o .number ≡ number) × (o .line ≡ line) → 1 ≤ number → outlineOf s o ≡ rejected number line
+refused-outline : (s : List ℕ) (o : Outline) (number line : ℕ) → (o .number ≡ number) × (o .line ≡ line) → 1 ≤ number → outlineOf s o ≡ rejected number line
 refused-outline s o number line q h = rw (q .0, q .1, ne-eqb number 0 (λ z. omega arith))
+
+pub refused-outlined : (s : List ℕ) (o : Outline) (number line : ℕ) → (o .number ≡ number) × (o .line ≡ line) → 1 ≤ number → rejected number line ≡ judged s → Outlined s o
+refused-outlined s o number line q h j = record { judges = refused-outline s o number line q h ∙ j; placed = λ z. absurd (omega (arith, q .0)) }

@@ -25,18 +25,20 @@ use Rattle.grammar.specs.declared.HeaderLine.the-variants.{NoHeader, IsHeader}
 use Rattle.grammar.specs.declared.FieldShape.{FieldShape}
 use Rattle.grammar.specs.declared.Shape.{Shape}
 use Rattle.grammar.specs.declared.Shape.the-variants.{NoField, IsField}
-use Rattle.grammar.specs.Grammar.{headerIn, shapeIn}
+use Rattle.grammar.specs.Grammar.{headerIn, shapeIn, Places}
 use Rattle.types.specs.declared.Form.{Form}
 use Rattle.types.specs.declared.Meant.{Meant}
 use Rattle.types.specs.declared.Meant.the-variants.{Malformed, Unknown, Forbidden, Means}
 use Rattle.types.specs.Types.{kindIn, meantIn, meaningIn}
+use Rattle.types.proofs.Symbols.{symbols-listed}
+use Rattle.stanza.specs.declared.FieldDesc.{FieldDesc}
 use Rattle.stanza.specs.declared.FieldVerdict.{FieldVerdict}
 use Rattle.stanza.specs.declared.FieldVerdict.the-variants.{BadField, GoodField}
 use Rattle.stanza.specs.declared.NewField.{NewField}
 use Rattle.stanza.specs.declared.HeaderVerdict.{HeaderVerdict}
 use Rattle.stanza.specs.declared.Step.{Step}
 use Rattle.stanza.specs.declared.Step.the-variants.{Skip, Refuse, Head, Add}
-use Rattle.stanza.specs.Stanza.{headerVerdict, fieldVerdict, fieldOf, namedFrom, Stands, progressOf, stepOf, Fits, Due}
+use Rattle.stanza.specs.Stanza.{headerVerdict, fieldVerdict, fieldOf, Placed, namedFrom, Stands, progressOf, stepOf, Fits, Due}
 
 -- headers
 module _ (s : List ℕ) (at t e : ℕ) where
@@ -97,6 +99,16 @@ module _ (s : List ℕ) (t e : ℕ) (x : FieldShape) (m : Meant)
       → withField d (record { kind = kindIn s (x .«qualifiers_at») (x .«qualifiers_end») f; fieldName = partIn s (x .«name_at») (x .«name_end»); freeText = partIn s (x .«text_at») e }) ≡ ofFieldLine d (shapeIn s t e (IsField x))
   line-means q = sym (line-verdict ∙ rw q)
 
+-- a field's qualifiers and symbols
+pub line-placed : (s : List ℕ) (t e : ℕ) (x : FieldShape) (d : FieldDesc) → Places t e x → e ≤ length s
+    → meantIn s (x .«qualifiers_at») (x .«qualifiers_end») (Means (d .form)) ≡ meaningIn (slice t (x .«type_end») s) s (x .«qualifiers_at») (x .«qualifiers_end»)
+    → d .«qualifiers_at» ≡ x .«qualifiers_at» → d .«qualifiers_end» ≡ x .«qualifiers_end» → Placed s d
+line-placed s t e x d p l g a b = record {
+  from = omega (arith, p .qualifiers-from, a, b);
+  to = omega (arith, p .qualifiers-to, b);
+  listed = λ w m q. symbols-listed (slice t (x .«type_end») s) s (d .«qualifiers_at») (d .«qualifiers_end») (kindIn s (d .«qualifiers_at») (d .«qualifiers_end») (d .form)) (rw (a, b) g) w m q;
+}
+
 -- after the fields before it
 module _ (s : List ℕ) (d : Description) (last : Bool) (names ends : List ℕ) (n : ℕ) (st : Stands s d last names ends n) (f : Field) (a e : ℕ) (p : f .fieldName ≡ partIn s a e) where
   pub after-tail : last ≡ true → faulty 4 ≡ withField d f
@@ -149,8 +161,8 @@ pub nonblank : (s : List ℕ) (at e t : ℕ) → at ≤ e → e ≤ length s →
 nonblank s at e t l k q = (omega arith, rw q (front-within (inClass Blank) s at e l k))
 
 -- a field's line, after the header
-pub due : (n : ℕ) (r : Step) (have : Bool) → have ≡ true → Fits n r → Due have n r
-due n Skip have h k = tt
-due n (Refuse m) have h k = tt
-due n (Head x) have h k = absurd k
-due n (Add f) have h k = (k, h)
+pub due : (s : List ℕ) (n : ℕ) (r : Step) (have : Bool) → have ≡ true → Fits s n r → Due s have n r
+due s n Skip have h k = tt
+due s n (Refuse m) have h k = tt
+due s n (Head x) have h k = absurd k
+due s n (Add f) have h k = (k .0, h, k .1)

@@ -3,18 +3,19 @@ use Prim.Native.Nat.{ℕ, zero, suc, _+_, _≤_, _<_}
 use mathlib.Core.Path.{_≡_}
 use mathlib.Core.Bool.{Bool, true, false, not, cond, _&&_, _||_}
 use mathlib.Core.List.{List, [], _∷_, _++_}
+use mathlib.Core.Option.{some}
 use lib.ListN.{length, getD}
 use lib.Seq.{slice}
 use lib.Dec.{eqb}
 use Rattle.format.specs.Lists.{anyOf, null}
 use Rattle.format.specs.Octets.{sameWord}
-use Rattle.format.specs.Field.{Part, Field}
+use Rattle.format.specs.Field.{Part, Symbol, int, Field}
 use Rattle.format.specs.Grammar.{Header}
-use Rattle.format.specs.Judge.{Description, Progress, beforeHeader, afterHeader, Verdict, faulty, goesOn, afterTail, sameName, withField, Judged, rejected, described}
+use Rattle.format.specs.Judge.{Description, Progress, beforeHeader, afterHeader, Verdict, faulty, goesOn, afterTail, sameName, withField, Judged, rejected, described, judged}
 use Rattle.octets.specs.Octets.{partIn}
 use Rattle.types.specs.declared.Form.{Form}
 use Rattle.types.specs.declared.Form.the-variants.{Rrtype}
-use Rattle.types.specs.Types.{kindIn}
+use Rattle.types.specs.Types.{symbolsIn, kindIn}
 use Rattle.stanza.specs.declared.HeaderDesc.{HeaderDesc}
 use Rattle.stanza.specs.declared.FieldDesc.{FieldDesc}
 use Rattle.stanza.specs.declared.HeaderVerdict.{HeaderVerdict}
@@ -43,10 +44,17 @@ abbrev pub fieldVerdict : List ℕ → Description → FieldVerdict → Verdict
 fieldVerdict s d (BadField n) = faulty n
 fieldVerdict s d (GoodField f) = withField d (fieldOf s (f .field) (f .«name_at») (f .«name_end»))
 
--- a new field's name lies in the stanza
+-- a field's qualifiers lie in the stanza, and an integer's symbols are those listed there
+pub record Placed (s : List ℕ) (f : FieldDesc) : Type 0 where
+  pub from : f .«qualifiers_at» ≤ f .«qualifiers_end»
+  pub to : f .«qualifiers_end» ≤ length s
+  pub listed : (w : ℕ) (l : List Symbol) → kindIn s (f .«qualifiers_at») (f .«qualifiers_end») (f .form) ≡ int w l
+      → symbolsIn w s (f .«qualifiers_at») (f .«qualifiers_end») ≡ some l
+
+-- and so does a new field's name
 abbrev pub VerdictWithin : List ℕ → FieldVerdict → Type 0
 VerdictWithin s (BadField n) = Unit {0}
-VerdictWithin s (GoodField f) = (f .«name_at» ≤ f .«name_end») × (f .«name_end» ≤ length s)
+VerdictWithin s (GoodField f) = (f .«name_at» ≤ f .«name_end») × (f .«name_end» ≤ length s) × Placed s (f .field)
 
 abbrev pub noField : FieldDesc
 noField = record { form = Rrtype; «qualifiers_at» = 0; «qualifiers_end» = 0; «text_at» = 0; «text_end» = 0 }
@@ -87,18 +95,18 @@ stepOf s p (Head h) = goesOn (afterHeader (record { header = headerOf s h; field
 stepOf s p (Add f) = withMore p (fieldOf s (f .field) (f .«name_at») (f .«name_end»))
 
 -- a field's line adds a field, and only below the 64th
-abbrev pub Fits : ℕ → Step → Type 0
-Fits n Skip = Unit {0}
-Fits n (Refuse k) = Unit {0}
-Fits n (Head h) = ⊥
-Fits n (Add f) = n < 64
+abbrev pub Fits : List ℕ → ℕ → Step → Type 0
+Fits s n Skip = Unit {0}
+Fits s n (Refuse k) = Unit {0}
+Fits s n (Head h) = ⊥
+Fits s n (Add f) = (n < 64) × Placed s (f .field)
 
 -- so a header is found only before it, and a field only after it
-abbrev pub Due : Bool → ℕ → Step → Type 0
-Due have n Skip = Unit {0}
-Due have n (Refuse k) = Unit {0}
-Due have n (Head h) = have ≡ false
-Due have n (Add f) = (n < 64) × (have ≡ true)
+abbrev pub Due : List ℕ → Bool → ℕ → Step → Type 0
+Due s have n Skip = Unit {0}
+Due s have n (Refuse k) = Unit {0}
+Due s have n (Head h) = have ≡ false
+Due s have n (Add f) = (n < 64) × (have ≡ true) × Placed s (f .field)
 
 -- the description, or the refusal
 abbrev pub descriptionOf : List ℕ → Outline → Description
@@ -106,3 +114,12 @@ descriptionOf s o = record { header = headerOf s (o .header); fields = fieldsFro
 
 abbrev pub outlineOf : List ℕ → Outline → Judged
 outlineOf s o = cond (eqb (o .number) 0) (described (descriptionOf s o)) (rejected (o .number) (o .line))
+
+-- what is known of the fields of an accepted one
+abbrev pub AllPlaced : List ℕ → List FieldDesc → ℕ → Type 0
+AllPlaced s fs n = (k : ℕ) → k < n → Placed s (getD fs k noField)
+
+-- a judged stanza: the description or the refusal is the definition's, and the fields' places lie in the stanza
+pub record Outlined (s : List ℕ) (o : Outline) : Type 0 where
+  pub judges : outlineOf s o ≡ judged s
+  pub placed : o .number ≡ 0 → AllPlaced s (o .fields) (o .count)

@@ -8,12 +8,12 @@ ghost use mathlib.Core.Bool.{not, cond, _||_};
 ghost use mathlib.Core.List.{List};
 ghost use Rattle.format.specs.Field.{tail, Symbol};
 ghost use Rattle.format.specs.Grammar.{headerLine, fieldLine};
-ghost use Rattle.format.specs.Judge.{Description, afterHeader, faulty, ofHeader, ofFieldLine, judged, lineVerdict};
+ghost use Rattle.format.specs.Judge.{Description, afterHeader, faulty, ofHeader, ofFieldLine, lineVerdict};
 ghost use Rattle.octets.specs.Octets.{partIn};
 ghost use Rattle.grammar.specs.Grammar.{shapeIn, Places};
 ghost use Rattle.grammar.specs.declared.Shape.the-variants.{IsField};
 ghost use Rattle.types.specs.Types.{kindOf};
-ghost use Rattle.stanza.specs.Stanza.{headerVerdict, fieldVerdict, VerdictWithin, sameText, namedFrom, progressOf, Stands, stepOf, Fits, Due, outlineOf};
+ghost use Rattle.stanza.specs.Stanza.{headerVerdict, fieldVerdict, VerdictWithin, sameText, namedFrom, progressOf, Stands, stepOf, Fits, Due, Outlined};
 use grammar::FieldShape;
 use grammar::HeaderLine;
 use grammar::Shape;
@@ -232,7 +232,7 @@ fn line_step(
     n: usize,
 ) -> Step
     requires { ⌜ (at ≤ e) × (e ≤ length (now s)) × (length (now s) ≤ 8192) × (n ≤ length (now names)) × (n ≤ length (now ends)) ⌝ }
-    ensures { λ r. ⌜ Due have n r × ((d : Description) → Stands (now (s .entry)) d last (now (names .entry)) (now (ends .entry)) n
+    ensures { λ r. ⌜ Due (now (s .entry)) have n r × ((d : Description) → Stands (now (s .entry)) d last (now (names .entry)) (now (ends .entry)) n
         → stepOf (now (s .entry)) (progressOf have d) r ≡ lineVerdict (progressOf have d) (partIn (now (s .entry)) at e)) ⌝ }
 {
     let t = octets::skip(s, at, e, Class::Blank);
@@ -264,7 +264,7 @@ fn ignored(s: &[u8], t: usize, e: usize) -> bool
 // A field's line after the n fields before it.
 fn field_step(s: &[u8], f: FieldVerdict, last: bool, names: &[u16], ends: &[u16], n: usize) -> Step
     requires { ⌜ VerdictWithin (now s) f × (n ≤ length (now names)) × (n ≤ length (now ends)) ⌝ }
-    ensures { λ r. ⌜ Fits n r × ((d : Description) → Stands (now (s .entry)) d last (now (names .entry)) (now (ends .entry)) n
+    ensures { λ r. ⌜ Fits (now (s .entry)) n r × ((d : Description) → Stands (now (s .entry)) d last (now (names .entry)) (now (ends .entry)) n
         → stepOf (now (s .entry)) (afterHeader d) r ≡ fieldVerdict (now (s .entry)) d f) ⌝ }
 {
     match f {
@@ -317,7 +317,7 @@ fn rejected(number: u8, line: u16) -> Outline
 
 // The judged stanza.
 pub fn judged_outline(s: &[u8]) -> Outline
-    ensures { λ r. ⌜ outlineOf (now (s .entry)) r ≡ judged (now (s .entry)) ⌝ }
+    ensures { λ r. ⌜ Outlined (now (s .entry)) r ⌝ }
 {
     if 8192 < s.len() {
         return rejected(1, 0);

@@ -69,13 +69,16 @@ intWidth Hexc = 0
 intWidth (Eui w) = 0
 intWidth Time = 0
 
--- an integer's symbols are those among the qualifiers from a to b
+-- the symbols of an integer of w octets among the qualifiers from a to b
+abbrev pub symbolsIn : ℕ → List ℕ → ℕ → ℕ → Option (List Symbol)
+symbolsIn w s a b = qualifiersIn s a b >>= eachOf (symbolOf w)
+
 abbrev pub orNone : Option (List Symbol) → List Symbol
 orNone none = []
 orNone (some l) = l
 
 abbrev pub kindIn : List ℕ → ℕ → ℕ → Form → Kind
-kindIn s a b f = kindOf (orNone (qualifiersIn s a b >>= eachOf (symbolOf (intWidth f)))) f
+kindIn s a b f = kindOf (orNone (symbolsIn (intWidth f) s a b)) f
 
 -- what a type and its qualifiers, from a to b, are; none: they break the grammar
 abbrev pub meantIn : List ℕ → ℕ → ℕ → Meant → Option Meaning

@@ -1,5 +1,7 @@
-use Rattle.stanza.proofs.Verdicts.{indented, outdented, no-header, low-number, high-number, good-header, line-malformed, line-unknown, line-forbidden, line-means, after-tail, named-again, too-many, one-more, line-ignored, line-read}
-use mathlib.Core.Path.{_≡_, refl, sym, ap, _∙_}
+use Rattle.stanza.proofs.Verdicts.{indented, outdented, no-header, low-number, high-number, good-header, line-malformed, line-unknown, line-forbidden, line-means, line-placed, after-tail, named-again, too-many, one-more, line-ignored, line-read}
+use mathlib.Core.Path.{_≡_, refl, sym, ap, subst, _∙_}
+use lib.Seq.{slice}
+use Rattle.types.specs.Types.{meantIn, meaningIn}
 use native.Mathlib.Omega.{arith}
 use borrow.Author.Needs.{needs}
 use Rattle.stanza.proofs.field_meant.Statement.{statement}
@@ -66,7 +68,7 @@ returns-3 c = (tt, λ d. line-forbidden (c .before .before .before .before .args
 
 -- src/lib.rt:111:1
 returns-4 : tie.Need-returns-4
-returns-4 c = ((c .before .before .before .before .before .before .before .before .pre .0 .name-from, omega (arith, c .before .before .before .before .before .before .before .before .pre .0 .name-to, c .before .before .before .before .before .before .before .before .pre .1)), λ d. line-means (c .before .before .before .before .before .before .before .before .args .s .now) (c .before .before .before .before .before .before .before .before .args .t) (c .before .before .before .before .before .before .before .before .args .e) (c .before .before .before .before .before .before .before .before .args .x) (c .before .before .before .before .before .before .meaning-of .result) (c .before .before .before .before .before .before .meaning-of .ensures) d (c .before .before .before .before .m .given .1))
+returns-4 c = ((c .before .before .before .before .before .before .before .before .pre .0 .name-from, omega (arith, c .before .before .before .before .before .before .before .before .pre .0 .name-to, c .before .before .before .before .before .before .before .before .pre .1), line-placed (c .before .before .before .before .before .before .before .before .args .s .now) (c .before .before .before .before .before .before .before .before .args .t) (c .before .before .before .before .before .before .before .before .args .e) (c .before .before .before .before .before .before .before .before .args .x) _ (c .before .before .before .before .before .before .before .before .pre .0) (c .before .before .before .before .before .before .before .before .pre .1) (subst (λ m. meantIn (c .before .before .before .before .before .before .before .before .args .s .now) (c .before .before .before .before .before .before .before .before .args .x .«qualifiers_at») (c .before .before .before .before .before .before .before .before .args .x .«qualifiers_end») m ≡ meaningIn (slice (c .before .before .before .before .before .before .before .before .args .t) (c .before .before .before .before .before .before .before .before .args .x .«type_end») (c .before .before .before .before .before .before .before .before .args .s .now)) (c .before .before .before .before .before .before .before .before .args .s .now) (c .before .before .before .before .before .before .before .before .args .x .«qualifiers_at») (c .before .before .before .before .before .before .before .before .args .x .«qualifiers_end»)) (c .before .before .before .before .m .given .1) (c .before .before .before .before .before .before .meaning-of .ensures)) refl refl), λ d. line-means (c .before .before .before .before .before .before .before .before .args .s .now) (c .before .before .before .before .before .before .before .before .args .t) (c .before .before .before .before .before .before .before .before .args .e) (c .before .before .before .before .before .before .before .before .args .x) (c .before .before .before .before .before .before .meaning-of .result) (c .before .before .before .before .before .before .meaning-of .ensures) d (c .before .before .before .before .m .given .1))
 
 pub field-meant-spec : {M : Type 1} → statement M
 field-meant-spec =

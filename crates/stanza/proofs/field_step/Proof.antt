@@ -47,7 +47,7 @@ returns-4 c = (tt, λ d st. rw (c .before .f .given .1))
 
 -- src/lib.rt:240:1
 returns-5 : tie.Need-returns-5
-returns-5 c = (c .if3 .left, λ d st. rw (c .before .before .before .before .before .before .before .f2 .given .1) (one-more (c .before .before .before .before .before .before .before .before .before .before .before .before .args .s .now) d (c .before .before .before .before .before .before .before .before .before .before .before .before .args .last) (c .before .before .before .before .before .before .before .before .before .before .before .before .args .names .now) (c .before .before .before .before .before .before .before .before .before .before .before .before .args .ends .now) (c .before .before .before .before .before .before .before .before .before .before .before .before .args .n) st (fieldOf (c .before .before .before .before .before .before .before .before .before .before .before .before .args .s .now) ((c .before .before .before .before .before .before .before .f2 .given .0 .0) .field) ((c .before .before .before .before .before .before .before .f2 .given .0 .0) .«name_at») ((c .before .before .before .before .before .before .before .f2 .given .0 .0) .«name_end»)) ((c .before .before .before .before .before .before .before .f2 .given .0 .0) .«name_at») ((c .before .before .before .before .before .before .before .f2 .given .0 .0) .«name_end») refl (c .before .before .before .before .before .if1 .left) (sym (c .before .before .name-again .ensures) ∙ c .before .if2 .left) (c .if3 .left)))
+returns-5 c = ((c .if3 .left, (rw (c .before .before .before .before .before .before .before .f2 .given .1) at (c .before .before .before .before .before .before .before .before .before .before .before .before .pre .0)) .2), λ d st. rw (c .before .before .before .before .before .before .before .f2 .given .1) (one-more (c .before .before .before .before .before .before .before .before .before .before .before .before .args .s .now) d (c .before .before .before .before .before .before .before .before .before .before .before .before .args .last) (c .before .before .before .before .before .before .before .before .before .before .before .before .args .names .now) (c .before .before .before .before .before .before .before .before .before .before .before .before .args .ends .now) (c .before .before .before .before .before .before .before .before .before .before .before .before .args .n) st (fieldOf (c .before .before .before .before .before .before .before .before .before .before .before .before .args .s .now) ((c .before .before .before .before .before .before .before .f2 .given .0 .0) .field) ((c .before .before .before .before .before .before .before .f2 .given .0 .0) .«name_at») ((c .before .before .before .before .before .before .before .f2 .given .0 .0) .«name_end»)) ((c .before .before .before .before .before .before .before .f2 .given .0 .0) .«name_at») ((c .before .before .before .before .before .before .before .f2 .given .0 .0) .«name_end») refl (c .before .before .before .before .before .if1 .left) (sym (c .before .before .name-again .ensures) ∙ c .before .if2 .left) (c .if3 .left)))
 
 pub field-step-spec : {M : Type 1} → statement M
 field-step-spec =

@@ -1,4 +1,4 @@
-use Rattle.stanza.proofs.Outlines.{turn-skip, turn-head, turn-add, add-room, turn-refuse, line-within, refused-outline}
+use Rattle.stanza.proofs.Outlines.{turn-skip, turn-head, turn-add, add-room, turn-refuse, line-within, refused-outlined}
 use Rattle.stanza.proofs.Outlines.{Kept, soFar, stands, fault-number, kept-start, kept-skip, kept-head, kept-add, kept-refused, no-fields, some-fields, judged-lines, judged-long}
 use Rattle.stanza.specs.Stanza.{outlineOf}
 use borrow.Author.Tests.{ne-eqb}
@@ -29,7 +29,7 @@ rejected-requires c κs = search needs
 
 -- src/lib.rt:288:9
 returns : tie.Need-returns Inv-loop μ-loop
-returns c = refused-outline (c .before .before .before .args .s .now) (c .rejected .result) 1 0 (c .rejected .ensures) (omega arith) ∙ sym (judged-long (c .before .before .before .args .s .now) (c .before .if1 .taken))
+returns c = refused-outlined (c .before .before .before .args .s .now) (c .rejected .result) 1 0 (c .rejected .ensures) (omega arith) (sym (judged-long (c .before .before .before .args .s .now) (c .before .if1 .taken)))
 
 -- src/lib.rt:300:5
 loop-holds : tie.Need-loop-holds Inv-loop μ-loop
@@ -81,7 +81,7 @@ rejected-requires-2 c κs = search needs
 
 -- src/lib.rt:309:17
 returns-2 : tie.Need-returns-2 Inv-loop μ-loop
-returns-2 c = let z = turn-refuse (c .before .before .before .before .before .before .before .before .before .loop .inv .3) (c .before .before .before .before .before .before .before .before .loop-test .taken) (c .before .before .before .before .before .before .before .skip .result) (c .before .before .before .before .before .before .before .skip .ensures) (c .before .before .before .before .line-step .result) (c .before .before .before .before .line-step .ensures .0) (c .before .before .before .before .line-step .ensures .1) (c .before .before .step .given .1) in refused-outline (c .before .before .before .before .before .before .before .before .before .before .before .before .args .s .now) (c .rejected2 .result) _ _ (c .rejected2 .ensures) (z .0) ∙ z .1 ∙ sym (judged-lines (c .before .before .before .before .before .before .before .before .before .before .before .before .args .s .now) (c .before .before .before .before .before .before .before .before .before .before .if1 .left))
+returns-2 c = let z = turn-refuse (c .before .before .before .before .before .before .before .before .before .loop .inv .3) (c .before .before .before .before .before .before .before .before .loop-test .taken) (c .before .before .before .before .before .before .before .skip .result) (c .before .before .before .before .before .before .before .skip .ensures) (c .before .before .before .before .line-step .result) (c .before .before .before .before .line-step .ensures .0) (c .before .before .before .before .line-step .ensures .1) (c .before .before .step .given .1) in refused-outlined (c .before .before .before .before .before .before .before .before .before .before .before .before .args .s .now) (c .rejected2 .result) _ _ (c .rejected2 .ensures) (z .0) (z .1 ∙ sym (judged-lines (c .before .before .before .before .before .before .before .before .before .before .before .before .args .s .now) (c .before .before .before .before .before .before .before .before .before .before .if1 .left)))
 
 -- src/lib.rt:311:24
 enum-known-step-2 : tie.Need-enum-known-step-2 Inv-loop μ-loop
@@ -161,11 +161,11 @@ rejected-requires-3 c κs = search needs
 
 -- src/lib.rt:331:9
 returns-3 : tie.Need-returns-3 Inv-loop μ-loop
-returns-3 c = refused-outline (c .before .before .before .before .before .before .args .s .now) (c .rejected3 .result) 2 0 (c .rejected3 .ensures) (omega arith) ∙ no-fields (c .before .before .before .loop .inv .3) (c .before .before .loop-test .left) (c .before .if2 .taken) ∙ sym (judged-lines (c .before .before .before .before .before .before .args .s .now) (c .before .before .before .before .if1 .left))
+returns-3 c = refused-outlined (c .before .before .before .before .before .before .args .s .now) (c .rejected3 .result) 2 0 (c .rejected3 .ensures) (omega arith) (no-fields (c .before .before .before .loop .inv .3) (c .before .before .loop-test .left) (c .before .if2 .taken) ∙ sym (judged-lines (c .before .before .before .before .before .before .args .s .now) (c .before .before .before .before .if1 .left)))
 
 -- src/lib.rt:284:1
 returns-4 : tie.Need-returns-4 Inv-loop μ-loop
-returns-4 c = some-fields (c .before .before .loop .inv .3) (c .before .loop-test .left) (c .if2 .left) ∙ sym (judged-lines (c .before .before .before .before .before .args .s .now) (c .before .before .before .if1 .left))
+returns-4 c = record { judges = some-fields (c .before .before .loop .inv .3) (c .before .loop-test .left) (c .if2 .left) ∙ sym (judged-lines (c .before .before .before .before .before .args .s .now) (c .before .before .before .if1 .left)); placed = λ z. c .before .before .loop .inv .3 .placed }
 
 pub judged-outline-spec : {M : Type 1} → statement M
 judged-outline-spec =

@@ -35,7 +35,7 @@ field-step-requires c κs = search needs
 
 -- src/lib.rt:219:9
 returns-2 : tie.Need-returns-2
-returns-2 c = (due _ (c .field-step .result) _ (c .before .before .if2 .taken) (c .field-step .ensures .0), λ d st. rw (c .before .before .if2 .taken) (line-read (c .before .before .before .before .before .before .before .before .before .args .s .now) (c .before .before .before .before .before .before .before .before .before .args .at) (c .before .before .before .before .before .before .before .before .before .args .e) (c .before .before .before .before .before .skip .result) (c .before .before .before .before .before .before .before .before .before .pre .0) (c .before .before .before .before .before .before .before .before .before .pre .1) (c .before .before .before .before .before .skip .ensures) _ _ (sym (c .before .before .before .before .ignored .ensures) ∙ c .before .before .before .if1 .left) (c .field-step .ensures .1 d st ∙ c .before .field-verdict .ensures .1 d)))
+returns-2 c = (due _ _ (c .field-step .result) _ (c .before .before .if2 .taken) (c .field-step .ensures .0), λ d st. rw (c .before .before .if2 .taken) (line-read (c .before .before .before .before .before .before .before .before .before .args .s .now) (c .before .before .before .before .before .before .before .before .before .args .at) (c .before .before .before .before .before .before .before .before .before .args .e) (c .before .before .before .before .before .skip .result) (c .before .before .before .before .before .before .before .before .before .pre .0) (c .before .before .before .before .before .before .before .before .before .pre .1) (c .before .before .before .before .before .skip .ensures) _ _ (sym (c .before .before .before .before .ignored .ensures) ∙ c .before .before .before .if1 .left) (c .field-step .ensures .1 d st ∙ c .before .field-verdict .ensures .1 d)))
 
 -- src/lib.rt:221:9
 header-verdict-requires : tie.Need-header-verdict-requires
