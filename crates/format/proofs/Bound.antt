@@ -1,19 +1,19 @@
 -- The printed text of accepted RDATA is at most 1,048,576 octets.
 use Prim.Native.Nat.{ℕ, _+_, _*_, _≤_}
-use mathlib.Core.Path.{_≡_, ap, _∙_}
-use mathlib.Core.Bool.{Bool, true, false}
+use mathlib.Core.Path.{_≡_, refl, sym, ap, _∙_}
+use mathlib.Core.Bool.{Bool, true, false, cond, true≢false}
 use mathlib.Core.List.{List, [], _∷_}
 use native.Mathlib.Omega.{arith}
 use lib.ListN.{length, take, drop, length-append, length-take, length-drop}
-use Rattle.format.specs.Lists.{allOf}
+use Rattle.format.specs.Lists.{anyOf, allOf}
 use Rattle.format.specs.Octets.{Octets}
-use Rattle.format.specs.Field.{Kind, start, tail}
+use Rattle.format.specs.Field.{Kind, int, rrtype, bitmap, a4, aa, aaaa, name, str, strs, raw, b32, b64, hex, hexc, eui, time, start, tail}
 use Rattle.format.specs.Run.{shown, parts, partsOf, maxRdata, joined, textOfParts}
 use Rattle.format.specs.Entries.{maxText}
 use Rattle.format.specs.Demands.{tailsLast, soundKind}
-use Rattle.format.proofs.Lists.{and-left, and-right, below-take, below-drop}
+use Rattle.format.proofs.Lists.{and-left, and-right, or-left, or-right, below-take, below-drop}
 use Rattle.format.proofs.Wire.{fits}
-use Rattle.format.proofs.Field.{cap}
+use Rattle.format.proofs.Field.{isBitmap, cap}
 use Rattle.format.proofs.Run.{First, took-first, first, no-tail}
 use Rattle.format.proofs.Fields.{field-laws, taken-alone}
 
@@ -24,7 +24,7 @@ joined-bound (x ∷ s) (y ∷ t) = omega (arith, length-append (x ∷ s) (32 ∷
 
 abbrev caps : List Kind → ℕ
 caps [] = 0
-caps (k ∷ ks) = cap (tail k) + 1 + caps ks
+caps (k ∷ ks) = cap k + 1 + caps ks
 
 run-bound : (ks : List Kind) (xs : List ℕ) (ps : List (List ℕ)) → allOf soundKind ks ≡ true → Octets xs → partsOf ks xs ≡ parts ps → length (textOfParts shown ks ps) ≤ 4 * length xs + caps ks
 unfolding textOfParts
@@ -32,7 +32,7 @@ run-bound [] xs ps g b e = omega arith
 run-bound (k ∷ ks) xs ps g b e = by (first k ks xs ps e) (λ ys qs. run-bound ks ys qs (and-right (soundKind k) (allOf soundKind ks) g))
   where
     by : First k ks xs ps → ((ys : List ℕ) (qs : List (List ℕ)) → Octets ys → partsOf ks ys ≡ parts qs → length (textOfParts shown ks qs) ≤ 4 * length ys + caps ks)
-        → length (textOfParts shown (k ∷ ks) ps) ≤ 4 * length xs + (cap (tail k) + 1 + caps ks)
+        → length (textOfParts shown (k ∷ ks) ps) ≤ 4 * length xs + (cap k + 1 + caps ks)
     by (took-first n qs t f w) ih =
         let m : n ≤ length xs = fits (start k) xs n t in
         let l : length (take n xs) ≡ n = length-take n xs ∙ omega arith in
@@ -40,14 +40,52 @@ run-bound (k ∷ ks) xs ps g b e = by (first k ks xs ps e) (λ ys qs. run-bound 
         let d = ih (drop n xs) qs (below-drop 256 n xs b) f in
         rw w (omega (arith, joined-bound (shown k (take n xs)) (textOfParts shown ks qs), length-drop n xs))
 
-cap-most : (b : Bool) → cap b ≤ 655423
-cap-most true = omega arith
-cap-most false = omega arith
+cap-most : (k : Kind) → cap k ≤ 655423
+cap-most k = by (isBitmap k)
+  where
+    by : (b : Bool) → cond b 655423 63 ≤ 655423
+    by true = omega arith
+    by false = omega arith
+
+-- only a tail is R[L]
+tail-bitmap : (k : Kind) → isBitmap k ≡ true → tail k ≡ true
+tail-bitmap bitmap h = refl
+tail-bitmap (int w l) h = absurd (true≢false (sym h))
+tail-bitmap rrtype h = absurd (true≢false (sym h))
+tail-bitmap a4 h = absurd (true≢false (sym h))
+tail-bitmap aa h = absurd (true≢false (sym h))
+tail-bitmap aaaa h = absurd (true≢false (sym h))
+tail-bitmap (name m) h = absurd (true≢false (sym h))
+tail-bitmap str h = absurd (true≢false (sym h))
+tail-bitmap strs h = refl
+tail-bitmap raw h = refl
+tail-bitmap b32 h = absurd (true≢false (sym h))
+tail-bitmap b64 h = refl
+tail-bitmap hex h = refl
+tail-bitmap hexc h = absurd (true≢false (sym h))
+tail-bitmap (eui w) h = absurd (true≢false (sym h))
+tail-bitmap time h = absurd (true≢false (sym h))
+
+plain-cap : (k : Kind) → tail k ≡ false → cap k ≡ 63
+plain-cap k h = by (isBitmap k) refl
+  where
+    by : (b : Bool) → isBitmap k ≡ b → _≡_ {A = ℕ} (cond b 655423 63) 63
+    by true e = absurd (true≢false (sym (tail-bitmap k e) ∙ h))
+    by false e = refl
 
 caps-bound : (ks : List Kind) → tailsLast ks ≡ true → caps ks ≤ 64 * length ks + 655360
 caps-bound [] h = omega arith
-caps-bound (k ∷ []) h = omega (arith, cap-most (tail k))
-caps-bound (k ∷ l ∷ ks) h = let (f, g) = no-tail k l ks h in omega (arith, ap cap f, caps-bound (l ∷ ks) g)
+caps-bound (k ∷ []) h = omega (arith, cap-most k)
+caps-bound (k ∷ l ∷ ks) h = let (f, g) = no-tail k l ks h in omega (arith, plain-cap k f, caps-bound (l ∷ ks) g)
+
+-- and where none is R[L] at most four for each octet and 64 for each field
+caps-plain : (ks : List Kind) → anyOf isBitmap ks ≡ false → caps ks ≡ 64 * length ks
+caps-plain [] h = omega arith
+caps-plain (k ∷ ks) h = rw (or-left (isBitmap k) (anyOf isBitmap ks) h) (omega (arith, caps-plain ks (or-right (isBitmap k) (anyOf isBitmap ks) h)))
+
+pub plain-within : (ks : List Kind) → anyOf isBitmap ks ≡ false → allOf soundKind ks ≡ true → (xs : List ℕ) → Octets xs → (ps : List (List ℕ)) → partsOf ks xs ≡ parts ps
+    → length (textOfParts shown ks ps) ≤ 4 * length xs + 64 * length ks
+plain-within ks h g xs b ps e = omega (arith, run-bound ks xs ps g b e, caps-plain ks h)
 
 pub text-within : (ks : List Kind) → tailsLast ks ≡ true → allOf soundKind ks ≡ true → length ks ≤ 64 → (xs : List ℕ) → Octets xs → length xs ≤ maxRdata → (ps : List (List ℕ)) → partsOf ks xs ≡ parts ps
     → length (textOfParts shown ks ps) ≤ maxText

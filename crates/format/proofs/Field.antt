@@ -11,7 +11,7 @@ use borrow.Author.Tests.{le-leb, eq-eqb, eqb-true, ltb-false, leb-true}
 use Rattle.format.specs.Lists.{_>>=_, provided, eachOf, exactly, allOf, flat, parted}
 use Rattle.format.specs.Octets.{Below, Octets, inRange, splitOn}
 use Rattle.format.specs.Wire.{Stage, anyOctet, count, toTheEnd, Move, stop, fault, go, moreOctets, step, took, taken}
-use Rattle.format.specs.Field.{Kind, anyOctets, start, tail}
+use Rattle.format.specs.Field.{Kind, int, rrtype, bitmap, a4, aa, aaaa, name, str, strs, raw, b32, b64, hex, hexc, eui, time, anyOctets, start, tail}
 use Rattle.format.specs.Token.{Token, bare, between, scanned, plain}
 use Rattle.format.specs.Text.{withCount, counted, notEmpty}
 use Rattle.format.specs.Name.{isWireName}
@@ -31,13 +31,30 @@ unfoldable pub Back : Kind → List ℕ → List ℕ → Type 0
 Back k o p = BackBy shown (λ k ts. readField k o ts) k p
 
 -- A field's text is at most four octets for each of its own, and so many more: R[L] has up to 65,536 types.
-abbrev pub cap : Bool → ℕ
-cap true = 655423
-cap false = 63
+abbrev pub isBitmap : Kind → Bool
+isBitmap (int w l) = false
+isBitmap rrtype = false
+isBitmap bitmap = true
+isBitmap a4 = false
+isBitmap aa = false
+isBitmap aaaa = false
+isBitmap (name m) = false
+isBitmap str = false
+isBitmap strs = false
+isBitmap raw = false
+isBitmap b32 = false
+isBitmap b64 = false
+isBitmap hex = false
+isBitmap hexc = false
+isBitmap (eui w) = false
+isBitmap time = false
+
+abbrev pub cap : Kind → ℕ
+cap k = cond (isBitmap k) 655423 63
 
 pub record FieldLaws (k : Kind) : Type 0 where
   pub back : (o p : List ℕ) → Octets p → taken (start k) p ≡ took (length p) → Back k o p
-  pub bound : (p : List ℕ) → Octets p → taken (start k) p ≡ took (length p) → length (shown k p) ≤ 4 * length p + cap (tail k)
+  pub bound : (p : List ℕ) → Octets p → taken (start k) p ≡ took (length p) → length (shown k p) ≤ 4 * length p + cap k
   pub accepted : (o : List ℕ) → isWireName o ≡ true → (ts us : List Token) (p : List ℕ) → readField k o ts ≡ got p us → taken (start k) p ≡ took (length p)
 
 -- one bare token of plain octets

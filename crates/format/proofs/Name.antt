@@ -20,7 +20,7 @@ use Rattle.format.proofs.Lists.{and-left, and-right, not-true, bind-som
 use Rattle.format.proofs.Finite.{at-each}
 use Rattle.format.proofs.Wire.{at-end}
 use Rattle.format.proofs.Token.{Parted, kept, kept-append, word-scanned, name-kept, name-begins, given-unescaped, Itemed, item, name-item, none-scanned}
-use Rattle.format.proofs.Field.{Back, cap, FieldLaws, bare-accepted}
+use Rattle.format.proofs.Field.{Back, FieldLaws, bare-accepted}
 use Rattle.format.proofs.Text.{all-pieces, counted-bound, escape-bound, escapes-bound, went-on, piece-taken, takes-piece, with-rest}
 
 -- labels of 1 to 63 octets
@@ -193,10 +193,6 @@ labels-bound [] = omega arith
 labels-bound (l ∷ ls) =
     omega (arith, ap length (name-dotted l ls), root-bound (dotted (l ∷ ls)), ap length (parted-dotted (l ∷ ls)), counted-bound 46 (flatMap nameEscape) (λ s. omega (arith, escapes-bound nameEscape (escape-bound 0x21 (ascii ".\\\"';()@$")) s)) (l ∷ ls ++ [] ∷ []))
 
-cap-some : (b : Bool) → 1 ≤ cap b
-cap-some true = omega arith
-cap-some false = omega arith
-
 -- What reads to a name is one.
 takes-all : (r : Taken) (xs : List ℕ) → takesAll r xs ≡ true → r ≡ took (length xs)
 takes-all short xs e = cc
@@ -262,6 +258,6 @@ pub name-laws : (m : NameMarks) → FieldLaws (name m)
 unfolding Back shown readField
 name-laws m = record {
   back = λ o p b e r q t. field-back (m .optional) o p r b e q t;
-  bound = λ p b e. omega (arith, field-bound (m .optional) p e, cap-some (m .optional));
+  bound = λ p b e. omega (arith, field-bound (m .optional) p e);
   accepted = λ o h ts us p e. field-accepted (m .optional) o h ts us p e;
 }

@@ -14,7 +14,7 @@ use Rattle.format.specs.Grammar.{Header}
 use Rattle.format.specs.Judge.{Description, Progress, beforeHeader, afterHeader, Verdict, faulty, goesOn, afterTail, sameName, withField, Judged, rejected, described, judged}
 use Rattle.octets.specs.Octets.{partIn}
 use Rattle.types.specs.declared.Form.{Form}
-use Rattle.types.specs.declared.Form.the-variants.{Rrtype}
+use Rattle.types.specs.declared.Form.the-variants.{Int}
 use Rattle.types.specs.Types.{symbolsIn, kindIn}
 use Rattle.stanza.specs.declared.HeaderDesc.{HeaderDesc}
 use Rattle.stanza.specs.declared.FieldDesc.{FieldDesc}
@@ -57,7 +57,7 @@ VerdictWithin s (BadField n) = Unit {0}
 VerdictWithin s (GoodField f) = (f .«name_at» ≤ f .«name_end») × (f .«name_end» ≤ length s) × Placed s (f .field)
 
 abbrev pub noField : FieldDesc
-noField = record { form = Rrtype; «qualifiers_at» = 0; «qualifiers_end» = 0; «text_at» = 0; «text_end» = 0 }
+noField = record { form = Int 0; «qualifiers_at» = 0; «qualifiers_end» = 0; «text_at» = 0; «text_end» = 0 }
 
 -- a name that is there and is another's too
 abbrev pub sameText : List ℕ → List ℕ → Bool

@@ -1,0 +1,43 @@
+// A run of fields on the wire.
+ghost use Prim.Native.Nat.{ℕ, _+_, _≤_};
+ghost use mathlib.Core.List.{List};
+ghost use lib.ListN.{length};
+ghost use Rattle.run.specs.Run.{kindsFrom, Checks};
+use stanza::FieldDesc;
+use wire::Take;
+
+// What a run makes of RDATA: its fields take it all, or a refusal's number and place.
+pub enum Checked {
+    Good,
+    Refused(u32, u32),
+}
+
+// The fields from number first on, so many, taken from the left.
+pub fn check(fields: [FieldDesc; 64], first: usize, many: usize, p: &[u8]) -> Checked
+    requires { ⌜ (first + many ≤ 64) × (length (now p) ≤ 65535) ⌝ }
+    ensures { λ r. ⌜ ((s : List ℕ) → Checks (kindsFrom s fields first many) (now (p .entry)) r) ⌝ }
+{
+    let mut k = 0;
+    let mut at = 0;
+    while k < many {
+        let d = fields[first + k];
+        let form = d.form;
+        let t = wire::take_field(form, p, at, p.len());
+        match t {
+            Take::Short => {
+                return Checked::Refused(8, k as u32 + 1);
+            }
+            Take::Bad => {
+                return Checked::Refused(9, k as u32 + 1);
+            }
+            Take::Took(w) => {
+                at = at + w;
+            }
+        }
+        k = k + 1;
+    }
+    if at < p.len() {
+        return Checked::Refused(10, many as u32 + 1);
+    }
+    Checked::Good
+}
