@@ -1,7 +1,9 @@
 // Integers of a fixed number of octets.
-ghost use Prim.Native.Nat.{_+_, _*_, _<_};
+ghost use Prim.Native.Nat.{_+_, _*_, _^_, _<_, _≤_};
 ghost use mathlib.Core.Path.{_≡_};
 ghost use lib.ListN.{length, getD};
+ghost use lib.Seq.{slice};
+ghost use Rattle.format.specs.Digits;
 
 // The number of the two octets at i.
 pub fn two(p: &[u8], i: usize) -> u64
@@ -11,4 +13,18 @@ pub fn two(p: &[u8], i: usize) -> u64
     let hi = p[i] as u64;
     let lo = p[i + 1] as u64;
     hi * 256 + lo
+}
+
+// The number of the octets from i to e, four at most.
+pub fn number(p: &[u8], i: usize, e: usize) -> u64
+    requires { ⌜ (i ≤ e) × (e ≤ i + 4) × (e ≤ length (now p)) ⌝ }
+    ensures { λ r. ⌜ (r ≡ Digits.number 256 (slice i e (now (p .entry)))) × (r < 2 ^ 32) ⌝ }
+{
+    let mut v: u64 = 0;
+    let mut j = i;
+    while j < e {
+        v = v * 256 + p[j] as u64;
+        j = j + 1;
+    }
+    v
 }
