@@ -13,6 +13,12 @@ ghost use Rattle.format.specs.Name.{nameEscape};
 ghost use Rattle.format.specs.Text.{stringEscape};
 ghost use Rattle.writing.specs.Writing.{Wrote};
 
+// What a reader makes of a token: no value; or the value's octets, stored up to a place.
+pub enum Value {
+    Fault,
+    Upto(usize),
+}
+
 // One octet at a place; nothing where the place is past the end.
 pub fn put(out: &mut [u8], i: usize, b: u8)
     ensures { λ _. ⌜ now (out .exit) ≡ set (now (out .entry)) i b ⌝ }
