@@ -4,3 +4,4 @@ pub mod Groups
 pub mod Pieces
 pub mod Strings
 pub mod Names
+pub mod Zeros
