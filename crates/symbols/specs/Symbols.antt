@@ -1,0 +1,46 @@
+-- The symbols of an integer field, among the qualifiers of its line.
+use Prim.Native.Nat.{ℕ, _≤_}
+use mathlib.Core.List.{List, [], _∷_}
+use mathlib.Core.Option.{Option, none, some}
+use lib.Dec.{eqb}
+use lib.Seq.{slice}
+use Rattle.format.specs.Lists.{_>>=_, provided, orElse, eachOf}
+use Rattle.format.specs.Field.{Symbol}
+use Rattle.format.specs.Grammar.{Qualifier, word, symbol, qualifier}
+use Rattle.format.specs.Types.{symbolOf}
+use Rattle.qualifiers.specs.Qualifiers.{piecesIn, qualifiersIn}
+use Rattle.symbols.specs.declared.Spelling.{Spelling}
+use Rattle.symbols.specs.declared.Spelling.the-variants.{At, Nothing}
+
+-- the symbols of an integer of w octets among the qualifiers from a to b
+abbrev pub symbolsIn : ℕ → List ℕ → ℕ → ℕ → Option (List Symbol)
+symbolsIn w s a b = qualifiersIn s a b >>= eachOf (symbolOf w)
+
+-- the first that a partial function gives
+abbrev pub firstOf : {A B : Type 0} → (A → Option B) → List A → Option B
+firstOf f [] = none
+firstOf f (x ∷ xs) = orElse (f x) (firstOf f xs)
+
+-- a partial function of symbols, at a qualifier
+abbrev pub ifSymbol : {B : Type 0} → (Symbol → Option B) → Option Qualifier → Option B
+ifSymbol f none = none
+ifSymbol f (some (word t)) = none
+ifSymbol f (some (symbol y)) = f y
+
+-- the first that a partial function of symbols gives, among the qualifiers from a to b, which are not none
+abbrev pub firstIn : {B : Type 0} → (Symbol → Option B) → List ℕ → ℕ → ℕ → Option B
+firstIn f s a b = firstOf (λ p. ifSymbol f (qualifier p)) (piecesIn s a b)
+
+-- the name of a symbol with the number v
+abbrev pub nameFor : ℕ → Symbol → Option (List ℕ)
+nameFor v y = provided (eqb (y .value) v) (y .spelling .octets)
+
+-- the name that was found
+abbrev pub spelled : List ℕ → Spelling → Option (List ℕ)
+spelled s (At i e) = some (slice i e s)
+spelled s Nothing = none
+
+-- it lies before b
+abbrev pub Before : ℕ → Spelling → Type 0
+Before b (At i e) = (i ≤ e) × (e ≤ b)
+Before b Nothing = Unit {0}
