@@ -6,7 +6,7 @@ use mathlib.Core.List.{List, [], _∷_, _++_}
 use native.Mathlib.Omega.{arith}
 use native.Mathlib.Numerals.{add-one}
 use lib.ListN.{length, take, drop, getD, length-take, length-drop, drop-of-length-le}
-use lib.Seq.{slice, slice-cons, drop-drop, length-slice}
+use lib.Seq.{slice, slice-cons, drop-drop, length-slice, take-nil}
 use Rattle.format.specs.Lists.{Spanned, spanning, span}
 
 -- the next element, and none
@@ -19,6 +19,15 @@ none s i e h = let l : length (take e s) ≤ i = omega (arith, length-take e s) 
 -- the rest of a part is a part
 pub rest : (s : List ℕ) (i n e : ℕ) → drop n (slice i e s) ≡ slice (i + n) e s
 rest s i n e = drop-drop n i (take e s)
+
+-- the part that is lent to a call
+take-drop : {A : Type 0} (n i : ℕ) (s : List A) → take n (drop i s) ≡ drop i (take (i + n) s)
+take-drop n zero s = let q : 0 + n ≡ n = omega arith in rw q
+take-drop n (suc i) [] = rw (take-nil n, take-nil (suc i + n))
+take-drop n (suc i) (x ∷ s) = let q : suc i + n ≡ suc (i + n) = omega arith in rw q (take-drop n i s)
+
+pub lent : (s : List ℕ) (i e : ℕ) → i ≤ e → take (e - i) (drop i s) ≡ slice i e s
+lent s i e h = let q : i + (e - i) ≡ e = omega arith in take-drop (e - i) i s ∙ ap (λ k. drop i (take k s)) q
 
 -- the front that passes, and what is left
 module _ (f : ℕ → Bool) where

@@ -17,7 +17,11 @@ use Rattle.format.specs.Demands.{soundKind}
 use Rattle.format.proofs.Lists.{and-left}
 use Rattle.format.proofs.Wire.{at-end, octets-taken}
 use Rattle.octets.proofs.Slices.{none as nothing}
+use Rattle.types.specs.declared.Form.the-variants.{Int}
 use Rattle.types.specs.Types.{symbolsIn, orNone}
+use Rattle.stanza.specs.declared.FieldDesc.{FieldDesc}
+use Rattle.run.specs.Run.{kindFor}
+use Rattle.printing.specs.Printing.{Usable}
 
 -- w octets of any value
 pub octets-wide : (p : List ℕ) (i e w : ℕ) → i ≤ e → e ≤ length p → 1 ≤ w → taken (anyOctets w) (slice i e p) ≡ took (e - i) → e ≡ i + w
@@ -51,5 +55,19 @@ in-four w false true c p q r e = let z = eqb-true w 2 q in (omega arith, omega a
 in-four w false false true p q r e = let z = eqb-true w 4 r in (omega arith, omega arith)
 in-four w false false false p q r e = absurd (true≢false (sym e))
 
-pub int-width : (w : ℕ) (l : List Symbol) → soundKind (int w l) ≡ true → (1 ≤ w) × (w ≤ 4)
+int-width : (w : ℕ) (l : List Symbol) → soundKind (int w l) ≡ true → (1 ≤ w) × (w ≤ 4)
 int-width w l h = in-four w (eqb w 1) (eqb w 2) (eqb w 4) refl refl refl (and-left (among w (1 ∷ 2 ∷ 4 ∷ [])) _ (and-left _ _ h))
+
+module _ (s : List ℕ) (d : FieldDesc) (u : Usable s d) (w : ℕ) (g : d .form ≡ Int w) where
+  -- an integer's symbols
+  abbrev pub symbolsOf : List Symbol
+  symbolsOf = orNone (symbolsIn w s (d .«qualifiers_at») (d .«qualifiers_end»))
+
+  pub symbols-of : symbolsIn w s (d .«qualifiers_at») (d .«qualifiers_end») ≡ some symbolsOf
+  symbols-of = u .placed .listed w symbolsOf (rw g)
+
+  pub int-wide : (p : List ℕ) (i e : ℕ) → i ≤ e → e ≤ length p → taken (start (kindFor s d)) (slice i e p) ≡ took (e - i) → e ≡ i + w
+  int-wide p i e h l t = octets-wide p i e w h l (int-width w symbolsOf (rw g at (u .sound)) .0) (rw g at t)
+
+  pub int-four : w ≤ 4
+  int-four = int-width w symbolsOf (rw g at (u .sound)) .1

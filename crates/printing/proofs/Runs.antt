@@ -10,13 +10,8 @@ use Rattle.format.specs.Octets.{Below, Octets}
 use Rattle.format.specs.Wire.{took, taken}
 use Rattle.format.specs.Field.{Kind, start}
 use Rattle.format.specs.Run.{shown, Parts, refused, parts, withFirst, partsOf, joined, textOfParts, textIn, textOf}
+use Rattle.printing.specs.Printing.{lead}
 use Rattle.format.proofs.Run.{First, took-first, first, more}
-
--- what stands for a text after n octets that are written already: a space comes first, if neither is empty
-abbrev pub lead : ℕ → List ℕ → List ℕ
-lead zero t = t
-lead (suc n) [] = []
-lead (suc n) (x ∷ t) = 32 ∷ x ∷ t
 
 pub lead-joined : (n : ℕ) (f t : List ℕ) → lead n (joined f t) ≡ lead n f ++ lead (n + length (lead n f)) t
 lead-joined zero [] t = refl

@@ -1,8 +1,8 @@
 -- What printing asks of the fields of a run.
-use Prim.Native.Nat.{ℕ, _+_, _<_, _≤_}
+use Prim.Native.Nat.{ℕ, zero, suc, _+_, _<_, _≤_}
 use mathlib.Core.Path.{_≡_}
 use mathlib.Core.Bool.{true}
-use mathlib.Core.List.{List}
+use mathlib.Core.List.{List, [], _∷_}
 use lib.ListN.{length, getD}
 use Rattle.format.specs.Run.{parts, partsOf}
 use Rattle.format.specs.Demands.{tailsLast, soundKind}
@@ -27,3 +27,9 @@ pub record Accepted (s : List ℕ) (fs : List FieldDesc) (first many : ℕ) (xs 
   pub usable : UsableRun s fs first many
   pub short : length xs ≤ 65535
   pub taken-all : (ps : List (List ℕ)) × (partsOf (kindsFrom s fs first many) xs ≡ parts ps)
+
+-- what is written of a text after n octets: a space comes first, if neither is empty
+abbrev pub lead : ℕ → List ℕ → List ℕ
+lead zero t = t
+lead (suc n) [] = []
+lead (suc n) (x ∷ t) = 32 ∷ x ∷ t
