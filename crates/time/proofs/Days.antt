@@ -1,13 +1,14 @@
--- Laws of days counted over months and years.
+-- Laws of days counted over months and years, and of a moment's text by its month and its day.
 use Prim.Native.Nat.{ℕ, zero, suc, _+_, _*_, _-_, _/_, _%_, _≤_, _<_}
 use mathlib.Core.Path.{_≡_, refl, ap, _∙_}
 use mathlib.Core.Bool.{Bool, true, false, cond}
 use native.Mathlib.Omega.{arith}
-use lib.Dec.{ltb, eqb}
 use native.Mathlib.Decide.{decLt}
+use lib.Dec.{eqb}
 use borrow.Author.Tests.{lt-ltb, le-ltb, eqb-true}
 use Rattle.format.specs.Time.{leap, monthDays, monthLength, daysBefore, Day, dayFrom, dayOf, momentText}
 use Rattle.format.proofs.Finite.{at-each}
+use Rattle.time.specs.Years.{yearDays}
 
 -- there are no fewer days before a later month
 days-grow : (m k : ℕ) → daysBefore k ≤ daysBefore (m + k)
@@ -52,10 +53,10 @@ month-below k d h l = by (decLt k 1644)
         absurd (omega arith)
 
 -- the months of a year
-pub month-at : (y m k : ℕ) → k ≡ y * 12 + m → m < 12 → monthLength k ≡ monthDays (leap (1970 + y)) m
-month-at y m k h l =
-    let a : k / 12 ≡ y = omega arith in
-    let b : k % 12 ≡ m = omega arith in
+pub month-at : (y m : ℕ) → m < 12 → monthLength (y * 12 + m) ≡ monthDays (leap (1970 + y)) m
+month-at y m h =
+    let a : (y * 12 + m) / 12 ≡ y = omega arith in
+    let b : (y * 12 + m) % 12 ≡ m = omega arith in
     rw (a, b)
 
 abbrev daysIn : Bool → ℕ → ℕ
@@ -66,10 +67,7 @@ in-year : (y m : ℕ) → m ≤ 12 → daysBefore (y * 12 + m) ≡ daysBefore (y
 in-year y zero h = let q : y * 12 + 0 ≡ y * 12 = omega arith in rw q (omega arith)
 in-year y (suc m) h =
     let q : y * 12 + suc m ≡ suc (y * 12 + m) = omega arith in
-    rw q (omega (arith, in-year y m (omega arith), month-at y m (y * 12 + m) refl (omega arith)))
-
-abbrev pub yearDays : ℕ → ℕ
-yearDays y = cond (leap y) 366 365
+    rw q (omega (arith, in-year y m (omega arith), month-at y m (omega arith)))
 
 pub year-after : (y : ℕ) → daysBefore (y * 12 + 12) ≡ daysBefore (y * 12) + yearDays (1970 + y)
 year-after y = in-year y 12 (omega arith) ∙ ap (λ n. daysBefore (y * 12) + n) (by (leap (1970 + y)))
@@ -82,9 +80,11 @@ pub year-next : (y : ℕ) → daysBefore ((y + 1) * 12) ≡ daysBefore (y * 12) 
 year-next y = let q : (y + 1) * 12 ≡ y * 12 + 12 = omega arith in ap daysBefore q ∙ year-after y
 
 -- four years from 1970, 1974 and so on, to 2097
-four-years : (c : ℕ) → c < 32 → yearDays (1970 + c * 4) + yearDays (1970 + (c * 4 + 1)) + yearDays (1970 + (c * 4 + 1 + 1)) + yearDays (1970 + (c * 4 + 1 + 1 + 1)) ≡ 1461
-four-years c h =
-    eqb-true _ _ (at-each (λ c. eqb (yearDays (1970 + c * 4) + yearDays (1970 + (c * 4 + 1)) + yearDays (1970 + (c * 4 + 1 + 1)) + yearDays (1970 + (c * 4 + 1 + 1 + 1))) 1461) 32 refl c h)
+abbrev fourYears : ℕ → ℕ
+fourYears y = yearDays (1970 + y) + yearDays (1970 + (y + 1)) + yearDays (1970 + (y + 1 + 1)) + yearDays (1970 + (y + 1 + 1 + 1))
+
+four-years : (c : ℕ) → c < 32 → fourYears (c * 4) ≡ 1461
+four-years c h = eqb-true _ _ (at-each (λ c. eqb (fourYears (c * 4)) 1461) 32 refl c h)
 
 pub cycle-days : (c : ℕ) → c ≤ 32 → daysBefore (c * 4 * 12) ≡ c * 1461
 cycle-days zero h = refl
@@ -103,7 +103,7 @@ cycle-days (suc c) h =
 -- the months of a year one after another: b says whether it is a leap year, and n is how many days the month has
 module _ (y m n : ℕ) (b : Bool) (l : b ≡ leap (1970 + y)) (e : n ≡ monthDays b m) (h : m < 12) where
   pub month-here : monthLength (y * 12 + m) ≡ n
-  month-here = month-at y m (y * 12 + m) refl h ∙ rw (← l, e)
+  month-here = month-at y m h ∙ rw (← l, e)
 
   pub month-next : daysBefore (y * 12 + (m + 1)) ≡ daysBefore (y * 12 + m) + n
   month-next = let q : y * 12 + (m + 1) ≡ suc (y * 12 + m) = omega arith in rw q (omega (arith, month-here))
@@ -118,6 +118,6 @@ module _ (y m n : ℕ) (b : Bool) (l : b ≡ leap (1970 + y)) (e : n ≡ monthDa
           let r : daysBefore (y * 12 + 12) ≡ daysBefore (y * 12 + m) + n = rw q at month-next in
           absurd (omega arith)
 
--- the text of a moment by its month and its day
+-- a moment's text
 pub moment-of : (x : Day) (a b s : ℕ) → a ≡ x .month → b ≡ x .day → momentText (record { month = a; day = b }) s ≡ momentText x s
 moment-of x a b s p q = rw (p, q)

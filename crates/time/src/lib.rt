@@ -1,13 +1,13 @@
 // Seconds since 1970-01-01 as a moment of the Gregorian calendar. Months and days are counted from 0.
 ghost use Prim.Native.Nat.{_+_, _*_, _/_, _^_, _<_, _≤_, min};
 ghost use mathlib.Core.Path.{_≡_};
-ghost use mathlib.Core.Bool.{cond};
 ghost use lib.ListN.{length};
 ghost use lib.Seq.{slice};
 ghost use Rattle.format.specs.Digits;
 ghost use Rattle.format.specs.Time;
 ghost use Rattle.format.specs.Time.{monthDays, daysBefore, dayOf, momentText, timeText};
 ghost use Rattle.writing.specs.Writing.{Wrote};
+ghost use Rattle.time.specs.Years.{yearDays};
 use print::integer::number;
 use writing::put_fixed;
 
@@ -53,7 +53,7 @@ pub fn month_days(leap: bool, m: u64) -> u64
 }
 
 fn year_days(y: u64) -> u64
-    ensures { λ r. ⌜ (r ≡ cond (Time.leap y) 366 365) × (365 ≤ r) × (r ≤ 366) ⌝ }
+    ensures { λ r. ⌜ (r ≡ yearDays y) × (365 ≤ r) × (r ≤ 366) ⌝ }
 {
     if leap(y) {
         return 366;
@@ -61,7 +61,7 @@ fn year_days(y: u64) -> u64
     365
 }
 
-// How many times four years of 1461 days end by day d and before 2098: 2100 is no leap year.
+// How many cycles of four years and 1,461 days end by day d, 32 at most: the next has 2100, which is no leap year.
 fn cycles(d: u64) -> u64
     ensures { λ r. ⌜ r ≡ min (d / 1461) 32 ⌝ }
 {
@@ -77,6 +77,7 @@ struct YearDay {
     day: u64,
 }
 
+// The year of day d, and the day's number in it.
 fn year_of(d: u64) -> YearDay
     requires { ⌜ d ≤ 49710 ⌝ }
     ensures { λ r. ⌜ (daysBefore (r .year * 12) + r .day ≡ d) × (d < daysBefore (r .year * 12 + 12)) × (r .year < 137) ⌝ }

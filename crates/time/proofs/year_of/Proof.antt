@@ -1,7 +1,8 @@
 use Prim.Native.Nat.{_+_, _*_, _-_, _≤_, _<_}
 use mathlib.Core.Path.{_≡_}
 use Rattle.format.specs.Time.{daysBefore}
-use Rattle.time.proofs.Days.{yearDays, cycle-days, year-next, year-after, month-below}
+use Rattle.time.specs.Years.{yearDays}
+use Rattle.time.proofs.Days.{cycle-days, year-next, year-after, month-below}
 use native.Mathlib.Omega.{arith}
 use borrow.Author.Needs.{needs}
 use Rattle.time.proofs.year_of.Statement.{statement}
