@@ -12,7 +12,7 @@ use writing::put_decimal;
 
 // A type by its number.
 pub fn number(out: &mut [u8], n: usize, v: u64) -> usize
-    requires { ⌜ (n < 2 ^ 30) × (v < 65536) ⌝ }
+    requires { ⌜ (n ≤ 2 ^ 31) × (v < 65536) ⌝ }
     ensures { λ r. ⌜ Wrote (now (out .entry)) (now (out .exit)) n r (typeText v) ⌝ }
 {
     let m = put_all(out, n, b"TYPE");
