@@ -16,10 +16,10 @@ use Rattle.stanza.specs.Stanza.{descriptionOf, outlineOf}
 use Rattle.stanza.proofs.Outlines.{fields-many}
 
 module _ (s : List ℕ) (o : Outline) (q : outlineOf s o ≡ judged s) where
-  accepted : o .number ≡ 0 → judged s ≡ described (descriptionOf s o)
+  pub accepted : o .number ≡ 0 → judged s ≡ described (descriptionOf s o)
   accepted h = sym q ∙ rw (eq-eqb (o .number) 0 h)
 
-  many : length (descriptionOf s o .fields) ≡ o .count
+  pub many : length (descriptionOf s o .fields) ≡ o .count
   many = fields-many s (o .fields) (o .names) (o .ends) 0 (o .count)
 
   pub accepted-count : o .number ≡ 0 → o .count ≤ 64
@@ -33,7 +33,7 @@ module _ (s : List ℕ) (o : Outline) (q : outlineOf s o ≡ judged s) where
   unfolding judge
   accepted-place h = rw (accepted h) (sym many)
 
-  refused : (o .number ≡ 0 → ⊥) → judged s ≡ rejected (o .number) (o .line)
+  pub refused : (o .number ≡ 0 → ⊥) → judged s ≡ rejected (o .number) (o .line)
   refused h = sym q ∙ rw (ne-eqb (o .number) 0 h)
 
   pub refused-number : (o .number ≡ 0 → ⊥) → o .number ≡ judge s .number

@@ -1,8 +1,20 @@
 // The public entries.
-ghost use Prim.Native.Nat.{_+_, _*_};
+ghost use Prim.Native.Nat.{ℕ, _+_, _*_, _-_, _≤_, min};
 ghost use mathlib.Core.Path.{_≡_};
+ghost use mathlib.Core.Bool.{true, _&&_};
+ghost use mathlib.Core.List.{List};
+ghost use lib.ListN.{length};
+ghost use lib.Dec.{leb};
+ghost use Rattle.format.specs.Octets.{Octets};
 ghost use Rattle.format.specs.Entries;
-ghost use Rattle.extlang.specs.Entries.{Replies};
+ghost use Rattle.format.specs.Entries.{done};
+ghost use Rattle.format.specs.Run.{textOf};
+ghost use Rattle.run.specs.Run.{kindsFrom};
+ghost use Rattle.printing.specs.Printing.{UsableRun, Accepted};
+ghost use Rattle.extlang.specs.Entries.{Replies, Leaves, Packs, withRoom, runText};
+use run::Checked;
+use stanza::FieldDesc;
+use types::Form;
 
 // An answer: 0 and the count, or a refusal's number and place.
 pub struct Reply {
@@ -28,11 +40,130 @@ pub fn judge(s: &[u8]) -> Reply
     }
 }
 
+// Whether the fields from first on, from 1, so many, are among count.
+fn is_run(first: usize, many: usize, count: usize) -> bool
+    ensures { λ r. ⌜ r ≡ leb 1 first && leb (first - 1 + many) count ⌝ }
+{
+    if first < 1 {
+        return false;
+    }
+    if count < many {
+        return false;
+    }
+    first - 1 <= count - many
+}
+
+fn least(a: usize, b: usize) -> usize
+    ensures { λ r. ⌜ r ≡ min a b ⌝ }
+{
+    if a < b { a } else { b }
+}
+
+// Whether the text of so many octets fits the room whatever they are; measuring tells where this does not.
+fn surely_fits(fields: [FieldDesc; 64], first: usize, many: usize, octets: usize, room: usize) -> bool
+    requires { ⌜ (first + many ≤ 64) × (octets ≤ 65535) ⌝ }
+    ensures { λ r. ⌜ (r ≡ true → (s xs : List ℕ) → Octets xs → length xs ≡ octets → Accepted s fields first many xs → length (textOf (kindsFrom s fields first many) xs) ≤ room) ⌝ }
+{
+    if many < 1 {
+        return false;
+    }
+    if room < 4 * octets + 64 * many {
+        return false;
+    }
+    let d = fields[first + many - 1];
+    let f = d.form;
+    if let Form::Bitmap = f {
+        return false;
+    }
+    true
+}
+
+// The text of RDATA that the run takes, from a place of the buffer on.
+fn put_text(s: &[u8], fields: [FieldDesc; 64], first: usize, many: usize, p: &[u8], out: &mut [u8], at: usize) -> Reply
+    requires { ⌜ Accepted (now s) fields first many (now p) ⌝ }
+    ensures { λ r. ⌜ Leaves r (now (out .exit)) (withRoom (now (out .entry)) at (done (textOf (kindsFrom (now (s .entry)) fields first many) (now (p .entry))))) ⌝ }
+{
+    let n = out.len();
+    let a = least(at, n);
+    if surely_fits(fields, first, many, p.len(), n - a) {
+        let w = printing::put_run(&mut out[a..], fields, first, many, s, p);
+        return Reply {
+            number: 0,
+            place: w as u32,
+        };
+    }
+    let need = printing::put_run(&mut out[n..], fields, first, many, s, p);
+    if n - a < need {
+        return Reply {
+            number: 12,
+            place: need as u32,
+        };
+    }
+    let w = printing::put_run(&mut out[a..], fields, first, many, s, p);
+    Reply {
+        number: 0,
+        place: w as u32,
+    }
+}
+
+// RDATA under a run of a judged stanza.
+fn print_run(s: &[u8], fields: [FieldDesc; 64], first: usize, many: usize, p: &[u8], out: &mut [u8], at: usize) -> Reply
+    requires { ⌜ UsableRun (now s) fields first many × (length (now p) ≤ 65535) ⌝ }
+    ensures { λ r. ⌜ Leaves r (now (out .exit)) (withRoom (now (out .entry)) at (runText (kindsFrom (now (s .entry)) fields first many) (now (p .entry)))) ⌝ }
+{
+    let c = run::check(fields, first, many, p);
+    match c {
+        Checked::Refused(number, place) => Reply {
+            number: number,
+            place: place,
+        },
+        Checked::Good => put_text(s, fields, first, many, p, out, at),
+    }
+}
+
+// Print RDATA under so many fields of a description, from number first on: 0 and the count of the text's octets, which
+// stand in out from at on; or a refusal's number and place, and out as it was.
+pub fn print(s: &[u8], first: usize, many: usize, p: &[u8], out: &mut [u8], at: usize) -> Reply
+    ensures { λ r. ⌜ Leaves r (now (out .exit)) (Entries.print (now (s .entry)) first many (now (p .entry)) (now (out .entry)) at) ⌝ }
+{
+    if 65535 < p.len() {
+        return Reply {
+            number: 1,
+            place: 0,
+        };
+    }
+    let o = stanza::judged_outline(s);
+    let n = o.number;
+    if 0 < n {
+        return Reply {
+            number: n as u32,
+            place: o.line as u32,
+        };
+    }
+    let count = o.count;
+    if is_run(first, many, count) {
+        let fields = o.fields;
+        return print_run(s, fields, first - 1, many, p, out, at);
+    }
+    Reply {
+        number: 6,
+        place: 0,
+    }
+}
+
 // The same for C: the number in the upper 32 bits, the place or the count in the lower.
 #[no_mangle]
 pub extern "C" fn extlang_judge(s: &[u8]) -> u64
     ensures { λ r. ⌜ r ≡ Entries.judge (now (s .entry)) .number * 4294967296 + Entries.judge (now (s .entry)) .place ⌝ }
 {
     let r = judge(s);
+    (r.number as u64) * 4294967296 + r.place as u64
+}
+
+#[no_mangle]
+pub extern "C" fn extlang_print(s: &[u8], first: u64, many: u64, p: &[u8], out: &mut [u8], at: u64) -> u64
+    ensures { λ r. ⌜ Packs r (now (out .exit)) (Entries.print (now (s .entry)) first many (now (p .entry)) (now (out .entry)) at) ⌝ }
+{
+    let r = print(s, first as usize, many as usize, p, out, at as usize);
     (r.number as u64) * 4294967296 + r.place as u64
 }

@@ -40,7 +40,7 @@ run-bound (k ∷ ks) xs ps g b e = by (first k ks xs ps e) (λ ys qs. run-bound 
         let d = ih (drop n xs) qs (below-drop 256 n xs b) f in
         rw w (omega (arith, joined-bound (shown k (take n xs)) (textOfParts shown ks qs), length-drop n xs))
 
-cap-most : (k : Kind) → cap k ≤ 655423
+pub cap-most : (k : Kind) → cap k ≤ 655423
 cap-most k = by (isBitmap k)
   where
     by : (b : Bool) → cond b 655423 63 ≤ 655423
@@ -48,7 +48,7 @@ cap-most k = by (isBitmap k)
     by false = omega arith
 
 -- only a tail is R[L]
-tail-bitmap : (k : Kind) → isBitmap k ≡ true → tail k ≡ true
+pub tail-bitmap : (k : Kind) → isBitmap k ≡ true → tail k ≡ true
 tail-bitmap bitmap h = refl
 tail-bitmap (int w l) h = absurd (true≢false (sym h))
 tail-bitmap rrtype h = absurd (true≢false (sym h))

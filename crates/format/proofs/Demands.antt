@@ -44,12 +44,12 @@ kinds-length : (fs : List Field) → length (kinds fs) ≡ length fs
 kinds-length [] = refl
 kinds-length (f ∷ fs) = ap suc (kinds-length fs)
 
-record Fit (ks : List Kind) : Type 0 where
-  tails : tailsLast ks ≡ true
-  sound : allOf soundKind ks ≡ true
-  most : length ks ≤ 64
+pub record Fit (ks : List Kind) : Type 0 where
+  pub tails : tailsLast ks ≡ true
+  pub sound : allOf soundKind ks ≡ true
+  pub most : length ks ≤ 64
 
-run-fit : (d : Description) → Sound d → (first len : ℕ) → Fit (run first len (kinds (d .fields)))
+pub run-fit : (d : Description) → Sound d → (first len : ℕ) → Fit (run first len (kinds (d .fields)))
 run-fit d s first len =
     let ks : List Kind = drop (first - 1) (kinds (d .fields)) in
     record {

@@ -35,7 +35,7 @@ pub fn put_field(out: &mut [u8], d: FieldDesc, s: &[u8], p: &[u8], i: usize, e: 
             symbols::put_number(out, 0, s, a, b, v)
         }
         Form::Rrtype => rrtype::field(out, 0, p, i, e),
-        Form::Bitmap => rrtype::field(out, 0, p, i, e),
+        Form::Bitmap => bitmap::field(out, 0, p, i, e),
         Form::Dotted => address::dotted(out, 0, p, i, e),
         Form::Aa => address::groups(out, 0, p, i, e),
         Form::Aaaa => address::aaaa(out, 0, p, i, e),
@@ -51,7 +51,7 @@ pub fn put_field(out: &mut [u8], d: FieldDesc, s: &[u8], p: &[u8], i: usize, e: 
             writing::put_hex_upper(out, 0, &p[j..e])
         }
         Form::Eui(_) => eui::field(out, 0, p, i, e),
-        Form::Time => rrtype::field(out, 0, p, i, e),
+        Form::Time => time::field(out, 0, p, i, e),
     }
 }
 

@@ -59,7 +59,7 @@ enum-told-3 c = search needs
 
 -- src/lib.rt:35:25
 field-requires-2 : tie.Need-field-requires-2
-field-requires-2 c κs = search needs
+field-requires-2 c κs = (search needs, c .before .before .before .before .before .before .before .before .pre .2, c .before .before .before .before .before .before .before .before .pre .3, c .before .before .before .before .before .before .before .before .pre .4, (rw (c .before .enum-told3 .given .1) at (c .before .before .before .before .before .before .before .before .pre .5)))
 
 -- src/lib.rt:36:41
 enum-told-4 : tie.Need-enum-told-4
@@ -195,7 +195,7 @@ enum-told-16 c = search needs
 
 -- src/lib.rt:51:23
 field-requires-6 : tie.Need-field-requires-6
-field-requires-6 c κs = search needs
+field-requires-6 c κs = (search needs, octets-wide (c .before .before .before .before .before .before .before .before .args .p .now) (c .before .before .before .before .before .before .before .before .args .i) (c .before .before .before .before .before .before .before .before .args .e) 4 (c .before .before .before .before .before .before .before .before .pre .2) (c .before .before .before .before .before .before .before .before .pre .3) (omega arith) (rw (c .before .enum-told16 .given .1) at (c .before .before .before .before .before .before .before .before .pre .5)), c .before .before .before .before .before .before .before .before .pre .3)
 
 -- src/lib.rt:22:1
 same-length : tie.Need-same-length
@@ -222,7 +222,7 @@ same-length-3 c = search needs
 -- src/lib.rt:22:1
 returns-3 : tie.Need-returns-3
 unfolding shown
-returns-3 c = search needs
+returns-3 c = rw (c .before .before .before .before .enum-told3 .given .1) (c .before .before .field2 .ensures)
 
 -- src/lib.rt:22:1
 same-length-4 : tie.Need-same-length-4
@@ -339,7 +339,7 @@ same-length-16 c = search needs
 -- src/lib.rt:22:1
 returns-16 : tie.Need-returns-16
 unfolding shown
-returns-16 c = search needs
+returns-16 c = rw (c .before .before .before .before .enum-told16 .given .1) (c .before .before .field6 .ensures)
 
 pub put-field-spec : {M : Type 1} → statement M
 put-field-spec =

@@ -1,0 +1,157 @@
+-- Runs of a judged stanza, and what printing answers.
+use Prim.Native.Nat.{ℕ, zero, suc, _+_, _-_, _*_, _≤_, _<_}
+use mathlib.Core.Path.{_≡_, refl, sym, ap, _∙_, subst}
+use mathlib.Core.Bool.{Bool, true, false, not, cond, _&&_, _||_, true≢false}
+use mathlib.Core.List.{List, [], _∷_}
+use native.Mathlib.Omega.{arith}
+use native.Mathlib.Decide.{decLt}
+use lib.ListN.{length, take, drop, getD}
+use lib.Dec.{leb}
+use borrow.Author.Tests.{le-leb, lt-leb, eq-eqb, ne-eqb, leb-true}
+use Rattle.format.specs.Lists.{anyOf, allOf}
+use Rattle.format.specs.Octets.{Octets}
+use Rattle.format.specs.Field.{Kind, tail, kinds}
+use Rattle.format.specs.Judge.{Description, Judged, rejected, described, judged}
+use Rattle.format.specs.Run.{shown, Parts, refused, parts, partsOf, maxRdata, textOfParts, textIn, textOf}
+use Rattle.format.specs.Entries.{Answer, done, refusal, orRefusal, ofStanza, ofParts, isRun, run, printing, print}
+use Rattle.format.specs.Demands.{tailsLast, soundKind, Sound}
+use Rattle.format.proofs.Lists.{and-left, and-right, or-left, or-right}
+use Rattle.format.proofs.Field.{isBitmap}
+use Rattle.format.proofs.Run.{no-tail}
+use Rattle.format.proofs.Bound.{tail-bitmap, plain-within, text-within}
+use Rattle.format.proofs.Judge.{judges}
+use Rattle.format.proofs.Demands.{Fit, run-fit}
+use Rattle.types.specs.declared.Form.{Form}
+use Rattle.stanza.specs.declared.FieldDesc.{FieldDesc}
+use Rattle.stanza.specs.declared.Outline.{Outline}
+use Rattle.stanza.specs.Stanza.{noField, descriptionOf, outlineOf, Outlined}
+use Rattle.run.specs.Run.{kindFor, kindsFrom}
+use Rattle.run.proofs.Laws.{kinds-from, kinds-many, kinds-run}
+use Rattle.printing.specs.Printing.{Usable, UsableRun, Accepted}
+use Rattle.printing.proofs.Runs.{octets-all}
+use Rattle.extlang.specs.Entries.{withRoom, runText}
+use Rattle.extlang.proofs.Laws.{accepted, many, refused as not-judged}
+
+-- every kind of a run by its number
+module _ (f : Kind → Bool) (s : List ℕ) (fs : List FieldDesc) where
+  all-at : (k m : ℕ) → allOf f (kindsFrom s fs k m) ≡ true → (j : ℕ) → j < m → f (kindFor s (getD fs (k + j) noField)) ≡ true
+  all-at k zero h j l = absurd (omega arith)
+  all-at k (suc m) h zero l = let q : k + 0 ≡ k = omega arith in rw q (and-left (f (kindFor s (getD fs k noField))) (allOf f (kindsFrom s fs (k + 1) m)) h)
+  all-at k (suc m) h (suc j) l =
+      let q : k + 1 + j ≡ k + suc j = omega arith in
+      rw (← q) (all-at (k + 1) m (and-right (f (kindFor s (getD fs k noField))) (allOf f (kindsFrom s fs (k + 1) m)) h) j (omega arith))
+
+  all-of : (k m : ℕ) → ((j : ℕ) → j < m → f (kindFor s (getD fs (k + j) noField)) ≡ true) → allOf f (kindsFrom s fs k m) ≡ true
+  all-of k zero h = refl
+  all-of k (suc m) h =
+      let q : k + 0 ≡ k = omega arith in
+      let a : f (kindFor s (getD fs k noField)) ≡ true = subst (λ i. f (kindFor s (getD fs i noField)) ≡ true) q (h 0 (omega arith)) in
+      rw a (all-of (k + 1) m (λ j l. let r : k + suc j ≡ k + 1 + j = omega arith in subst (λ i. f (kindFor s (getD fs i noField)) ≡ true) r (h (suc j) (omega arith))))
+
+-- a run whose last field is not R[L] has none
+plain-kind : (k : Kind) → tail k ≡ false → isBitmap k ≡ false
+plain-kind k h = by (isBitmap k) refl
+  where
+    by : (b : Bool) → isBitmap k ≡ b → isBitmap k ≡ false
+    by true e = absurd (true≢false (sym (tail-bitmap k e) ∙ h))
+    by false e = e
+
+plain-run : (s : List ℕ) (fs : List FieldDesc) (k m : ℕ) → tailsLast (kindsFrom s fs k (suc m)) ≡ true → isBitmap (kindFor s (getD fs (k + m) noField)) ≡ false
+    → anyOf isBitmap (kindsFrom s fs k (suc m)) ≡ false
+plain-run s fs k zero t h = let q : k + 0 ≡ k = omega arith in rw (rw q at h)
+plain-run s fs k (suc m) t h =
+    let (a, b) = no-tail (kindFor s (getD fs k noField)) (kindFor s (getD fs (k + 1) noField)) (kindsFrom s fs (k + 1 + 1) m) t in
+    let q : k + suc m ≡ k + 1 + m = omega arith in
+    rw (plain-kind (kindFor s (getD fs k noField)) a) (plain-run s fs (k + 1) m b (rw q at h))
+
+module _ (s : List ℕ) (fs : List FieldDesc) (first many : ℕ) (xs : List ℕ) (b : Octets xs) (a : Accepted s fs first many xs) where
+  all-sound : allOf soundKind (kindsFrom s fs first many) ≡ true
+  all-sound = all-of soundKind s fs first many (λ j l. a .usable .fields j l .sound)
+
+  text-parts : textOf (kindsFrom s fs first many) xs ≡ textOfParts shown (kindsFrom s fs first many) (a .taken-all .0)
+  unfolding textOf
+  text-parts = rw (a .taken-all .1)
+
+  pub surely : 1 ≤ many → isBitmap (kindFor s (getD fs (first + many - 1) noField)) ≡ false → (room : ℕ) → 4 * length xs + 64 * many ≤ room → length (textOf (kindsFrom s fs first many) xs) ≤ room
+  surely h k room l = by many refl h
+    where
+      by : (m : ℕ) → many ≡ m → 1 ≤ m → length (textOf (kindsFrom s fs first many) xs) ≤ room
+      by zero e h = absurd (omega arith)
+      by (suc m) e h =
+          let i : first + many - 1 ≡ first + m = omega arith in
+          let t : tailsLast (kindsFrom s fs first (suc m)) ≡ true = subst (λ n. tailsLast (kindsFrom s fs first n) ≡ true) e (a .usable .tails) in
+          let p : anyOf isBitmap (kindsFrom s fs first many) ≡ false = subst (λ n. anyOf isBitmap (kindsFrom s fs first n) ≡ false) (sym e) (plain-run s fs first m t (rw i at k)) in
+          omega (arith, plain-within (kindsFrom s fs first many) p all-sound xs b (a .taken-all .0) (a .taken-all .1), ap length text-parts, kinds-many s fs first many)
+
+  pub text-short : length (textOf (kindsFrom s fs first many) xs) ≤ 1048576
+  text-short =
+      omega (arith, text-within (kindsFrom s fs first many) (a .usable .tails) all-sound (omega (arith, kinds-many s fs first many, a .usable .within)) xs b (a .short) (a .taken-all .0) (a .taken-all .1), ap length text-parts)
+
+-- what a run answers
+pub text-answer : (ks : List Kind) (xs : List ℕ) (ps : List (List ℕ)) → partsOf ks xs ≡ parts ps → runText ks xs ≡ done (textOf ks xs)
+unfolding textOf
+text-answer ks xs ps e = rw e
+
+pub no-answer : (ks : List Kind) (xs : List ℕ) (n i : ℕ) → partsOf ks xs ≡ refused n i → runText ks xs ≡ refusal n i
+no-answer ks xs n i e = rw e
+
+-- printing, refusal by refusal
+pub print-long : (s : List ℕ) (first many : ℕ) (xs : List ℕ) → 65535 < length xs → printing s first many xs ≡ refusal 1 0
+unfolding printing
+print-long s first many xs h = rw (lt-leb (length xs) 65535 h)
+
+module _ (s : List ℕ) (o : Outline) (q : Outlined s o) where
+  pub print-rejected : (first many : ℕ) (xs : List ℕ) → length xs ≤ 65535 → 0 < o .number → printing s first many xs ≡ refusal (o .number) (o .line)
+  unfolding printing
+  print-rejected first many xs h n = rw (le-leb (length xs) 65535 h, not-judged s o (q .judges) (λ z. omega arith))
+
+  module _ (n : o .number ≡ 0) where
+    all-kinds : kinds (descriptionOf s o .fields) ≡ kindsFrom s (o .fields) 0 (o .count)
+    all-kinds = kinds-from s (o .fields) (o .names) (o .ends) 0 (o .count)
+
+    sound : Sound (descriptionOf s o)
+    sound = judges s (descriptionOf s o) (accepted s o (q .judges) n)
+
+    pub count-most : o .count ≤ 64
+    count-most = omega (arith, sound .most-fields, many s o (q .judges))
+
+    kinds-length : length (kinds (descriptionOf s o .fields)) ≡ o .count
+    kinds-length = ap length all-kinds ∙ kinds-many s (o .fields) 0 (o .count)
+
+    pub print-no-run : (first many : ℕ) (xs : List ℕ) → length xs ≤ 65535 → false ≡ leb 1 first && leb (first - 1 + many) (o .count) → printing s first many xs ≡ refusal 6 0
+    unfolding printing
+    print-no-run first many xs h r = rw (le-leb (length xs) 65535 h, accepted s o (q .judges) n, kinds-length, ← r)
+
+    module _ (first many : ℕ) (r : true ≡ leb 1 first && leb (first - 1 + many) (o .count)) where
+      pub from-one : 1 ≤ first
+      from-one = leb-true 1 first (and-left (leb 1 first) (leb (first - 1 + many) (o .count)) (sym r))
+
+      in-count : first - 1 + many ≤ o .count
+      in-count = leb-true (first - 1 + many) (o .count) (and-right (leb 1 first) (leb (first - 1 + many) (o .count)) (sym r))
+
+      run-kinds : run first many (kinds (descriptionOf s o .fields)) ≡ kindsFrom s (o .fields) (first - 1) many
+      run-kinds = ap (λ ks. take many (drop (first - 1) ks)) all-kinds ∙ kinds-run s (o .fields) (first - 1) many (o .count) in-count
+
+      pub print-runs : (xs : List ℕ) → length xs ≤ 65535 → printing s first many xs ≡ runText (kindsFrom s (o .fields) (first - 1) many) xs
+      unfolding printing
+      print-runs xs h = rw (le-leb (length xs) 65535 h, accepted s o (q .judges) n, kinds-length, ← r, run-kinds)
+
+      pub usable-run : length s ≤ 8192 → UsableRun s (o .fields) (first - 1) many
+      usable-run l = record {
+        short = l;
+        within = omega (arith, in-count, count-most);
+        fields = λ k h. record {
+          placed = q .placed n (first - 1 + k) (omega (arith, in-count));
+          sound = all-at soundKind s (o .fields) (first - 1) many (subst (λ ks. allOf soundKind ks ≡ true) run-kinds (run-fit (descriptionOf s o) sound first many .sound)) k h;
+        };
+        tails = subst (λ ks. tailsLast ks ≡ true) run-kinds (run-fit (descriptionOf s o) sound first many .tails);
+      }
+
+-- a judged stanza is short
+pub judged-short : (s : List ℕ) (d : Description) → judged s ≡ described d → length s ≤ 8192
+unfolding judged
+judged-short s d e = by (decLt 8192 (length s))
+  where
+    by : Dec (8192 < length s) → length s ≤ 8192
+    by (no h) = omega arith
+    by (yes h) = let z : _≡_ {A = Judged} (rejected 1 0) (described d) = sym (rw (lt-leb (length s) 8192 h)) ∙ e in cc
