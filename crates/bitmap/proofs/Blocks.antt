@@ -4,8 +4,7 @@ use mathlib.Core.Path.{_≡_, refl, sym, ap, subst, _∙_}
 use mathlib.Core.Bool.{Bool, true, false, not, cond}
 use mathlib.Core.List.{List, [], _∷_, _++_, append-assoc}
 use native.Mathlib.Omega.{arith}
-use native.Mathlib.Numerals.{add-one}
-use lib.ListN.{length, drop, getD, length-append, length-drop}
+use lib.ListN.{length, drop, getD, length-append}
 use lib.Dec.{ltb, leb}
 use lib.Seq.{slice, length-slice}
 use borrow.Author.Tests.{leb-true}

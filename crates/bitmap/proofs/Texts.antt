@@ -8,7 +8,6 @@ use native.Mathlib.Numerals.{add-one}
 use lib.ListN.{length, length-append}
 use lib.Dec.{eqb, ltb}
 use borrow.Author.Tests.{lt-ltb, eqb-true}
-use Rattle.format.specs.Lists.{flatMap, parted}
 use Rattle.format.specs.Octets.{ascii, sameOctets}
 use Rattle.format.specs.Digits.{digits}
 use Rattle.format.specs.Number.{decimal}
@@ -20,7 +19,7 @@ use Rattle.format.proofs.Digits.{digits-length}
 use Rattle.format.proofs.Number.{decimal-10}
 use Rattle.writing.specs.Writing.{Wrote}
 use Rattle.writing.proofs.Laws.{Left, left-all, left-piece, left-none}
-use Rattle.print.proofs.Parted.{later, first-later}
+use Rattle.print.proofs.Parted.{first-later}
 use Rattle.bitmap.specs.Types.{typesText}
 
 -- no types have no text, and one has some
@@ -89,9 +88,6 @@ pub set-short : (v : ℕ) (bs : List ℕ) → length (setBits v bs) ≤ length b
 set-short v [] = omega arith
 set-short v (zero ∷ bs) = omega (arith, set-short (suc v) bs)
 set-short v (suc b ∷ bs) = omega (arith, set-short (suc v) bs)
-
-pub bit-length : (b : Bool) (v d : ℕ) → length (typesText b (setBits v (d ∷ []))) ≤ 15
-bit-length b v d = omega (arith, types-length b (setBits v (d ∷ [])), set-short v (d ∷ []))
 
 pub octet-length : (b : Bool) (v x : ℕ) → length (typesText b (setBits v (digits 2 8 x))) ≤ 120
 octet-length b v x = omega (arith, types-length b (setBits v (digits 2 8 x)), set-short v (digits 2 8 x), digits-length 2 8 x)

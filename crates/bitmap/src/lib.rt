@@ -39,7 +39,7 @@ fn put_if(out: &mut [u8], n: usize, start: usize, v: u64, bit: u8) -> usize
 
 // The types of an octet's set bits, of which the highest is type v.
 fn octet(out: &mut [u8], n: usize, start: usize, v: u64, x: u8) -> usize
-    requires { ⌜ (start ≤ n) × (n + 120 ≤ 2 ^ 31) × (v + 8 ≤ 65536) ⌝ }
+    requires { ⌜ (start ≤ n) × (n + 120 < 2 ^ 31) × (v + 8 ≤ 65536) ⌝ }
     ensures { λ r. ⌜ Wrote (now (out .entry)) (now (out .exit)) n r (typesText (ltb start n) (setBits v (digits 2 8 x))) ⌝ }
 {
     let mut m = n;
@@ -55,7 +55,7 @@ fn octet(out: &mut [u8], n: usize, start: usize, v: u64, x: u8) -> usize
 
 // The types of a block's octets, from i to e, of which the first is type v.
 fn block(out: &mut [u8], n: usize, start: usize, p: &[u8], i: usize, e: usize, v: u64) -> usize
-    requires { ⌜ (start ≤ n) × (i ≤ e) × (e ≤ length (now p)) × (n + 120 * (e - i) ≤ 2 ^ 31) × (v + 8 * (e - i) ≤ 65536) ⌝ }
+    requires { ⌜ (start ≤ n) × (i ≤ e) × (e ≤ length (now p)) × (n + 2 ^ 20 < 2 ^ 31) × (v + 8 * (e - i) ≤ 65536) ⌝ }
     ensures { λ r. ⌜ Wrote (now (out .entry)) (now (out .exit)) n r (typesText (ltb start n) (typesFrom (atOctets v (e - i)) (slice i e (now (p .entry))))) ⌝ }
 {
     let mut m = n;

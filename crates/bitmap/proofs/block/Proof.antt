@@ -1,62 +1,49 @@
 use Prim.Native.Nat.{_+_, _-_, _*_, _≤_}
 use mathlib.Core.Path.{_≡_}
 use lib.Dec.{ltb}
-use lib.ListN.{getD}
 use lib.Seq.{slice}
 use Rattle.format.specs.Bitmap.{atOctets, typesFrom}
 use Rattle.writing.proofs.Laws.{Left, left-all}
 use Rattle.bitmap.specs.Types.{typesText}
-use Rattle.bitmap.proofs.Texts.{types-left, types-done, octet-length}
-use Rattle.bitmap.proofs.Blocks.{octet-types, no-octets}
+use Rattle.bitmap.proofs.Texts.{types-left, types-done}
+use Rattle.bitmap.proofs.Blocks.{octet-types, no-octets, block-length}
 use native.Mathlib.Omega.{arith}
 use borrow.Author.Needs.{needs}
 use Rattle.bitmap.proofs.block.Statement.{statement}
 use Rattle.bitmap.proofs.block.Tie as tie
-use Rattle.bitmap.proofs.block.Reads as reads
-use Rattle.bitmap.proofs.block.Lts as lts
-use Rattle.bitmap.proofs.octet.Reads as octet-reads
 
 abbrev Inv-loop : tie.InvT-loop
-Inv-loop out₀ n start p i e v m₀ t₀ j₀ out m t j = (start ≤ m) × (i ≤ j) × (j ≤ e) × (t ≡ v + 8 * (j - i)) × (m ≤ n + 120 * (j - i)) × Left out₀ n (typesText (ltb start n) (typesFrom (atOctets v (e - i)) (slice i e p))) out m (typesText (ltb start m) (typesFrom (atOctets t (e - j)) (slice j e p)))
+Inv-loop out₀ n start p i e v m₀ t₀ j₀ out m t j = (start ≤ m) × (i ≤ j) × (j ≤ e) × (t ≡ v + 8 * (j - i)) × Left out₀ n (typesText (ltb start n) (typesFrom (atOctets v (e - i)) (slice i e p))) out m (typesText (ltb start m) (typesFrom (atOctets t (e - j)) (slice j e p)))
 
 abbrev μ-loop : tie.MeasureT-loop
 μ-loop out₀ n start p i e v m₀ t₀ j₀ out m t j = e - j
 
--- src/lib.rt:64:5
 loop-holds : tie.Need-loop-holds Inv-loop μ-loop
-loop-holds c = (search needs, search needs, search needs, search needs, search needs, left-all _ _ _)
+loop-holds c = (search needs, search needs, search needs, search needs, left-all _ _ _)
 
--- src/lib.rt:65:37
 shared-slice-read-octet : tie.Need-shared-slice-read-octet Inv-loop μ-loop
 shared-slice-read-octet c = search needs
 
--- src/lib.rt:65:9
 octet-requires : tie.Need-octet-requires Inv-loop μ-loop
-octet-requires c κs = search needs
+octet-requires c κs = (search needs, omega (arith, c .before .before .before .loop .inv .4 .count, block-length (ltb (c .before .before .before .before .before .before .args .start) (c .before .before .before .before .before .before .args .n)) (atOctets (c .before .before .before .before .before .before .args .v) (c .before .before .before .before .before .before .args .e - c .before .before .before .before .before .before .args .i)) (c .before .before .before .before .before .before .args .p .now) (c .before .before .before .before .before .before .args .i) (c .before .before .before .before .before .before .args .e) (c .before .before .before .before .before .before .pre .2)), search needs)
 
--- src/lib.rt:66:13
 add-t : tie.Need-add-t Inv-loop μ-loop
 add-t c = search needs
 
--- src/lib.rt:67:13
 add-j : tie.Need-add-j Inv-loop μ-loop
 add-j c = search needs
 
--- src/lib.rt:64:5
 loop-less : tie.Need-loop-less Inv-loop μ-loop
 loop-less c = search needs
 
--- src/lib.rt:64:5
 loop-again : tie.Need-loop-again Inv-loop μ-loop
-loop-again c = (omega (arith, c .before .before .octet .ensures .count), search needs, search needs, search needs, omega (arith, c .before .before .octet .ensures .count, octet-length (ltb (c .before .before .before .before .before .before .before .before .before .args .start) (c .before .before .before .before .before .before .loop .m)) (c .before .before .before .before .before .before .loop .t) (getD (c .before .before .before .before .before .before .before .before .before .args .p .now) (c .before .before .before .before .before .before .loop .j) 0)), types-left (c .before .before .before .before .before .before .before .before .before .args .start) _ _ _ _ (c .before .before .before .before .before .before .loop .inv .5) (octet-types (c .before .before .before .before .before .before .before .before .before .args .p .now) (c .before .before .before .before .before .before .loop .j) (c .before .before .before .before .before .before .before .before .before .args .e) (c .before .before .before .before .before .before .loop .t) (c .before .before .before .before .before .loop-test .taken) (c .before .before .before .before .before .before .before .before .before .pre .2)) (c .before .before .before .before .before .before .loop .inv .0) (c .before .before .octet .ensures))
+loop-again c = (omega (arith, c .before .before .octet .ensures .count), search needs, search needs, search needs, types-left (c .before .before .before .before .before .before .before .before .before .args .start) _ _ _ _ (c .before .before .before .before .before .before .loop .inv .4) (octet-types (c .before .before .before .before .before .before .before .before .before .args .p .now) (c .before .before .before .before .before .before .loop .j) (c .before .before .before .before .before .before .before .before .before .args .e) (c .before .before .before .before .before .before .loop .t) (c .before .before .before .before .before .loop-test .taken) (c .before .before .before .before .before .before .before .before .before .pre .2)) (c .before .before .before .before .before .before .loop .inv .0) (c .before .before .octet .ensures))
 
--- src/lib.rt:57:1
 same-length : tie.Need-same-length Inv-loop μ-loop
 same-length c = search needs
 
--- src/lib.rt:57:1
 returns : tie.Need-returns Inv-loop μ-loop
-returns c = types-done (ltb (c .before .before .before .before .args .start) (c .before .loop .m)) (c .before .loop .inv .5) (no-octets (c .before .before .before .before .args .p .now) (c .before .loop .j) (c .before .before .before .before .args .e) (c .before .loop .t) (c .loop-test .left))
+returns c = types-done (ltb (c .before .before .before .before .args .start) (c .before .loop .m)) (c .before .loop .inv .4) (no-octets (c .before .before .before .before .args .p .now) (c .before .loop .j) (c .before .before .before .before .args .e) (c .before .loop .t) (c .loop-test .left))
 
 pub block-spec : {M : Type 1} → statement M
 block-spec =

@@ -1,55 +1,44 @@
-use Prim.Native.Nat.{_+_, _-_, _*_, _/_, _≤_}
+use Prim.Native.Nat.{_+_, _-_, _≤_}
 use lib.Dec.{ltb}
 use Rattle.format.specs.Digits.{digits}
 use Rattle.format.specs.Bitmap.{setBits}
 use Rattle.writing.proofs.Laws.{Left}
 use Rattle.bitmap.specs.Types.{typesText}
-use Rattle.bitmap.proofs.Texts.{types-done, types-left, bit-length, Within, octet-within, octet-left, typesLeft, bit-there, bit-within, bit-next, bits-done}
+use Rattle.bitmap.proofs.Texts.{types-done, types-left, octet-length, Within, octet-within, octet-left, typesLeft, bit-there, bit-within, bit-next, bits-done}
 use native.Mathlib.Omega.{arith}
 use borrow.Author.Needs.{needs}
 use Rattle.bitmap.proofs.octet.Statement.{statement}
 use Rattle.bitmap.proofs.octet.Tie as tie
-use Rattle.bitmap.proofs.octet.Reads as reads
-use Rattle.bitmap.proofs.octet.Lts as lts
-use Rattle.bitmap.proofs.put_if.Reads as put-if-reads
 
 abbrev Inv-loop : tie.InvT-loop
-Inv-loop out₀ n start v x m₀ t₀ y₀ out m t y = (start ≤ m) × (v ≤ t) × (m ≤ n + 15 * (t - v)) × Within (v + 8 - t) y × Left out₀ n (typesText (ltb start n) (setBits v (digits 2 8 x))) out m (typesText (ltb start m) (typesLeft v t y))
+Inv-loop out₀ n start v x m₀ t₀ y₀ out m t y = (start ≤ m) × (v ≤ t) × Within (v + 8 - t) y × Left out₀ n (typesText (ltb start n) (setBits v (digits 2 8 x))) out m (typesText (ltb start m) (typesLeft v t y))
 
 abbrev μ-loop : tie.MeasureT-loop
 μ-loop out₀ n start v x m₀ t₀ y₀ out m t y = v + 8 - t
 
--- src/lib.rt:48:5
 loop-holds : tie.Need-loop-holds Inv-loop μ-loop
-loop-holds c = (search needs, search needs, search needs, octet-within (c .before .args .v) (c .before .args .x), octet-left (c .before .args .v) (c .before .args .x) _ _ (ltb (c .before .args .start) (c .before .args .n)) (omega arith))
+loop-holds c = (search needs, search needs, octet-within (c .before .args .v) (c .before .args .x), octet-left (c .before .args .v) (c .before .args .x) _ _ (ltb (c .before .args .start) (c .before .args .n)) (omega arith))
 
--- src/lib.rt:49:9
 put-if-requires : tie.Need-put-if-requires Inv-loop μ-loop
-put-if-requires c κs = let h = bit-there (c .before .before .before .before .args .v) (c .before .before .loop .t) (c .before .before .loop .y) (c .before .before .loop .inv .3) (c .before .loop-test .taken) in (omega arith, omega arith, omega arith)
+put-if-requires c κs = let h = bit-there (c .before .before .before .before .args .v) (c .before .before .loop .t) (c .before .before .loop .y) (c .before .before .loop .inv .2) (c .before .loop-test .taken) in (omega arith, omega (arith, c .before .before .loop .inv .3 .count, octet-length (ltb (c .before .before .before .before .args .start) (c .before .before .before .before .args .n)) (c .before .before .before .before .args .v) (c .before .before .before .before .args .x)), omega arith)
 
--- src/lib.rt:50:13
 mul-y : tie.Need-mul-y Inv-loop μ-loop
 mul-y c = search needs
 
--- src/lib.rt:51:13
 add-t : tie.Need-add-t Inv-loop μ-loop
-add-t c = let h = bit-there (c .before .before .before .before .before .before .before .args .v) (c .before .before .before .before .before .loop .t) (c .before .before .before .before .before .loop .y) (c .before .before .before .before .before .loop .inv .3) (c .before .before .before .before .loop-test .taken) in omega arith
+add-t c = let h = bit-there (c .before .before .before .before .before .before .before .args .v) (c .before .before .before .before .before .loop .t) (c .before .before .before .before .before .loop .y) (c .before .before .before .before .before .loop .inv .2) (c .before .before .before .before .loop-test .taken) in omega arith
 
--- src/lib.rt:48:5
 loop-less : tie.Need-loop-less Inv-loop μ-loop
-loop-less c = let h = bit-there (c .before .before .before .before .before .before .before .args .v) (c .before .before .before .before .before .loop .t) (c .before .before .before .before .before .loop .y) (c .before .before .before .before .before .loop .inv .3) (c .before .before .before .before .loop-test .taken) in omega arith
+loop-less c = let h = bit-there (c .before .before .before .before .before .before .before .args .v) (c .before .before .before .before .before .loop .t) (c .before .before .before .before .before .loop .y) (c .before .before .before .before .before .loop .inv .2) (c .before .before .before .before .loop-test .taken) in omega arith
 
--- src/lib.rt:48:5
 loop-again : tie.Need-loop-again Inv-loop μ-loop
-loop-again c = (omega (arith, c .before .before .put-if .ensures .count), search needs, omega (arith, c .before .before .put-if .ensures .count, bit-length (ltb (c .before .before .before .before .before .before .before .args .start) (c .before .before .before .before .before .loop .m)) (c .before .before .before .before .before .loop .t) (c .before .before .before .before .before .loop .y / 128)), bit-within (c .before .before .before .before .before .before .before .args .v) (c .before .before .before .before .before .loop .t) (c .before .before .before .before .before .loop .y) (c .before .before .before .before .before .loop .inv .3) (c .before .before .before .before .loop-test .taken), types-left (c .before .before .before .before .before .before .before .args .start) _ _ _ _ (c .before .before .before .before .before .loop .inv .4) (bit-next (c .before .before .before .before .before .before .before .args .v) (c .before .before .before .before .before .loop .t) (c .before .before .before .before .before .loop .y) (c .before .before .before .before .before .loop .inv .3) (c .before .before .before .before .loop-test .taken)) (c .before .before .before .before .before .loop .inv .0) (c .before .before .put-if .ensures))
+loop-again c = (omega (arith, c .before .before .put-if .ensures .count), search needs, bit-within (c .before .before .before .before .before .before .before .args .v) (c .before .before .before .before .before .loop .t) (c .before .before .before .before .before .loop .y) (c .before .before .before .before .before .loop .inv .2) (c .before .before .before .before .loop-test .taken), types-left (c .before .before .before .before .before .before .before .args .start) _ _ _ _ (c .before .before .before .before .before .loop .inv .3) (bit-next (c .before .before .before .before .before .before .before .args .v) (c .before .before .before .before .before .loop .t) (c .before .before .before .before .before .loop .y) (c .before .before .before .before .before .loop .inv .2) (c .before .before .before .before .loop-test .taken)) (c .before .before .before .before .before .loop .inv .0) (c .before .before .put-if .ensures))
 
--- src/lib.rt:41:1
 same-length : tie.Need-same-length Inv-loop μ-loop
 same-length c = search needs
 
--- src/lib.rt:41:1
 returns : tie.Need-returns Inv-loop μ-loop
-returns c = types-done (ltb (c .before .before .before .args .start) (c .before .loop .m)) (c .before .loop .inv .4) (bits-done (c .before .before .before .args .v) (c .before .loop .t) (c .before .loop .y) (c .loop-test .left))
+returns c = types-done (ltb (c .before .before .before .args .start) (c .before .loop .m)) (c .before .loop .inv .3) (bits-done (c .before .before .before .args .v) (c .before .loop .t) (c .before .loop .y) (c .loop-test .left))
 
 pub octet-spec : {M : Type 1} → statement M
 octet-spec =

@@ -1,7 +1,7 @@
 use Prim.Native.Nat.{_-_, _≤_}
 use mathlib.Core.Path.{_≡_, refl, sym, ap, _∙_}
 use Rattle.qualifiers.proofs.Laws.{within}
-use Rattle.symbols.specs.Symbols.{firstIn, nameFor, spelled, Before}
+use Rattle.symbols.specs.Symbols.{firstIn, nameFor, spelled}
 use Rattle.symbols.proofs.Laws.{first-here, first-none, first-next}
 use native.Mathlib.Omega.{arith}
 use borrow.Author.Needs.{needs}

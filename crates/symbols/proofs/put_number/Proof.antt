@@ -1,4 +1,4 @@
-use mathlib.Core.Path.{refl, sym, ap, _∙_}
+use mathlib.Core.Path.{sym, ap, _∙_}
 use Rattle.writing.proofs.Laws.{wrote-text}
 use Rattle.symbols.specs.Symbols.{spelled}
 use Rattle.symbols.proofs.Laws.{bare-text, found-text, lent}
