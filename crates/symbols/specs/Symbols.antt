@@ -5,6 +5,7 @@ use mathlib.Core.Option.{Option, none, some}
 use lib.Dec.{eqb}
 use lib.Seq.{slice}
 use Rattle.format.specs.Lists.{_>>=_, provided, orElse, eachOf}
+use Rattle.format.specs.Octets.{sameWord}
 use Rattle.format.specs.Field.{Symbol}
 use Rattle.format.specs.Grammar.{Qualifier, word, symbol, qualifier}
 use Rattle.format.specs.Types.{symbolOf}
@@ -34,6 +35,10 @@ firstIn f s a b = firstOf (λ p. ifSymbol f (qualifier p)) (piecesIn s a b)
 -- the name of a symbol with the number v
 abbrev pub nameFor : ℕ → Symbol → Option (List ℕ)
 nameFor v y = provided (eqb (y .value) v) (y .spelling .octets)
+
+-- the number of a symbol whose name is t
+abbrev pub valueFor : List ℕ → Symbol → Option ℕ
+valueFor t y = provided (sameWord (y .spelling .octets) t) (y .value)
 
 -- the name that was found
 abbrev pub spelled : List ℕ → Spelling → Option (List ℕ)

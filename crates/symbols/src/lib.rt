@@ -4,13 +4,16 @@ ghost use mathlib.Core.Path.{_≡_};
 ghost use mathlib.Core.List.{List};
 ghost use mathlib.Core.Option.{some};
 ghost use lib.ListN.{length};
+ghost use lib.Seq.{slice};
+ghost use Rattle.format.specs.Octets.{lowered, sameWord};
 ghost use Rattle.format.specs.Field.{Symbol};
 ghost use Rattle.format.specs.Grammar.{qualifier};
-ghost use Rattle.format.specs.Number.{symbolOrDecimal};
-ghost use Rattle.octets.specs.Octets.{partIn};
+ghost use Rattle.format.specs.Number.{symbolOrDecimal, symbolValue};
+ghost use Rattle.octets.specs.Octets.{partIn, numberOf};
 ghost use Rattle.writing.specs.Writing.{Wrote};
-ghost use Rattle.symbols.specs.Symbols.{symbolsIn, firstIn, ifSymbol, nameFor, spelled, Before};
+ghost use Rattle.symbols.specs.Symbols.{symbolsIn, firstIn, ifSymbol, nameFor, valueFor, spelled, Before};
 use octets::Class;
+use octets::Number;
 use qualifiers::Found;
 
 // Where a symbol's name stands, from its first octet to its end, or nowhere.
@@ -72,4 +75,88 @@ pub fn put_number(out: &mut [u8], n: usize, s: &[u8], a: usize, b: usize, v: u64
         Spelling::At(i, e) => writing::put_all(out, n, &s[i..e]),
         Spelling::Nothing => writing::put_decimal(out, n, v),
     }
+}
+
+// An octet without the case of letters.
+fn lower(b: u8) -> u8
+    ensures { λ r. ⌜ r ≡ lowered b ⌝ }
+{
+    if b < 65 {
+        return b;
+    }
+    if b <= 90 {
+        return b + 32;
+    }
+    b
+}
+
+// Whether the text of s from a to e and that of t from i to f are the same, letters' case ignored.
+fn same_word(s: &[u8], a: usize, e: usize, t: &[u8], i: usize, f: usize) -> bool
+    requires { ⌜ (a ≤ e) × (e ≤ length (now s)) × (i ≤ f) × (f ≤ length (now t)) ⌝ }
+    ensures { λ r. ⌜ r ≡ sameWord (slice a e (now (s .entry))) (slice i f (now (t .entry))) ⌝ }
+{
+    if e - a != f - i {
+        return false;
+    }
+    let mut j = a;
+    let mut k = i;
+    while j < e {
+        if lower(s[j]) != lower(t[k]) {
+            return false;
+        }
+        j = j + 1;
+        k = k + 1;
+    }
+    true
+}
+
+// The number of the qualifier from a to z, where that is a symbol whose name is the text of t from i to e.
+fn value_for(s: &[u8], a: usize, z: usize, t: &[u8], i: usize, e: usize) -> Number
+    requires { ⌜ (a ≤ z) × (z ≤ length (now s)) × (i ≤ e) × (e ≤ length (now t)) ⌝ }
+    ensures { λ r. ⌜ r ≡ numberOf (ifSymbol (valueFor (slice i e (now (t .entry)))) (qualifier (partIn (now (s .entry)) a z))) ⌝ }
+{
+    let q = qualifiers::find(s, a, z);
+    match q {
+        Found::Bad => Number::Fault,
+        Found::Word => Number::Fault,
+        Found::Numbered(n, v) => {
+            if same_word(s, a, n, t, i, e) {
+                return Number::Value(v);
+            }
+            Number::Fault
+        }
+    }
+}
+
+// The number of the first symbol between a and b whose name is the text of t from i to e.
+fn first_value(s: &[u8], a: usize, b: usize, t: &[u8], i: usize, e: usize) -> Number
+    requires { ⌜ (a ≤ b) × (b ≤ length (now s)) × (i ≤ e) × (e ≤ length (now t)) ⌝ }
+    ensures { λ r. ⌜ r ≡ numberOf (firstIn (valueFor (slice i e (now (t .entry)))) (now (s .entry)) a b) ⌝ }
+{
+    let mut j = a;
+    loop {
+        let z = octets::skip(s, j, b, Class::NotComma);
+        let q = value_for(s, j, z, t, i, e);
+        match q {
+            Number::Value(v) => {
+                return Number::Value(v);
+            }
+            Number::Fault => {}
+        }
+        if z == b {
+            return Number::Fault;
+        }
+        j = z + 1;
+    }
+}
+
+// The number of the symbol whose name is the text of t from i to e, letters' case ignored: the first one that matches.
+pub fn value_of(s: &[u8], a: usize, b: usize, t: &[u8], i: usize, e: usize) -> Number
+    requires { ⌜ (a ≤ b) × (b ≤ length (now s)) × (length (now s) ≤ 8192) × (i ≤ e) × (e ≤ length (now t)) ⌝ }
+    ensures { λ r. ⌜ ((w : ℕ) (l : List Symbol) → symbolsIn w (now (s .entry)) a b ≡ some l → r ≡ numberOf (symbolValue l (slice i e (now (t .entry))))) ⌝ }
+{
+    if a == b {
+        return Number::Fault;
+    }
+    first_value(s, a, b, t, i, e)
 }
