@@ -31,7 +31,7 @@ hex-plain : (p : List ℕ) → Plainly (hexText p)
 hex-plain [] = tt
 hex-plain (x ∷ p) = plain-append (map upperDigit (digits 16 2 x)) (hexText p) (chars-plain upperDigit 16 refl (digits 16 2 x) (digits-below 16 2 x (omega arith))) (hex-plain p)
 
-hex-length : (p : List ℕ) → length (hexText p) ≡ 2 * length p
+pub hex-length : (p : List ℕ) → length (hexText p) ≡ 2 * length p
 hex-length [] = refl
 hex-length (x ∷ p) = omega (arith, hex-length p)
 

@@ -20,14 +20,18 @@ map-last f (e ∷ ds) d = ap (λ (t : List ℕ). f e ∷ t) (map-last f ds d)
 pub fixed-length : (w v : ℕ) → length (fixedDecimal w v) ≡ w
 fixed-length w v = length-map (digits 10 w v) upperDigit ∙ digits-length 10 w v
 
--- the last digit of a number that is to be written may be stored first
-pub last-stored : (o o′ : List ℕ) (n k x : ℕ) → 0 < k → o′ ≡ set o (n + (k - 1)) (48 + x % 10) → sets o′ n (fixedDecimal (k - 1) (x / 10)) ≡ sets o n (fixedDecimal k x)
-last-stored o o′ n zero x h p = absurd (omega arith)
-last-stored o o′ n (suc k) x h p =
+-- the last of the digits that are to be written may be stored first
+pub last-digit : (char : ℕ → ℕ) (b : ℕ) (o o′ : List ℕ) (n k x : ℕ) → 0 < k → o′ ≡ set o (n + (k - 1)) (char (x % b))
+    → sets o′ n (map char (digits b (k - 1) (x / b))) ≡ sets o n (map char (digits b k x))
+last-digit char b o o′ n zero x h p = absurd (omega arith)
+last-digit char b o o′ n (suc k) x h p =
     let e : suc k - 1 ≡ k = omega arith in
-    let m : x % 10 < 10 = omega arith in
-    let p′ : o′ ≡ set o (n + k) (48 + x % 10) = rw e at p in
-    rw (e, p′, map-last upperDigit (digits 10 k (x / 10)) (x % 10), sets-last o n (fixedDecimal k (x / 10)) (upperDigit (x % 10)), fixed-length k (x / 10), lt-ltb (x % 10) 10 m)
+    let p′ : o′ ≡ set o (n + k) (char (x % b)) = rw e at p in
+    let l : length (map char (digits b k (x / b))) ≡ k = length-map (digits b k (x / b)) char ∙ digits-length b k (x / b) in
+    rw (e, p′, map-last char (digits b k (x / b)) (x % b), sets-last o n (map char (digits b k (x / b))) (char (x % b)), l)
+
+pub last-stored : (o o′ : List ℕ) (n k x : ℕ) → 0 < k → o′ ≡ set o (n + (k - 1)) (48 + x % 10) → sets o′ n (fixedDecimal (k - 1) (x / 10)) ≡ sets o n (fixedDecimal k x)
+last-stored o o′ n k x h p = let m : x % 10 < 10 = omega arith in last-digit upperDigit 10 o o′ n k x h (rw (lt-ltb (x % 10) 10 m) p)
 
 -- no digit is left
 pub all-stored : (o₀ o : List ℕ) (n w v k x : ℕ) → k ≤ 0 → sets o n (fixedDecimal k x) ≡ sets o₀ n (fixedDecimal w v) → Wrote o₀ o n (n + w) (fixedDecimal w v)

@@ -72,6 +72,13 @@ wrote-length {o} {o′} {n} {r} {t} w = ap length (w .octets) ∙ length-sets o 
 pub wrote-text : {o o′ : List ℕ} {n r : ℕ} (s t : List ℕ) → s ≡ t → Wrote o o′ n r s → Wrote o o′ n r t
 wrote-text {o} {o′} {n} {r} s t e w = subst (λ (x : List ℕ). Wrote o o′ n r x) e w
 
+-- what follows a text has no room
+pub wrote-out : {o o′ : List ℕ} {n m : ℕ} {s : List ℕ} (r : ℕ) (t : List ℕ) → Wrote o o′ n m s → length o ≤ m → r ≡ m + length t → Wrote o o′ n r (s ++ t)
+wrote-out {o} {o′} {n} {m} {s} r t w h e = record {
+  octets = w .octets ∙ sym (sets-append o n s t ∙ sets-out (sets o n s) (n + length s) t (omega (arith, length-sets o n s, w .count)));
+  count = omega (arith, w .count, length-append s t);
+}
+
 -- an octet may be stored after the text that follows it, once that is known not to be empty
 pub wrote-before : {o o₁ : List ℕ} {n r : ℕ} {t : List ℕ} (o₂ : List ℕ) (b : ℕ) → Wrote o o₁ (n + 1) r t → o₂ ≡ set o₁ n b → Wrote o o₂ n r (b ∷ t)
 wrote-before {o} {o₁} {n} {r} {t} o₂ b w p = record {

@@ -3,7 +3,7 @@
 ghost use mathlib.Core.Bool.{cond};
 ghost use mathlib.Core.Path.{_≡_};
 ghost use mathlib.Core.List.{[], _∷_, map};
-ghost use Prim.Native.Nat.{_^_, _<_, _≤_};
+ghost use Prim.Native.Nat.{_*_, _-_, _/_, _^_, _<_, _≤_, min};
 ghost use lib.ListN.{length, set};
 ghost use Rattle.format.specs.Digits.{digits, upperDigit, lowerDigit};
 ghost use Rattle.format.specs.Number.{decimal, fixedDecimal};
@@ -26,6 +26,24 @@ pub fn put(out: &mut [u8], i: usize, b: u8)
     if i < out.len() {
         out[i] = b;
     }
+}
+
+// The lesser of two.
+pub fn least(a: usize, b: usize) -> usize
+    ensures { λ r. ⌜ r ≡ min a b ⌝ }
+{
+    if a < b { a } else { b }
+}
+
+// How many of `count` pieces of w octets each have room from n on, in a buffer of `len`.
+pub fn fitting(len: usize, n: usize, w: usize, count: usize) -> usize
+    requires { ⌜ 0 < w ⌝ }
+    ensures { λ r. ⌜ r ≡ min count ((len - n) / w) ⌝ }
+{
+    if len <= n {
+        return 0;
+    }
+    least(count, (len - n) / w)
 }
 
 pub fn put_octet(out: &mut [u8], n: usize, b: u8) -> usize
@@ -98,18 +116,35 @@ pub fn put_hex_lower_octet(out: &mut [u8], n: usize, b: u8) -> usize
     n + 2
 }
 
-// Two digits an octet.
-pub fn put_hex_upper(out: &mut [u8], n: usize, s: &[u8]) -> usize
-    requires { ⌜ (n < 2 ^ 32) × (length (now s) < 2 ^ 32) ⌝ }
+// Two digits an octet, where there is room for all.
+fn hex_pairs(out: &mut [u8], n: usize, s: &[u8]) -> usize
+    requires { ⌜ 2 * length (now s) ≤ length (now out) - n ⌝ }
     ensures { λ r. ⌜ Wrote (now (out .entry)) (now (out .exit)) n r (hexText (now (s .entry))) ⌝ }
 {
     let mut m = n;
     let mut i = 0;
     while i < s.len() {
-        m = put_hex_upper_octet(out, m, s[i]);
+        let b = s[i];
+        out[m] = upper_digit(b / 16 % 16);
+        out[m + 1] = upper_digit(b % 16);
+        m = m + 2;
         i = i + 1;
     }
     m
+}
+
+// Two digits an octet. The first octet without room for both may have room for one; the others have none.
+pub fn put_hex_upper(out: &mut [u8], n: usize, s: &[u8]) -> usize
+    requires { ⌜ (n < 2 ^ 32) × (length (now s) < 2 ^ 32) ⌝ }
+    ensures { λ r. ⌜ Wrote (now (out .entry)) (now (out .exit)) n r (hexText (now (s .entry))) ⌝ }
+{
+    let c = fitting(out.len(), n, 2, s.len());
+    let m = hex_pairs(out, n, &s[0..c]);
+    if s.len() <= c {
+        return m;
+    }
+    put_hex_upper_octet(out, m, s[c]);
+    n + 2 * s.len()
 }
 
 // How many digits a number has.

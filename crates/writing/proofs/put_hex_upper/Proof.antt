@@ -1,55 +1,96 @@
-use Rattle.writing.proofs.Laws.{Left, left-all, left-piece, left-none, next, none}
+use Prim.Native.Nat.{_+_, _-_, _*_}
+use mathlib.Core.Path.{_≡_}
+use native.Mathlib.Nat.{sub-zero}
+use lib.ListN.{drop, length-drop}
 use Rattle.format.specs.Hex.{hexText}
-use lib.ListN.{length, drop}
-use mathlib.Core.Path.{_≡_, ap}
-use Prim.Native.Nat.{_+_, _-_, _*_, _≤_}
+use Rattle.writing.proofs.Laws.{wrote-text, wrote-append, wrote-out}
+use Rattle.writing.proofs.Hex.{hex-all, hex-parts, hex-count}
+use Rattle.format.proofs.Hex.{hex-length}
 use native.Mathlib.Omega.{arith}
 use borrow.Author.Needs.{needs}
 use Rattle.writing.proofs.put_hex_upper.Statement.{statement}
 use Rattle.writing.proofs.put_hex_upper.Tie as tie
+use Rattle.writing.proofs.put_hex_upper.Reads as reads
+use Rattle.writing.proofs.put_hex_upper.Lts as lts
+use Rattle.writing.proofs.fitting.Reads as fitting-reads
+use Rattle.writing.proofs.hex_pairs.Reads as hex-pairs-reads
+use Rattle.writing.proofs.put_hex_upper_octet.Reads as put-hex-upper-octet-reads
 
-abbrev Inv-loop : tie.InvT-loop
-Inv-loop out₀ n s m₀ i₀ out m i = (i ≤ length s) × (m ≡ n + 2 * i) × Left out₀ n (hexText s) out m (hexText (drop i s))
+-- src/lib.rt:135:9
+fitting-requires : tie.Need-fitting-requires
+fitting-requires c κs = search needs
 
-abbrev μ-loop : tie.MeasureT-loop
-μ-loop out₀ n s m₀ i₀ out m i = length s - i
+-- src/lib.rt:136:31
+sub-hex-pairs : tie.Need-sub-hex-pairs
+sub-hex-pairs c = search needs
 
-loop-holds : tie.Need-loop-holds Inv-loop μ-loop
-loop-holds c = (search needs, search needs, left-all _ _ _)
+-- src/lib.rt:136:31
+part-hex-pairs-start : tie.Need-part-hex-pairs-start
+part-hex-pairs-start c = search needs
 
-shared-slice-read-put-hex-upper-octet :
-    tie.Need-shared-slice-read-put-hex-upper-octet Inv-loop μ-loop
-shared-slice-read-put-hex-upper-octet c = search needs
+-- src/lib.rt:136:31
+part-hex-pairs-end : tie.Need-part-hex-pairs-end
+part-hex-pairs-end c = search needs
 
-put-hex-upper-octet-requires : tie.Need-put-hex-upper-octet-requires Inv-loop μ-loop
-put-hex-upper-octet-requires c κs = search needs
+-- src/lib.rt:136:9
+hex-pairs-requires : tie.Need-hex-pairs-requires
+hex-pairs-requires c κs = search needs
 
-add-i : tie.Need-add-i Inv-loop μ-loop
-add-i c = search needs
-
-loop-less : tie.Need-loop-less Inv-loop μ-loop
-loop-less c = search needs
-
-loop-again : tie.Need-loop-again Inv-loop μ-loop
-loop-again c = (search needs, omega (arith, c .before .before .put-hex-upper-octet .ensures .count), left-piece _ _ _ _ (c .before .before .before .before .before .before .loop .inv .2) (ap hexText (next _ _ (c .before .before .before .before .before .loop-test .taken))) (c .before .before .put-hex-upper-octet .ensures))
-
-same-length : tie.Need-same-length Inv-loop μ-loop
+-- src/lib.rt:138:9
+same-length : tie.Need-same-length
 same-length c = search needs
 
-returns : tie.Need-returns Inv-loop μ-loop
-returns c = left-none (c .before .loop .inv .2) (ap hexText (none _ _ (c .loop-test .left)))
+-- src/lib.rt:138:9
+returns : tie.Need-returns
+returns c =
+    wrote-text _ _ (hex-all (c .before .before .before .before .before .before .before .before .before .args .s .now) (c .before .before .before .before .before .before .fitting .result) (c .if1 .taken)) (rw (sub-zero (c .before .before .before .before .before .before .fitting .result)) at (c .before .before .before .hex-pairs .ensures))
+
+-- src/lib.rt:140:33
+shared-slice-read-put-hex-upper-octet : tie.Need-shared-slice-read-put-hex-upper-octet
+shared-slice-read-put-hex-upper-octet c = search needs
+
+-- src/lib.rt:140:5
+put-hex-upper-octet-requires : tie.Need-put-hex-upper-octet-requires
+put-hex-upper-octet-requires c κs =
+    omega (arith, c .before .before .before .before .before .hex-pairs .ensures .count, hex-count (c .before .before .before .before .before .before .before .before .before .before .before .args .s .now) (c .before .before .before .before .before .before .before .before .fitting .result - 0) (omega arith))
+
+-- src/lib.rt:141:9
+mul-result : tie.Need-mul-result
+mul-result c = search needs
+
+-- src/lib.rt:141:5
+add-result : tie.Need-add-result
+add-result c = search needs
+
+-- src/lib.rt:131:1
+same-length-2 : tie.Need-same-length-2
+same-length-2 c = search needs
+
+-- src/lib.rt:131:1
+returns-2 : tie.Need-returns-2
+returns-2 c =
+    let s = c .before .before .before .before .before .before .before .before .before .before .before .before .before .before .args .s .now in
+    let k = c .before .before .before .before .before .before .before .before .before .before .before .fitting .result in
+    let w = rw (sub-zero k) at (c .before .before .before .before .before .before .before .before .hex-pairs .ensures) in
+    let v = c .before .before .put-hex-upper-octet .ensures in
+    let m : c .before .before .put-hex-upper-octet .result ≡ c .before .before .before .before .before .before .before .before .before .before .before .before .before .before .args .n + 2 * k + 2 = omega (arith, v .count, w .count, hex-count s k (omega arith)) in
+    wrote-text _ _ (hex-parts s k (c .before .before .before .before .before .if1 .left))
+    (wrote-out _ (hexText (drop (k + 1) s)) (wrote-append w v) (omega arith) (omega (arith, hex-length (drop (k + 1) s), length-drop (k + 1) s)))
 
 pub put-hex-upper-spec : {M : Type 1} → statement M
 put-hex-upper-spec =
     tie.close
     (tie.spec
-    Inv-loop
-    μ-loop
-    loop-holds
+    fitting-requires
+    sub-hex-pairs
+    part-hex-pairs-start
+    part-hex-pairs-end
+    hex-pairs-requires
+    same-length
+    returns
     shared-slice-read-put-hex-upper-octet
     put-hex-upper-octet-requires
-    add-i
-    loop-less
-    loop-again
-    same-length
-    returns)
+    mul-result
+    add-result
+    same-length-2
+    returns-2)
