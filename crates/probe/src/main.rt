@@ -1,8 +1,10 @@
 // Answers request lines, one line each:
 //
-//     J STANZA -> NUMBER PLACE      (PLACE is the count of fields where NUMBER is 0)
+//     J STANZA                         -> NUMBER PLACE
+//     P STANZA FIRST LENGTH RDATA ROOM -> NUMBER PLACE TEXT
 //
-// The stanza's octets are in hex of either case, '-' for none; one space parts two words. A line
+// PLACE is the count where NUMBER is 0, and the last word is '-' on a refusal. Octets are in hex of
+// either case, '-' for none, and numbers decimal, of at most 64 bits; one space parts two words. A line
 // that is no request, or has more than 2,200,000 octets, answers '?'. The last line may lack its LF.
 ghost use mathlib.Core.Path.{_≡_};
 ghost use Prim.Native.Nat.{_+_, _≤_, _<_};
@@ -19,10 +21,13 @@ const PIECE: usize = 65536;
 // A line that is not whole yet, and a piece.
 const SPACE: usize = 2265536;
 
-// The room for answers, and the most that one answer takes of it.
+// The room for answers, and the most that one answer takes of it but for its octets.
 const ROOM: usize = 65536;
 
-const ANSWER: usize = 64;
+const ANSWER: usize = 128;
+
+// The longest text that is printed.
+const TEXT: usize = 1048576;
 
 // How much of the room is taken. Once a write has failed, nothing more is written.
 struct Output {
@@ -34,6 +39,27 @@ struct Output {
 struct Word {
     good: bool,
     count: usize,
+}
+
+// A word that spells a number.
+struct Count {
+    good: bool,
+    value: u64,
+}
+
+// Where a word stands.
+struct Span {
+    from: usize,
+    to: usize,
+}
+
+// The words of a request up to its run of fields, which ends at to.
+struct Asked {
+    good: bool,
+    stanza: Span,
+    first: u64,
+    many: u64,
+    to: usize,
 }
 
 // What is left when the whole lines are answered: the rest starts at start, and where long it
@@ -197,6 +223,146 @@ fn put_reply(out: &mut [u8], taken: usize, number: u32, place: u32) -> usize
     end + 1
 }
 
+// The number that a word's digits spell.
+fn number(word: &[u8]) -> Count {
+    let mut value: u64 = 0;
+    let mut i = 0;
+    while i < word.len() {
+        let next = with_digit(value, word[i]);
+        if next.good {
+            value = next.value;
+        } else {
+            return next;
+        }
+        i = i + 1;
+    }
+    Count {
+        good: 0 < word.len(),
+        value: value,
+    }
+}
+
+// A number with one digit more.
+fn with_digit(value: u64, b: u8) -> Count {
+    let bad = Count {
+        good: false,
+        value: 0,
+    };
+    if b < b'0' {
+        return bad;
+    }
+    if b'9' < b {
+        return bad;
+    }
+    if 1844674407370955161 < value {
+        return bad;
+    }
+    let tenfold = value * 10;
+    let digit = (b - b'0') as u64;
+    if u64::MAX - tenfold < digit {
+        return bad;
+    }
+    Count {
+        good: true,
+        value: tenfold + digit,
+    }
+}
+
+// The word after the one that ends at `end`: none where the line ends there.
+fn next_word(line: &[u8], end: usize) -> Span
+    requires { ⌜ end ≤ length (now line) ⌝ }
+    ensures { λ r. ⌜ (r .from ≤ r .to) × (r .to ≤ length (now (line .entry))) ⌝ }
+{
+    if end == line.len() {
+        return Span {
+            from: end,
+            to: end,
+        };
+    }
+    let from = end + 1;
+    let mut to = from;
+    while to < line.len() {
+        if line[to] == b' ' {
+            return Span {
+                from: from,
+                to: to,
+            };
+        }
+        to = to + 1;
+    }
+    Span {
+        from: from,
+        to: to,
+    }
+}
+
+// The stanza and the run of a request.
+fn asked_run(line: &[u8]) -> Asked
+    requires { ⌜ 1 ≤ length (now line) ⌝ }
+    ensures { λ r. ⌜ (r .stanza .from ≤ r .stanza .to) × (r .stanza .to ≤ length (now (line .entry))) × (r .to ≤ length (now (line .entry))) ⌝ }
+{
+    let stanza = next_word(line, 1);
+    let first = next_word(line, stanza.to);
+    let many = next_word(line, first.to);
+    let a = first.from;
+    let b = first.to;
+    let c = many.from;
+    let d = many.to;
+    let x = number(&line[a..b]);
+    let y = number(&line[c..d]);
+    Asked {
+        good: x.good & y.good,
+        stanza: stanza,
+        first: x.value,
+        many: y.value,
+        to: d,
+    }
+}
+
+fn least(a: u64, b: usize) -> usize
+    ensures { λ r. ⌜ r ≤ b ⌝ }
+{
+    if a < b as u64 { a as usize } else { b }
+}
+
+fn hex_digit(d: u8) -> u8
+    requires { ⌜ d < 16 ⌝ }
+{
+    if d < 10 { b'0' + d } else { b'A' + (d - 10) }
+}
+
+// Puts one octet, where there is room or after writing what is there.
+fn put_one(out: &mut [u8], output: Output, b: u8) -> Output
+    requires { ⌜ (output .taken ≤ length (now out)) × (128 ≤ length (now out)) ⌝ }
+    ensures { λ r. ⌜ r .taken ≤ length (now (out .entry)) ⌝ }
+{
+    let roomy = make_room(out, output);
+    put(out, roomy.taken, b);
+    Output {
+        taken: roomy.taken + 1,
+        open: roomy.open,
+    }
+}
+
+// Puts octets in hex, '-' for none, and an LF.
+fn put_octets(out: &mut [u8], output: Output, octets: &[u8]) -> Output
+    requires { ⌜ (output .taken ≤ length (now out)) × (128 ≤ length (now out)) ⌝ }
+    ensures { λ r. ⌜ r .taken ≤ length (now (out .entry)) ⌝ }
+{
+    if octets.len() < 1 {
+        let none = put_one(out, output, b'-');
+        return put_one(out, none, b'\n');
+    }
+    let mut state = output;
+    let mut i = 0;
+    while i < octets.len() {
+        state = put_one(out, state, hex_digit(octets[i] / 16));
+        state = put_one(out, state, hex_digit(octets[i] % 16));
+        i = i + 1;
+    }
+    put_one(out, state, b'\n')
+}
+
 // Puts the answer to a line that is no request.
 fn put_unknown(out: &mut [u8], taken: usize) -> usize
     requires { ⌜ taken + 64 ≤ length (now out) ⌝ }
@@ -222,24 +388,108 @@ fn put_judged(values: &[u8; 256], word: &mut [u8], out: &mut [u8], taken: usize)
     }
 }
 
+// Puts the number and the place of a reply, and the octets of its result.
+fn put_result(out: &mut [u8], output: Output, reply: extlang::Reply, octets: &[u8]) -> Output
+    requires { ⌜ output .taken + 128 ≤ length (now out) ⌝ }
+    ensures { λ r. ⌜ r .taken ≤ length (now (out .entry)) ⌝ }
+{
+    let space = put_decimal(out, output.taken, reply.number);
+    put(out, space, b' ');
+    let end = put_decimal(out, space + 1, reply.place);
+    put(out, end, b' ');
+    let state = Output {
+        taken: end + 1,
+        open: output.open,
+    };
+    if 0 < reply.number {
+        return put_octets(out, state, &octets[0..0]);
+    }
+    put_octets(out, state, octets)
+}
+
+// Puts the answer to the request to print the RDATA that a word of the line spells.
+fn put_printed(
+    values: &[u8; 256],
+    line: &mut [u8],
+    asked: Asked,
+    data: Span,
+    room: u64,
+    text: &mut [u8],
+    out: &mut [u8],
+    output: Output,
+) -> Output
+    requires { ⌜ (asked .stanza .from ≤ asked .stanza .to) × (asked .stanza .to ≤ length (now line)) × (data .from ≤ data .to) × (data .to ≤ length (now line)) × (output .taken + 128 ≤ length (now out)) ⌝ }
+    ensures { λ r. ⌜ r .taken ≤ length (now (out .entry)) ⌝ }
+{
+    let a = asked.stanza.from;
+    let b = asked.stanza.to;
+    let c = data.from;
+    let d = data.to;
+    let s = octets(values, &mut line[a..b]);
+    let p = octets(values, &mut line[c..d]);
+    if s.good & p.good {
+        let e = a + s.count;
+        let f = c + p.count;
+        let most = least(room, text.len());
+        let reply = extlang::print(&line[a..e], asked.first as usize, asked.many as usize, &line[c..f], &mut text[0..most], 0);
+        let n = least(reply.place as u64, text.len());
+        return put_result(out, output, reply, &text[0..n]);
+    }
+    unknown(out, output)
+}
+
+// Puts the answer to a request to print.
+fn answer_print(values: &[u8; 256], line: &mut [u8], text: &mut [u8], out: &mut [u8], output: Output) -> Output
+    requires { ⌜ (1 ≤ length (now line)) × (output .taken + 128 ≤ length (now out)) ⌝ }
+    ensures { λ r. ⌜ r .taken ≤ length (now (out .entry)) ⌝ }
+{
+    let asked = asked_run(line);
+    let data = next_word(line, asked.to);
+    let last = next_word(line, data.to);
+    let a = last.from;
+    let b = last.to;
+    let room = number(&line[a..b]);
+    if asked.good & room.good & (b == line.len()) {
+        return put_printed(values, line, asked, data, room.value, text, out, output);
+    }
+    unknown(out, output)
+}
+
+// Puts the answer to a line that is no request.
+fn unknown(out: &mut [u8], output: Output) -> Output
+    requires { ⌜ output .taken + 128 ≤ length (now out) ⌝ }
+    ensures { λ r. ⌜ r .taken ≤ length (now (out .entry)) ⌝ }
+{
+    Output {
+        taken: put_unknown(out, output.taken),
+        open: output.open,
+    }
+}
+
 // Puts the answer to a line, which is without its LF. The line's octets may change.
-fn answer_line(values: &[u8; 256], line: &mut [u8], out: &mut [u8], taken: usize) -> usize
-    requires { ⌜ taken + 64 ≤ length (now out) ⌝ }
-    ensures { λ r. ⌜ r ≤ taken + 64 ⌝ }
+fn answer_line(values: &[u8; 256], line: &mut [u8], text: &mut [u8], out: &mut [u8], output: Output) -> Output
+    requires { ⌜ output .taken + 128 ≤ length (now out) ⌝ }
+    ensures { λ r. ⌜ r .taken ≤ length (now (out .entry)) ⌝ }
 {
     if line.len() < 2 {
-        return put_unknown(out, taken);
+        return unknown(out, output);
     }
     if LONGEST < line.len() {
-        return put_unknown(out, taken);
+        return unknown(out, output);
     }
     if line[1] != b' ' {
-        return put_unknown(out, taken);
+        return unknown(out, output);
     }
     if line[0] == b'J' {
-        return put_judged(values, &mut line[2..], out, taken);
+        return Output {
+            taken: put_judged(values, &mut line[2..], out, output.taken),
+            open: output.open,
+        };
     }
-    put_unknown(out, taken)
+    if line[0] == b'P' {
+        return answer_print(values, line, text, out, output);
+    }
+    unknown(out, output)
 }
 
 // Writes the answers that are in the room.
@@ -263,8 +513,8 @@ fn flush(out: &[u8], output: Output) -> Output
 
 // Sees that the room has space for one answer more.
 fn make_room(out: &[u8], output: Output) -> Output
-    requires { ⌜ (output .taken ≤ length (now out)) × (64 ≤ length (now out)) ⌝ }
-    ensures { λ r. ⌜ r .taken + 64 ≤ length (now (out .entry)) ⌝ }
+    requires { ⌜ (output .taken ≤ length (now out)) × (128 ≤ length (now out)) ⌝ }
+    ensures { λ r. ⌜ r .taken + 128 ≤ length (now (out .entry)) ⌝ }
 {
     if out.len() - output.taken < ANSWER {
         return flush(out, output);
@@ -273,19 +523,22 @@ fn make_room(out: &[u8], output: Output) -> Output
 }
 
 // Answers a line, unless it is the end of one that was answered already.
-fn answer(values: &[u8; 256], line: &mut [u8], long: bool, out: &mut [u8], output: Output) -> Output
-    requires { ⌜ (output .taken ≤ length (now out)) × (64 ≤ length (now out)) ⌝ }
+fn answer(
+    values: &[u8; 256],
+    line: &mut [u8],
+    long: bool,
+    text: &mut [u8],
+    out: &mut [u8],
+    output: Output,
+) -> Output
+    requires { ⌜ (output .taken ≤ length (now out)) × (128 ≤ length (now out)) ⌝ }
     ensures { λ r. ⌜ r .taken ≤ length (now (out .entry)) ⌝ }
 {
     if long {
         return output;
     }
     let roomy = make_room(out, output);
-    let taken = answer_line(values, line, out, roomy.taken);
-    Output {
-        taken: taken,
-        open: roomy.open,
-    }
+    answer_line(values, line, text, out, roomy)
 }
 
 // Whether one of the 32 octets from i on is an LF. All are looked at, so that it is done with a few
@@ -333,8 +586,15 @@ fn line_end(s: &[u8], i: usize) -> usize
 }
 
 // Answers the whole lines of buf, whose first kept octets have no LF.
-fn answer_lines(values: &[u8; 256], buf: &mut [u8], kept: usize, long: bool, out: &mut [u8]) -> Rest
-    requires { ⌜ (kept ≤ length (now buf)) × (64 ≤ length (now out)) ⌝ }
+fn answer_lines(
+    values: &[u8; 256],
+    buf: &mut [u8],
+    kept: usize,
+    long: bool,
+    text: &mut [u8],
+    out: &mut [u8],
+) -> Rest
+    requires { ⌜ (kept ≤ length (now buf)) × (128 ≤ length (now out)) ⌝ }
     ensures { λ r. ⌜ (r .start ≤ length (now (buf .entry))) × (r .output .taken ≤ length (now (out .entry))) ⌝ }
 {
     let mut start = 0;
@@ -345,7 +605,7 @@ fn answer_lines(values: &[u8; 256], buf: &mut [u8], kept: usize, long: bool, out
     };
     let mut end = line_end(buf, kept);
     while end < buf.len() {
-        output = answer(values, &mut buf[start..end], skipping, out, output);
+        output = answer(values, &mut buf[start..end], skipping, text, out, output);
         skipping = false;
         start = end + 1;
         end = line_end(buf, start);
@@ -388,7 +648,7 @@ fn settle(out: &[u8], output: Output, kept: usize, long: bool) -> State
 
 // Keeps what follows the last LF of buf. Where that is too long already it is answered, and dropped.
 fn keep_rest(buf: &mut [u8], rest: Rest, out: &mut [u8]) -> State
-    requires { ⌜ (rest .start ≤ length (now buf)) × (rest .output .taken ≤ length (now out)) × (64 ≤ length (now out)) ⌝ }
+    requires { ⌜ (rest .start ≤ length (now buf)) × (rest .output .taken ≤ length (now out)) × (128 ≤ length (now out)) ⌝ }
     ensures { λ r. ⌜ r .kept ≤ 2200000 ⌝ }
 {
     let start = rest.start;
@@ -411,14 +671,15 @@ fn keep_rest(buf: &mut [u8], rest: Rest, out: &mut [u8]) -> State
 }
 
 // Answers the last line, where it has no LF.
-fn finish(values: &[u8; 256], line: &mut [u8], long: bool, out: &mut [u8])
-    requires { ⌜ 64 ≤ length (now out) ⌝ }
+fn finish(values: &[u8; 256], line: &mut [u8], long: bool, text: &mut [u8], out: &mut [u8])
+    requires { ⌜ 128 ≤ length (now out) ⌝ }
 {
     if line.len() > 0 {
         let output = answer(
             values,
             line,
             long,
+            text,
             out,
             Output {
                 taken: 0,
@@ -430,8 +691,8 @@ fn finish(values: &[u8; 256], line: &mut [u8], long: bool, out: &mut [u8])
 }
 
 // Reads once, and answers the lines that are whole by then.
-fn turn(values: &[u8; 256], buf: &mut [u8], out: &mut [u8], state: State) -> State
-    requires { ⌜ (state .kept ≤ 2200000) × (2265536 ≤ length (now buf)) × (64 ≤ length (now out)) ⌝ }
+fn turn(values: &[u8; 256], buf: &mut [u8], text: &mut [u8], out: &mut [u8], state: State) -> State
+    requires { ⌜ (state .kept ≤ 2200000) × (2265536 ≤ length (now buf)) × (128 ≤ length (now out)) ⌝ }
     ensures { λ r. ⌜ r .kept ≤ 2200000 ⌝ }
 {
     let kept = state.kept;
@@ -439,7 +700,7 @@ fn turn(values: &[u8; 256], buf: &mut [u8], out: &mut [u8], state: State) -> Sta
     let got = libc::read(STDIN_FILENO, &mut buf[kept..most]);
     let n = io::count(got, &buf[kept..most]);
     if n == 0 {
-        finish(values, &mut buf[0..kept], state.long, out);
+        finish(values, &mut buf[0..kept], state.long, text, out);
         return State {
             kept: 0,
             long: false,
@@ -447,13 +708,13 @@ fn turn(values: &[u8; 256], buf: &mut [u8], out: &mut [u8], state: State) -> Sta
         };
     }
     let end = kept + n;
-    let rest = answer_lines(values, &mut buf[0..end], kept, state.long, out);
+    let rest = answer_lines(values, &mut buf[0..end], kept, state.long, text, out);
     keep_rest(&mut buf[0..end], rest, out)
 }
 
 // A proved loop has to end, and nothing says that the input does. So the loop counts its turns
 // down, from a number that no run uses up.
-fn run(values: &[u8; 256], buf: &mut [u8; SPACE], out: &mut [u8; ROOM]) {
+fn run(values: &[u8; 256], buf: &mut [u8; SPACE], text: &mut [u8; TEXT], out: &mut [u8; ROOM]) {
     let mut state = State {
         kept: 0,
         long: false,
@@ -461,7 +722,7 @@ fn run(values: &[u8; 256], buf: &mut [u8; SPACE], out: &mut [u8; ROOM]) {
     };
     let mut turns = u64::MAX;
     while turns > 0 {
-        state = turn(values, buf, out, state);
+        state = turn(values, buf, text, out, state);
         if state.going {
             turns = turns - 1;
         } else {
@@ -473,6 +734,7 @@ fn run(values: &[u8; 256], buf: &mut [u8; SPACE], out: &mut [u8; ROOM]) {
 fn main() {
     let values = hex_values();
     let mut buf = [0u8; SPACE];
+    let mut text = [0u8; TEXT];
     let mut out = [0u8; ROOM];
-    run(&values, &mut buf, &mut out);
+    run(&values, &mut buf, &mut text, &mut out);
 }
