@@ -34,7 +34,7 @@ bit-after w k v b r e h =
     rw (e, q, s, append-assoc (digits 2 k v) (b ∷ []) r)
 
 -- a number and m zeros more
-zeros-after : (m k v : ℕ) → digits 2 (k + m) (v * 2 ^ m) ≡ digits 2 k v ++ replicate m 0
+pub zeros-after : (m k v : ℕ) → digits 2 (k + m) (v * 2 ^ m) ≡ digits 2 k v ++ replicate m 0
 zeros-after zero k v = let e : v * 2 ^ 0 ≡ v = omega arith in rw (add-zero k, e, append-nil (digits 2 k v))
 zeros-after (suc m) k v =
     let e : k + suc m ≡ suc k + m = omega arith in
@@ -95,7 +95,7 @@ octets-whole w z (x ∷ xs) l h b =
     octet-whole w 0 (digits 2 8 x) (bits 8 xs ++ replicate z 0) x xs (omega arith) (number-digits 2 8 x (omega arith) (b .0)) (octets-whole w z xs l h (b .1))
 
 -- the digits of octets
-digits-of : (w : ℕ) (xs : List ℕ) → Below (2 ^ w) (toDigits w xs)
+pub digits-of : (w : ℕ) (xs : List ℕ) → Below (2 ^ w) (toDigits w xs)
 digits-of w xs = filled-below w w 0 (bits 8 xs) (omega arith) (bits-below 8 xs)
 
 module _ (w : ℕ) (lo : 1 ≤ w) where
@@ -105,7 +105,7 @@ module _ (w : ℕ) (lo : 1 ≤ w) where
   digits-back : w ≤ 8 → (xs : List ℕ) → Octets xs → fromDigits w (toDigits w xs) ≡ some xs
   digits-back hi xs b = let (z, l, e) = digits-bits xs in rw e (octets-whole w z xs l hi b)
 
-  digits-many : (xs : List ℕ) → (8 * length xs ≤ w * length (toDigits w xs)) × (w * length (toDigits w xs) < 8 * length xs + w)
+  pub digits-many : (xs : List ℕ) → (8 * length xs ≤ w * length (toDigits w xs)) × (w * length (toDigits w xs) < 8 * length xs + w)
   digits-many xs =
       let (z, l, e) = digits-bits xs in
       omega (arith, length-append (bits 8 xs) (replicate z 0), bits-length 8 xs, length-replicate {A = ℕ} z 0, bits-length w (toDigits w xs), ap length e)

@@ -27,7 +27,7 @@ sets-out xs n [] h = refl
 sets-out xs n (b ∷ t) h =
     ap (λ (l : List ℕ). sets l (suc n) t) (set-out xs n b h) ∙ sets-out xs (suc n) t (omega arith)
 
-sets-cons : (x : ℕ) (xs : List ℕ) (n : ℕ) (t : List ℕ) → sets (x ∷ xs) (suc n) t ≡ x ∷ sets xs n t
+pub sets-cons : (x : ℕ) (xs : List ℕ) (n : ℕ) (t : List ℕ) → sets (x ∷ xs) (suc n) t ≡ x ∷ sets xs n t
 sets-cons x xs n [] = refl
 sets-cons x xs n (b ∷ t) = sets-cons x (set xs n b) (suc n) t
 

@@ -1,0 +1,124 @@
+use native.Mathlib.Omega.{arith}
+use borrow.Author.Needs.{needs}
+use Rattle.base.proofs.group.Statement.{statement}
+use Rattle.base.proofs.group.Tie as tie
+use Rattle.base.proofs.group.Reads as reads
+use Rattle.base.proofs.group.Lts as lts
+use Rattle.base.proofs.number_of.Reads as number-of-reads
+use Rattle.base.proofs.store.Reads as store-reads
+use Rattle.writing.proofs.put_all.Reads as put-all-reads
+
+-- src/lib.rt:67:13
+slice-aggregate-put-all : tie.Need-slice-aggregate-put-all
+slice-aggregate-put-all c = search needs
+
+-- src/lib.rt:67:29
+sub-put-all : tie.Need-sub-put-all
+sub-put-all c = search needs
+
+-- src/lib.rt:67:29
+part-put-all-start : tie.Need-part-put-all-start
+part-put-all-start c = search needs
+
+-- src/lib.rt:67:29
+part-put-all-end : tie.Need-part-put-all-end
+part-put-all-end c = search needs
+
+-- src/lib.rt:67:5
+put-all-requires : tie.Need-put-all-requires
+put-all-requires c κs = search needs
+
+-- src/lib.rt:69:11
+slice-aggregate-store : tie.Need-slice-aggregate-store
+slice-aggregate-store c = search needs
+
+-- src/lib.rt:69:28
+mul-store : tie.Need-mul-store
+mul-store c = search needs
+
+-- src/lib.rt:69:28
+div-store : tie.Need-div-store
+div-store c = search needs
+
+-- src/lib.rt:69:49
+slice-aggregate-number-of : tie.Need-slice-aggregate-number-of
+slice-aggregate-number-of c = search needs
+
+-- src/lib.rt:69:39
+number-of-requires : tie.Need-number-of-requires
+number-of-requires c κs = search needs
+
+-- src/lib.rt:69:5
+store-requires : tie.Need-store-requires
+store-requires c κs = search needs
+
+-- src/lib.rt:70:19
+sub-k : tie.Need-sub-k
+sub-k c = search needs
+
+-- src/lib.rt:70:14
+mul-k : tie.Need-mul-k
+mul-k c = search needs
+
+-- src/lib.rt:70:14
+add-k : tie.Need-add-k
+add-k c = search needs
+
+-- src/lib.rt:70:14
+sub-k-2 : tie.Need-sub-k-2
+sub-k-2 c = search needs
+
+-- src/lib.rt:70:13
+div-k : tie.Need-div-k
+div-k c = search needs
+
+-- src/lib.rt:71:21
+sub-put-all-2 : tie.Need-sub-put-all-2
+sub-put-all-2 c = search needs
+
+-- src/lib.rt:71:21
+part-put-all-start-2 : tie.Need-part-put-all-start-2
+part-put-all-start-2 c = search needs
+
+-- src/lib.rt:71:21
+part-put-all-end-2 : tie.Need-part-put-all-end-2
+part-put-all-end-2 c = search needs
+
+-- src/lib.rt:71:5
+put-all-requires-2 : tie.Need-put-all-requires-2
+put-all-requires-2 c κs = search needs
+
+-- src/lib.rt:62:1
+same-length : tie.Need-same-length
+same-length c = search needs
+
+-- src/lib.rt:62:1
+returns : tie.Need-returns
+returns c = search needs
+
+pub group-spec : {M : Type 1} → statement M
+group-spec =
+    tie.close
+    (tie.spec
+    slice-aggregate-put-all
+    sub-put-all
+    part-put-all-start
+    part-put-all-end
+    put-all-requires
+    slice-aggregate-store
+    mul-store
+    div-store
+    slice-aggregate-number-of
+    number-of-requires
+    store-requires
+    sub-k
+    mul-k
+    add-k
+    sub-k-2
+    div-k
+    sub-put-all-2
+    part-put-all-start-2
+    part-put-all-end-2
+    put-all-requires-2
+    same-length
+    returns)

@@ -1,0 +1,18 @@
+-- Digits of w bits and their characters.
+use Prim.Native.Nat.{ℕ, _*_, _/_, _^_, _≤_, _<_}
+use mathlib.Core.Path.{_≡_}
+use mathlib.Core.List.{List, map}
+use lib.ListN.{length, getD}
+
+-- the characters of digits, each at its digit's place of an alphabet
+abbrev pub chars : List ℕ → List ℕ → List ℕ
+chars t ds = map (λ d. getD t d 0) ds
+
+-- an alphabet of digits of w bits, and groups of g octets that are whole digits
+pub record Grouped (w g : ℕ) (t : List ℕ) : Type 0 where
+  pub some : 0 < w
+  pub few : w ≤ 8
+  pub size : length t ≡ 2 ^ w
+  pub whole : w * (8 * g / w) ≡ 8 * g
+  pub octets : g ≤ 5
+  pub digits : (0 < 8 * g / w) × (8 * g / w ≤ 8)
