@@ -4,11 +4,11 @@ use mathlib.Core.Path.{_≡_, refl, sym, ap, subst, _∙_}
 use mathlib.Core.Bool.{true}
 use mathlib.Core.List.{List, [], _∷_, _++_, map, map-append, append-nil}
 use native.Mathlib.Omega.{arith}
-use native.Mathlib.Nat.{mul-suc, div-lt-iff-lt-mul}
+use native.Mathlib.Nat.{mul-suc, div-lt-iff-lt-mul, one-le-pow}
 use native.Mathlib.Decide.{decLt}
 use borrow.Author.Tests.{eqb-true}
 use lib.ListN.{length, getD, take, drop, replicate, length-append, length-map, take-append-drop}
-use lib.Seq.{slice, sets, take-take, take-length, length-slice}
+use lib.Seq.{slice, sets, take-take, length-slice}
 use lib.Dec.{eqb}
 use Rattle.format.specs.Octets.{Below}
 use Rattle.format.specs.Digits.{digits, number}
@@ -67,6 +67,9 @@ module _ (w g : ℕ) (t p : List ℕ) (grouped : Grouped w g t) where
   abbrev group-text : List ℕ → List ℕ
   group-text xs = chars t (digits (length t) (8 * g / w) (number 2 (bits 8 xs)))
 
+  pub some-chars : 0 < length t
+  some-chars = omega (arith, grouped .size, one-le-pow w 2 (omega arith))
+
   group-length : (xs : List ℕ) → length (group-text xs) ≡ 8 * g / w
   group-length xs = length-map (digits (length t) (8 * g / w) (number 2 (bits 8 xs))) (λ d. getD t d 0) ∙ digits-length (length t) (8 * g / w) (number 2 (bits 8 xs))
 
@@ -96,29 +99,38 @@ module _ (w g : ℕ) (t p : List ℕ) (grouped : Grouped w g t) where
   pub no-group : (i e : ℕ) → e ≤ i → chars t (toDigits w (slice i e p)) ≡ []
   no-group i e h = ap (λ xs. chars t (toDigits w xs)) (none p i e h) ∙ ap (chars t) (no-digits w (grouped .some))
 
+  pub few-digits : (r : ℕ) → r ≤ g → (8 * r + w - 1) / w ≤ 8 * g / w
+  few-digits r h =
+      let m : (8 * r + w - 1) / w < 8 * g / w + 1 = div-lt-iff-lt-mul (grouped .some) .1 (omega (arith, grouped .whole, grouped .some)) in
+      omega arith
+
   -- the characters of a group that is filled with zeros: the first are those of its octets
-  pub short-group : (v k : ℕ) (xs : List ℕ) → length xs ≤ g → v ≡ number 2 (bits 8 (take g (sets (replicate 5 0) 0 xs))) → k ≡ (8 * length xs + w - 1) / w
+  short-group : (v k : ℕ) (xs : List ℕ) → length xs ≤ g → v ≡ number 2 (bits 8 (take g (sets (replicate 5 0) 0 xs))) → k ≡ (8 * length xs + w - 1) / w
       → take k (sets (replicate 8 0) 0 (chars t (digits (length t) (8 * g / w) v))) ≡ chars t (toDigits w xs)
   short-group v k xs h e q =
       let K : ℕ = 8 * g / w in
       let ds : List ℕ = digits (length t) K v in
       let l : length (chars t ds) ≡ K = length-map ds (λ d. getD t d 0) ∙ digits-length (length t) K v in
-      let few : k ≤ K = fewer in
+      let few : k ≤ K = omega (arith, few-digits (length xs) h) in
       let z : K - length (chars t ds) ≡ 0 = omega arith in
       sym (take-take k K (sets (replicate 8 0) 0 (chars t ds)) few)
       ∙ ap (take k) (before-zeros (chars t ds) K 8 (omega arith) (grouped .digits .1) ∙ ap (λ m. chars t ds ++ replicate m 0) z ∙ append-nil (chars t ds))
       ∙ take-map (λ d. getD t d 0) k ds
       ∙ ap (chars t) digits-right
     where
-      fewer : k ≤ 8 * g / w
-      fewer =
-          let m : (8 * length xs + w - 1) / w < 8 * g / w + 1 = div-lt-iff-lt-mul (grouped .some) .1 (omega (arith, grouped .whole, grouped .some)) in
-          omega arith
-
       digits-right : take k (digits (length t) (8 * g / w) v) ≡ toDigits w xs
       digits-right =
           let b : v ≡ number 2 (bits 8 (xs ++ replicate (g - length xs) 0)) = e ∙ ap (λ ys. number 2 (bits 8 ys)) (before-zeros xs g 5 h (grouped .octets)) in
           rw (b, q, grouped .size) (short-digits w (grouped .some) (8 * g / w) (g - length xs) xs (grouped .few) (omega (arith, grouped .whole)))
+
+  pub group-wrote : {o o′ : List ℕ} {n m : ℕ} (i e v k : ℕ) (q x : List ℕ) → i ≤ e → e ≤ i + g → e ≤ length p → q ≡ sets (replicate 5 0) 0 (take (e - i) (drop i p))
+      → v ≡ number 2 (bits 8 (slice 0 (0 + g) q)) → x ≡ sets (replicate 8 0) 0 (chars t (digits (length t) (8 * g / w) v)) → k ≡ (8 * (e - i) + w - 1) / w
+      → Wrote o o′ n m (take k x) → Wrote o o′ n m (chars t (toDigits w (slice i e p)))
+  group-wrote i e v k q x a b l eq ev ex ek u =
+      let z : 0 + g ≡ g = omega arith in
+      let r : length (slice i e p) ≡ e - i = length-slice i e p l in
+      let d : v ≡ number 2 (bits 8 (take g (sets (replicate 5 0) 0 (slice i e p)))) = rw (eq, part-slice p i e a, z) at ev in
+      wrote-text _ _ (ap (take k) ex ∙ short-group v k (slice i e p) (omega arith) d (ek ∙ ap (λ y. (8 * y + w - 1) / w) (sym r))) u
 
   -- Octets that are at most one group, or of which what follows their first group has no room.
   pub rest-wrote : {o o′ : List ℕ} {n m : ℕ} (i e h r : ℕ) → h ≡ min e (i + g) → i ≤ e → e ≤ length p → (i + g < e → length o ≤ n + 8 * g / w)

@@ -1,3 +1,7 @@
+use Rattle.base.proofs.Texts.{some-chars, few-digits, group-wrote}
+use lib.ListN.{length-take}
+use Prim.Native.Nat.{_-_, _+_, _*_, _/_}
+use native.Mathlib.Nat.{sub-zero}
 use native.Mathlib.Omega.{arith}
 use borrow.Author.Needs.{needs}
 use Rattle.base.proofs.group.Statement.{statement}
@@ -50,7 +54,7 @@ number-of-requires c κs = search needs
 
 -- src/lib.rt:69:5
 store-requires : tie.Need-store-requires
-store-requires c κs = search needs
+store-requires c κs = (omega arith, some-chars _ _ (c .before .before .before .before .before .before .before .before .before .before .args .t .now) (c .before .before .before .before .before .before .before .before .before .before .args .p .now) (c .before .before .before .before .before .before .before .before .before .before .pre .0))
 
 -- src/lib.rt:70:19
 sub-k : tie.Need-sub-k
@@ -82,11 +86,14 @@ part-put-all-start-2 c = search needs
 
 -- src/lib.rt:71:21
 part-put-all-end-2 : tie.Need-part-put-all-end-2
-part-put-all-end-2 c = search needs
+part-put-all-end-2 c =
+    let a = c .before .before .before .before .before .before .before .before .before .before .before .before .before .before .args in
+    omega (arith, few-digits (a .w) (a .g) (a .t .now) (a .p .now) (c .before .before .before .before .before .before .before .before .before .before .before .before .before .before .pre .0) (a .e - a .i) (omega arith))
 
 -- src/lib.rt:71:5
 put-all-requires-2 : tie.Need-put-all-requires-2
-put-all-requires-2 c κs = search needs
+put-all-requires-2 c κs =
+    (search needs, simp length-take (omega arith))
 
 -- src/lib.rt:62:1
 same-length : tie.Need-same-length
@@ -94,7 +101,11 @@ same-length c = search needs
 
 -- src/lib.rt:62:1
 returns : tie.Need-returns
-returns c = search needs
+returns c =
+    let a = c .before .before .before .before .before .before .before .before .before .before .before .before .before .before .before .before .before .before .args in
+    let k = (8 * (a .e - a .i) + a .w - 1) / a .w in
+    group-wrote (a .w) (a .g) (a .t .now) (a .p .now) (c .before .before .before .before .before .before .before .before .before .before .before .before .before .before .before .before .before .before .pre .0) (a .i) (a .e) _ (k - 0) _ _ (omega arith) (omega arith) (omega arith)
+    (c .before .before .before .before .before .before .before .before .before .before .before .before .put-all .ensures .octets) (c .before .before .before .before .before .before .before .before .number-of .ensures) (c .before .before .before .before .before .before .before .store .ensures) (sub-zero k) (c .before .before .put-all2 .ensures)
 
 pub group-spec : {M : Type 1} → statement M
 group-spec =

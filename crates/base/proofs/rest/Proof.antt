@@ -1,3 +1,7 @@
+use Rattle.base.proofs.Texts.{rest-wrote}
+use Prim.Native.Nat.{_-_, _+_, _*_, _/_}
+use mathlib.Core.Path.{refl}
+use native.Mathlib.Nat.{div-le-self}
 use native.Mathlib.Omega.{arith}
 use borrow.Author.Needs.{needs}
 use Rattle.base.proofs.rest.Statement.{statement}
@@ -41,7 +45,7 @@ div-result c = search needs
 
 -- src/lib.rt:81:5
 add-result-2 : tie.Need-add-result-2
-add-result-2 c = search needs
+add-result-2 c = record { fits = omega (arith, div-le-self (8 * (c .before .before .before .before .before .before .before .before .args .e - c .before .before .before .before .before .before .before .before .args .i) + c .before .before .before .before .before .before .before .before .args .w - 1) (c .before .before .before .before .before .before .before .before .args .w)) }
 
 -- src/lib.rt:75:1
 same-length : tie.Need-same-length
@@ -49,7 +53,9 @@ same-length c = search needs
 
 -- src/lib.rt:75:1
 returns : tie.Need-returns
-returns c = search needs
+returns c =
+    let a = c .before .before .before .before .before .before .before .before .args in
+    rest-wrote (a .w) (a .g) (a .t .now) (a .p .now) (c .before .before .before .before .before .before .before .before .pre .0) (a .i) (a .e) _ _ (c .before .before .before .before .least .ensures) (omega arith) (omega arith) (c .before .before .before .before .before .before .before .before .pre .5) refl (c .before .before .group .ensures)
 
 pub rest-spec : {M : Type 1} → statement M
 rest-spec =
