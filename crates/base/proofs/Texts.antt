@@ -4,20 +4,22 @@ use mathlib.Core.Path.{_≡_, refl, sym, ap, subst, _∙_}
 use mathlib.Core.Bool.{true}
 use mathlib.Core.List.{List, [], _∷_, _++_, map, map-append, append-nil}
 use native.Mathlib.Omega.{arith}
-use native.Mathlib.Nat.{mul-suc, div-lt-iff-lt-mul, one-le-pow}
+use native.Mathlib.Nat.{mul-suc, mul-comm, mul-assoc, div-lt-iff-lt-mul, div-eq-of-lt-le, div-le-self, one-le-pow, sub-zero}
 use native.Mathlib.Decide.{decLt}
+use borrow.Author.Needs.{needs}
 use borrow.Author.Tests.{eqb-true}
 use lib.ListN.{length, getD, take, drop, replicate, length-append, length-map, take-append-drop}
 use lib.Seq.{slice, sets, take-take, length-slice}
 use lib.Dec.{eqb}
-use Rattle.format.specs.Octets.{Below}
-use Rattle.format.specs.Digits.{digits, number}
-use Rattle.format.specs.Base.{bits, toDigits, base64Char, padding, base64Text}
+use Rattle.format.specs.Octets.{Below, ascii}
+use Rattle.format.specs.Digits.{digits, number, upperDigit}
+use Rattle.format.specs.Base.{bits, toDigits, base32Text, base64Char, padding, base64Text}
 use Rattle.format.proofs.Finite.{allBelow, at-each}
 use Rattle.format.proofs.Digits.{digits-length}
+use Rattle.format.proofs.Base.{digits-of}
 use Rattle.octets.proofs.Slices.{none, rest}
 use Rattle.writing.specs.Writing.{Wrote}
-use Rattle.writing.proofs.Laws.{sets-cons, wrote-text, wrote-out}
+use Rattle.writing.proofs.Laws.{sets-cons, wrote-text, wrote-append, wrote-length, wrote-out}
 use Rattle.base.specs.Alphabet.{chars, Grouped}
 use Rattle.base.proofs.Digits.{no-digits, whole-digits, digits-append, digit-count, short-digits}
 
@@ -76,6 +78,22 @@ module _ (w g : ℕ) (t p : List ℕ) (grouped : Grouped w g t) where
   -- a group is stored
   pub stored : (o o′ : List ℕ) (n v : ℕ) (xs : List ℕ) → v ≡ number 2 (bits 8 xs) → o′ ≡ sets o n (chars t (digits (length t) (8 * g / w) v)) → Wrote o o′ n (n + 8 * g / w) (group-text xs)
   stored o o′ n v xs e p = record { octets = rw e at p; count = ap (λ l. n + l) (sym (group-length xs)) }
+
+  pub text-length : (i e : ℕ) → e ≤ length p → length (chars t (toDigits w (slice i e p))) ≡ (8 * (e - i) + w - 1) / w
+  text-length i e l =
+      length-map (toDigits w (slice i e p)) (λ d. getD t d 0) ∙ digit-count w (grouped .some) (slice i e p) ∙ ap (λ x. (8 * x + w - 1) / w) (length-slice i e p l)
+
+  pub text-few : (i e : ℕ) → e ≤ length p → length p ≤ 65535 → length (chars t (toDigits w (slice i e p))) ≤ 2 ^ 20
+  text-few i e l h = omega (arith, text-length i e l, div-le-self (8 * (e - i) + w - 1) w, grouped .few)
+
+  -- where the text of c groups ends, and that the buffer is as long as before
+  pub placed : {o o′ : List ℕ} {n m : ℕ} (i c : ℕ) → i + g * c ≤ length p → Wrote o o′ n m (chars t (toDigits w (slice i (i + g * c) p))) → (m ≡ n + 8 * g / w * c) × (length o′ ≡ length o)
+  placed {n = n} i c l v =
+      let K : ℕ = 8 * g / w in
+      let q : K * c * w ≡ 8 * (g * c) = mul-comm (K * c) w ∙ sym (mul-assoc w K c) ∙ ap (λ x. x * c) (grouped .whole) ∙ mul-assoc 8 g c in
+      let d : i + g * c - i ≡ g * c = omega arith in
+      let e : (8 * (g * c) + w - 1) / w ≡ K * c = div-eq-of-lt-le {k = K * c} w {m = 8 * (g * c) + w - 1} (omega (arith, grouped .some)) (omega (arith, grouped .some)) in
+      (v .count ∙ ap (λ x. n + x) (text-length i (i + g * c) l ∙ ap (λ x. (8 * x + w - 1) / w) d ∙ e), wrote-length v)
 
   -- a part that is whole digits, and the rest
   pub two-texts : (k i j e : ℕ) → i ≤ j → j ≤ e → e ≤ length p → w * k ≡ 8 * (j - i)
@@ -137,10 +155,6 @@ module _ (w g : ℕ) (t p : List ℕ) (grouped : Grouped w g t) where
       → r ≡ n + (8 * (e - i) + w - 1) / w → Wrote o o′ n m (chars t (toDigits w (slice i h p))) → Wrote o o′ n r (chars t (toDigits w (slice i e p)))
   rest-wrote {o} {o′} {n} {m} i e h r a b l out q v = by (decLt (i + g) e)
     where
-      text-length : (j k : ℕ) → k ≤ length p → length (chars t (toDigits w (slice j k p))) ≡ (8 * (k - j) + w - 1) / w
-      text-length j k s =
-          length-map (toDigits w (slice j k p)) (λ d. getD t d 0) ∙ digit-count w (grouped .some) (slice j k p) ∙ ap (λ x. (8 * x + w - 1) / w) (length-slice j k p s)
-
       by : Dec (i + g < e) → Wrote o o′ n r (chars t (toDigits w (slice i e p)))
       by (no f) =
           let x : h ≡ e = omega arith in
@@ -154,3 +168,50 @@ module _ (w g : ℕ) (t p : List ℕ) (grouped : Grouped w g t) where
           let k : length (group-text (slice i (i + g) p)) ≡ 8 * g / w = group-length (slice i (i + g) p) in
           wrote-text _ _ (sym d)
           (wrote-out r s u (omega (arith, u .count, out f)) (omega (arith, u .count, ap length d, length-append (group-text (slice i (i + g) p)) s, text-length i e l)))
+
+-- an alphabet has the characters of a definition, by one computed test of all of them
+chars-are : (char : ℕ → ℕ) (t : List ℕ) (b : ℕ) → allBelow (λ d. eqb (getD t d 0) (char d)) b ≡ true → (ds : List ℕ) → Below b ds → chars t ds ≡ map char ds
+chars-are char t b h [] k = refl
+chars-are char t b h (d ∷ ds) k = rw (eqb-true (getD t d 0) (char d) (at-each (λ d. eqb (getD t d 0) (char d)) b h d (k .0)), chars-are char t b h ds (k .1))
+
+abbrev pub alphabet32 : List ℕ
+alphabet32 = ascii "0123456789ABCDEFGHIJKLMNOPQRSTUV"
+
+abbrev pub alphabet64 : List ℕ
+alphabet64 = ascii "ABCDEFGHIJKLMNOPQRSTUVWXYZabcdefghijklmnopqrstuvwxyz0123456789+/"
+
+pub grouped32 : Grouped 5 5 alphabet32
+grouped32 = search needs
+
+pub grouped64 : Grouped 6 3 alphabet64
+grouped64 = search needs
+
+-- the whole groups and the rest are written
+module _ {o o₁ o₂ : List ℕ} {n m r : ℕ} (p : List ℕ) (i e c : ℕ) (l : e ≤ length p) where
+  pub wrote32 : i + 5 * c ≤ e → Wrote o o₁ n m (chars alphabet32 (toDigits 5 (slice i (i + 5 * c) p))) → Wrote o₁ o₂ m r (chars alphabet32 (toDigits 5 (slice (i + 5 * c) e p)))
+      → Wrote o o₂ n r (base32Text (slice i e p))
+  wrote32 h v w =
+      wrote-text _ _ (sym (two-texts 5 5 alphabet32 p grouped32 (8 * c) i (i + 5 * c) e (omega arith) h l (omega arith))
+      ∙ chars-are upperDigit alphabet32 32 refl (toDigits 5 (slice i e p)) (digits-of 5 (slice i e p))) (wrote-append v w)
+
+  pub wrote64 : i + 3 * c ≤ e → Wrote o o₁ n m (chars alphabet64 (toDigits 6 (slice i (i + 3 * c) p))) → Wrote o₁ o₂ m r (chars alphabet64 (toDigits 6 (slice (i + 3 * c) e p)))
+      → Wrote o o₂ n r (map base64Char (toDigits 6 (slice i e p)))
+  wrote64 h v w =
+      wrote-text _ _ (sym (two-texts 6 3 alphabet64 p grouped64 (4 * c) i (i + 3 * c) e (omega arith) h l (omega arith))
+      ∙ chars-are base64Char alphabet64 64 refl (toDigits 6 (slice i e p)) (digits-of 6 (slice i e p))) (wrote-append v w)
+
+-- padding after the digits
+pads : (k : ℕ) → k ≤ 3 → take {A = ℕ} k (61 ∷ 61 ∷ 61 ∷ []) ≡ replicate k 61
+pads zero h = refl
+pads (suc zero) h = refl
+pads (suc (suc zero)) h = refl
+pads (suc (suc (suc zero))) h = refl
+pads (suc (suc (suc (suc k)))) h = absurd (omega arith)
+
+pub padded : {o o₁ o₂ : List ℕ} {n m r : ℕ} (xs : List ℕ) → Wrote o o₁ n m (map base64Char (toDigits 6 xs)) → Wrote o₁ o₂ m r (take ((4 - (m - n) % 4) % 4 - 0) (61 ∷ 61 ∷ 61 ∷ []))
+    → Wrote o o₂ n r (base64Text xs)
+padded {n = n} {m = m} xs v w =
+    let l : m - n ≡ length (toDigits 6 xs) = omega (arith, v .count, length-map (toDigits 6 xs) base64Char) in
+    let z : (4 - (m - n) % 4) % 4 - 0 ≡ (4 - length (toDigits 6 xs) % 4) % 4 = rw l (sub-zero ((4 - length (toDigits 6 xs) % 4) % 4)) in
+    let k : ℕ = (4 - length (toDigits 6 xs) % 4) % 4 in
+    wrote-append v (wrote-text (take ((4 - (m - n) % 4) % 4 - 0) (61 ∷ 61 ∷ 61 ∷ [])) (replicate k 61) (ap (λ k. take k (61 ∷ 61 ∷ 61 ∷ [])) z ∙ pads k (omega arith)) w)
