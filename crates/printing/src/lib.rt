@@ -43,8 +43,8 @@ pub fn put_field(out: &mut [u8], d: FieldDesc, s: &[u8], p: &[u8], i: usize, e: 
         Form::Str => text::string(out, 0, p, i + 1, e),
         Form::Strs => text::strings(out, 0, p, i, e),
         Form::Raw => text::string(out, 0, p, i, e),
-        Form::Base32 => rrtype::field(out, 0, p, i, e),
-        Form::Base64 => rrtype::field(out, 0, p, i, e),
+        Form::Base32 => base::base32(out, 0, p, i + 1, e),
+        Form::Base64 => base::base64(out, 0, p, i, e),
         Form::Hex => writing::put_hex_upper(out, 0, &p[i..e]),
         Form::Hexc => {
             let j = i + 1;
