@@ -41,7 +41,16 @@ fn store(out: &mut [u8], n: usize, t: &[u8], k: usize, v: usize)
 }
 
 // The digits of c groups, where there is room for them.
-fn groups(out: &mut [u8], n: usize, t: &[u8], w: usize, g: usize, p: &[u8], i: usize, c: usize) -> usize
+fn groups(
+    out: &mut [u8],
+    n: usize,
+    t: &[u8],
+    w: usize,
+    g: usize,
+    p: &[u8],
+    i: usize,
+    c: usize,
+) -> usize
     requires { ⌜ Grouped w g (now t) × (i + g * c ≤ length (now p)) × (8 * g / w * c ≤ length (now out) - n) ⌝ }
     ensures { λ r. ⌜ Wrote (now (out .entry)) (now (out .exit)) n r (chars (now (t .entry)) (toDigits w (slice i (i + g * c) (now (p .entry))))) ⌝ }
 {
@@ -59,7 +68,16 @@ fn groups(out: &mut [u8], n: usize, t: &[u8], w: usize, g: usize, p: &[u8], i: u
 }
 
 // The digits of at most one group, which is filled with zeros.
-fn group(out: &mut [u8], n: usize, t: &[u8], w: usize, g: usize, p: &[u8], i: usize, e: usize) -> usize
+fn group(
+    out: &mut [u8],
+    n: usize,
+    t: &[u8],
+    w: usize,
+    g: usize,
+    p: &[u8],
+    i: usize,
+    e: usize,
+) -> usize
     requires { ⌜ Grouped w g (now t) × (n < 2 ^ 32) × (i ≤ e) × (e ≤ i + g) × (e ≤ length (now p)) ⌝ }
     ensures { λ r. ⌜ Wrote (now (out .entry)) (now (out .exit)) n r (chars (now (t .entry)) (toDigits w (slice i e (now (p .entry))))) ⌝ }
 {
@@ -72,7 +90,16 @@ fn group(out: &mut [u8], n: usize, t: &[u8], w: usize, g: usize, p: &[u8], i: us
 }
 
 // The digits of octets that are at most one group, or of which what follows their first group has no room.
-fn rest(out: &mut [u8], n: usize, t: &[u8], w: usize, g: usize, p: &[u8], i: usize, e: usize) -> usize
+fn rest(
+    out: &mut [u8],
+    n: usize,
+    t: &[u8],
+    w: usize,
+    g: usize,
+    p: &[u8],
+    i: usize,
+    e: usize,
+) -> usize
     requires { ⌜ Grouped w g (now t) × (n < 2 ^ 32) × (i ≤ e) × (e ≤ length (now p)) × (length (now p) ≤ 65535) × (i + g < e → length (now out) ≤ n + 8 * g / w) ⌝ }
     ensures { λ r. ⌜ Wrote (now (out .entry)) (now (out .exit)) n r (chars (now (t .entry)) (toDigits w (slice i e (now (p .entry))))) ⌝ }
 {

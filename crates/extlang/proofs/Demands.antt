@@ -3,13 +3,14 @@ use Prim.Native.Nat.{ℕ, zero, suc, _+_, _-_, _≤_, _<_}
 use mathlib.Core.Path.{_≡_, refl, sym, ap, _∙_, subst}
 use mathlib.Core.Logic.{_↔_, _⊎_, inl, inr}
 use mathlib.Core.Bool.{Bool, true, false, _||_, true≢false}
-use mathlib.Core.List.{List, [], _∷_, _++_}
+use mathlib.Core.List.{List, [], _∷_, _++_, append-nil, append-assoc}
 use native.Mathlib.Omega.{arith}
+use native.Mathlib.Nat.{add-zero}
 use native.Mathlib.Decide.{decLe}
-use lib.ListN.{length, take, drop, length-take, length-drop, drop-of-length-le}
-use lib.Seq.{take-at, drop-at, take-nil, take-append-le}
+use lib.ListN.{length, take, drop, length-take, take-append-drop}
+use lib.Seq.{take-at, drop-at}
 use lib.Dec.{eqb}
-use borrow.Author.Tests.{eqb-true, eq-eqb, ne-eqb}
+use borrow.Author.Tests.{eqb-true, le-leb}
 use Rattle.format.specs.Octets.{among}
 use Rattle.format.specs.Field.{Kind, Field, kinds}
 use Rattle.format.specs.Judge.{Description, described, judged}
@@ -26,7 +27,11 @@ stored-text : (out : List ℕ) (at : ℕ) (t : List ℕ) → length t ≤ room o
 stored-text out at [] h = refl
 stored-text out at (x ∷ t) h =
     let n : length (take at out) ≡ at = omega (arith, length-take at out) in
-    ap (take (length (x ∷ t))) (drop-at (take at out) ((x ∷ t) ++ drop (at + length (x ∷ t)) out) at n) ∙ take-at (x ∷ t) (drop (at + length (x ∷ t)) out) (length (x ∷ t)) refl
+    ap (λ l. take (length (x ∷ t)) (drop at l)) (append-assoc (take at out) (x ∷ t) (drop (at + length (x ∷ t)) out))
+    ∙ ap (take (length (x ∷ t))) (drop-at (take at out) ((x ∷ t) ++ drop (at + length (x ∷ t)) out) at n) ∙ take-at (x ∷ t) (drop (at + length (x ∷ t)) out) (length (x ∷ t)) refl
+
+nothing-stored : (out : List ℕ) (at : ℕ) → stored out at [] ≡ out
+nothing-stored out at = ap (λ i. take at out ++ [] ++ drop i out) (add-zero at) ∙ ap (λ r. r ++ drop at out) (append-nil (take at out)) ∙ take-append-drop at out
 
 -- 1, 8, 9 and 10 are not 0 nor 12
 no-answer : (n : ℕ) → among n (1 ∷ 8 ∷ 9 ∷ 10 ∷ []) ≡ true → among n (0 ∷ 12 ∷ []) ≡ false
@@ -118,7 +123,7 @@ module _ (stanza : List ℕ) (d : Description) (j : judged stanza ≡ described 
     cut-calls = record {
       divides = (
         λ a. let (e, v) = cuts .accepted .0 (sym (whole-way .exactly) ∙ a) in (e, v .within, front-way e .exactly ∙ v .front, back-way e .exactly ∙ v .back),
-        λ (e, l, a, b). whole-way .exactly ∙ cuts .accepted .1 (e, divided e l a b)
+        λ (e, l, a, b). whole-way .exactly ∙ cuts .accepted .1 (e, divided e l a b),
       );
       no-other = λ e l a b f w u. by f (cuts .no-other e (divided e l a b) f w u);
       texts = λ e l a b c. whole-way .text a .1 ∙ cuts .text e (record { within = l; front = done-accepts _ _ _ _ _ (front e) (front-way e) b; back = done-accepts _ _ _ _ _ (back e) (back-way e) c })
@@ -136,7 +141,7 @@ module _ (stanza : List ℕ) (d : Description) (j : judged stanza ≡ described 
   empty-call c = record { only = (λ e. cuts .nothing .0 (sym (way-to .exactly) ∙ e), λ e. way-to .exactly ∙ cuts .nothing .1 e); none = λ e. by e (cuts .nothing .0 (sym (way-to .exactly) ∙ e)) }
     where
       is-run : isRun (k + 1) 0 (kinds (d .fields)) ≡ true
-      is-run = rw (borrow.Author.Tests.le-leb 1 (k + 1) (omega arith), borrow.Author.Tests.le-leb (k + 1 - 1 + 0) (length (kinds (d .fields))) (omega (arith, kinds-length (d .fields))))
+      is-run = rw (le-leb 1 (k + 1) (omega arith), le-leb (k + 1 - 1 + 0) (length (kinds (d .fields))) (omega (arith, kinds-length (d .fields))))
 
       way-to : Answers [] stanza (k + 1) 0 xs c
       way-to = answers [] stanza (k + 1) 0 xs (prints stanza d j (k + 1) 0 is-run xs) c
@@ -155,9 +160,6 @@ module _ (stanza : List ℕ) (d : Description) (j : judged stanza ≡ described 
               (n, t .0 ∙ text-none q, t .2 ∙ ap (stored (c .out) (c .at)) z ∙ nothing-stored (c .out) (c .at))
           on false a true p f = absurd (omega (arith, way-to .needed (eqb-true (c .reply .number) 12 p) .1, text-none q))
           on false a false p f = absurd (true≢false (sym f))
-
-          nothing-stored : (out : List ℕ) (at : ℕ) → stored out at [] ≡ out
-          nothing-stored out at = ap (λ i. take at out ++ [] ++ drop i out) (native.Mathlib.Nat.add-zero at) ∙ ap (λ r. r ++ drop at out) (mathlib.Core.List.append-nil (take at out)) ∙ lib.ListN.take-append-drop at out
 
 pub demand-3-of-print : Demand3
 demand-3-of-print s d j k h xs m = (λ whole front back. cut-calls s d j k h xs m whole front back, λ c. empty-call s d j k h xs m c)

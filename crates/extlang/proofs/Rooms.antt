@@ -31,10 +31,11 @@ leaves-done o out ys at a w t r e q h v n p =
     })
 
 -- there is none
-pub leaves-measured : (out after : List ℕ) (at need : ℕ) (t : List ℕ) (r : Reply) → after ≡ out → need ≡ length t → length out - at < need → r .number ≡ 12 → r .place ≡ need
+pub leaves-measured : (out after : List ℕ) (at need : ℕ) (t : List ℕ) (r : Reply) → after ≡ out → need ≡ 0 + length t → length out - at < need → r .number ≡ 12 → r .place ≡ need
     → Leaves r after (withRoom out at (done t))
 leaves-measured out after at need t r e m h n p =
-    rw (lt-leb (length t) (length out - at) (omega arith)) (record { numbers = n; places = p ∙ m; octets = e })
+    let q : need ≡ length t = omega arith in
+    rw (lt-leb (length t) (length out - at) (omega arith)) (record { numbers = n; places = p ∙ q; octets = e })
 
 -- a refusal
 pub leaves-refused : (out : List ℕ) (at number place : ℕ) (a : Answer) (r : Reply) → a ≡ refusal number place → r .number ≡ number → r .place ≡ place → Leaves r out (withRoom out at a)

@@ -10,7 +10,7 @@ use lib.Dec.{leb}
 use borrow.Author.Tests.{le-leb, lt-leb, eq-eqb, ne-eqb, leb-true}
 use Rattle.format.specs.Lists.{anyOf, allOf}
 use Rattle.format.specs.Octets.{Octets}
-use Rattle.format.specs.Field.{Kind, tail, kinds}
+use Rattle.format.specs.Field.{Symbol, Kind, tail, kinds}
 use Rattle.format.specs.Judge.{Description, Judged, rejected, described, judged}
 use Rattle.format.specs.Run.{shown, Parts, refused, parts, partsOf, maxRdata, textOfParts, textIn, textOf}
 use Rattle.format.specs.Entries.{Answer, done, refusal, orRefusal, ofStanza, ofParts, isRun, run, printing, print}
@@ -21,7 +21,11 @@ use Rattle.format.proofs.Run.{no-tail}
 use Rattle.format.proofs.Bound.{tail-bitmap, plain-within, text-within}
 use Rattle.format.proofs.Judge.{judges}
 use Rattle.format.proofs.Demands.{Fit, run-fit}
+use denote.Enum.Declared.{tagOf}
+use types.Run.{OneOf, miss}
 use Rattle.types.specs.declared.Form.{Form}
+use Rattle.types.specs.declared.Form.the-variants.{Int, Rrtype, Bitmap, Dotted, Aa, Aaaa, Name, Str, Strs, Raw, Base32, Base64, Hex, Hexc, Eui, Time}
+use Rattle.types.specs.Types.{kindOf, intWidth, symbolsIn, orNone}
 use Rattle.stanza.specs.declared.FieldDesc.{FieldDesc}
 use Rattle.stanza.specs.declared.Outline.{Outline}
 use Rattle.stanza.specs.Stanza.{noField, descriptionOf, outlineOf, Outlined}
@@ -154,4 +158,31 @@ judged-short s d e = by (decLt 8192 (length s))
   where
     by : Dec (8192 < length s) → length s ≤ 8192
     by (no h) = omega arith
-    by (yes h) = let z : _≡_ {A = Judged} (rejected 1 0) (described d) = sym (rw (lt-leb (length s) 8192 h)) ∙ e in cc
+    by (yes h) = let z : _≡_ {A = Judged} (rejected 1 0) (described d) = sym (rw (lt-leb (length s) 8192 h)) ∙ e in let y : _≡_ {A = ℕ} 0 1 = cc in absurd (omega arith)
+
+-- 6, without a sum that could overflow
+pub run-test : (first many count : ℕ) → 1 ≤ first → many ≤ count → leb (first - 1) (count - many) ≡ leb 1 first && leb (first - 1 + many) count
+run-test first many count h l = rw (le-leb 1 first h) (by (decLt count (first - 1 + many)))
+  where
+    by : Dec (count < first - 1 + many) → leb (first - 1) (count - many) ≡ leb (first - 1 + many) count
+    by (yes q) = lt-leb (first - 1) (count - many) (omega arith) ∙ sym (lt-leb (first - 1 + many) count q)
+    by (no q) = le-leb (first - 1) (count - many) (omega arith) ∙ sym (le-leb (first - 1 + many) count (omega arith))
+
+-- a form other than R[L]'s
+pub other-form : (f : Form) → OneOf (0 ∷ 1 ∷ 3 ∷ 4 ∷ 5 ∷ 6 ∷ 7 ∷ 8 ∷ 9 ∷ 10 ∷ 11 ∷ 12 ∷ 13 ∷ 14 ∷ 15 ∷ []) (tagOf Rattle.types.proofs.Form.the-type f) → (l : List Symbol) → isBitmap (kindOf l f) ≡ false
+other-form (Int w) h l = refl
+other-form Rrtype h l = refl
+other-form Bitmap h l = absurd (miss (0 ∷ 1 ∷ 3 ∷ 4 ∷ 5 ∷ 6 ∷ 7 ∷ 8 ∷ 9 ∷ 10 ∷ 11 ∷ 12 ∷ 13 ∷ 14 ∷ 15 ∷ []) 2 tt h)
+other-form Dotted h l = refl
+other-form Aa h l = refl
+other-form Aaaa h l = refl
+other-form (Name c a i o) h l = refl
+other-form Str h l = refl
+other-form Strs h l = refl
+other-form Raw h l = refl
+other-form Base32 h l = refl
+other-form Base64 h l = refl
+other-form Hex h l = refl
+other-form Hexc h l = refl
+other-form (Eui w) h l = refl
+other-form Time h l = refl

@@ -61,5 +61,5 @@ pub record EmptyCall (stanza : List ℕ) (k : ℕ) (xs : List ℕ) (c : Call sta
 abbrev pub Demand3 : Type 0
 Demand3 = (stanza : List ℕ) (d : Description) → judged stanza ≡ described d → (k : ℕ) → k ≤ length (d .fields) → (xs : List ℕ) → length xs ≤ maxRdata
     → ((whole : Call stanza 1 (length (kinds (d .fields))) xs) (front : (e : ℕ) → Call stanza 1 k (take e xs))
-        (back : (e : ℕ) → Call stanza (k + 1) (length (kinds (d .fields)) - k) (drop e xs)) → CutCalls stanza (kinds (d .fields)) k xs whole front back)
+    (back : (e : ℕ) → Call stanza (k + 1) (length (kinds (d .fields)) - k) (drop e xs)) → CutCalls stanza (kinds (d .fields)) k xs whole front back)
     × ((c : Call stanza (k + 1) 0 xs) → EmptyCall stanza k xs c)

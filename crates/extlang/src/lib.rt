@@ -60,7 +60,13 @@ fn least(a: usize, b: usize) -> usize
 }
 
 // Whether the text of so many octets fits the room whatever they are; measuring tells where this does not.
-fn surely_fits(fields: [FieldDesc; 64], first: usize, many: usize, octets: usize, room: usize) -> bool
+fn surely_fits(
+    fields: [FieldDesc; 64],
+    first: usize,
+    many: usize,
+    octets: usize,
+    room: usize,
+) -> bool
     requires { ⌜ (first + many ≤ 64) × (octets ≤ 65535) ⌝ }
     ensures { λ r. ⌜ (r ≡ true → (s xs : List ℕ) → Octets xs → length xs ≡ octets → Accepted s fields first many xs → length (textOf (kindsFrom s fields first many) xs) ≤ room) ⌝ }
 {
@@ -79,7 +85,15 @@ fn surely_fits(fields: [FieldDesc; 64], first: usize, many: usize, octets: usize
 }
 
 // The text of RDATA that the run takes, from a place of the buffer on.
-fn put_text(s: &[u8], fields: [FieldDesc; 64], first: usize, many: usize, p: &[u8], out: &mut [u8], at: usize) -> Reply
+fn put_text(
+    s: &[u8],
+    fields: [FieldDesc; 64],
+    first: usize,
+    many: usize,
+    p: &[u8],
+    out: &mut [u8],
+    at: usize,
+) -> Reply
     requires { ⌜ Accepted (now s) fields first many (now p) ⌝ }
     ensures { λ r. ⌜ Leaves r (now (out .exit)) (withRoom (now (out .entry)) at (done (textOf (kindsFrom (now (s .entry)) fields first many) (now (p .entry))))) ⌝ }
 {
@@ -107,7 +121,15 @@ fn put_text(s: &[u8], fields: [FieldDesc; 64], first: usize, many: usize, p: &[u
 }
 
 // RDATA under a run of a judged stanza.
-fn print_run(s: &[u8], fields: [FieldDesc; 64], first: usize, many: usize, p: &[u8], out: &mut [u8], at: usize) -> Reply
+fn print_run(
+    s: &[u8],
+    fields: [FieldDesc; 64],
+    first: usize,
+    many: usize,
+    p: &[u8],
+    out: &mut [u8],
+    at: usize,
+) -> Reply
     requires { ⌜ UsableRun (now s) fields first many × (length (now p) ≤ 65535) ⌝ }
     ensures { λ r. ⌜ Leaves r (now (out .exit)) (withRoom (now (out .entry)) at (runText (kindsFrom (now (s .entry)) fields first many) (now (p .entry)))) ⌝ }
 {
@@ -161,7 +183,14 @@ pub extern "C" fn extlang_judge(s: &[u8]) -> u64
 }
 
 #[no_mangle]
-pub extern "C" fn extlang_print(s: &[u8], first: u64, many: u64, p: &[u8], out: &mut [u8], at: u64) -> u64
+pub extern "C" fn extlang_print(
+    s: &[u8],
+    first: u64,
+    many: u64,
+    p: &[u8],
+    out: &mut [u8],
+    at: u64,
+) -> u64
     ensures { λ r. ⌜ Packs r (now (out .exit)) (Entries.print (now (s .entry)) first many (now (p .entry)) (now (out .entry)) at) ⌝ }
 {
     let r = print(s, first as usize, many as usize, p, out, at as usize);

@@ -56,7 +56,15 @@ pub fn put_field(out: &mut [u8], d: FieldDesc, s: &[u8], p: &[u8], i: usize, e: 
 }
 
 // The text of a field after at octets of text: a space comes first, if neither is empty.
-fn put_next(out: &mut [u8], at: usize, d: FieldDesc, s: &[u8], p: &[u8], i: usize, e: usize) -> usize
+fn put_next(
+    out: &mut [u8],
+    at: usize,
+    d: FieldDesc,
+    s: &[u8],
+    p: &[u8],
+    i: usize,
+    e: usize,
+) -> usize
     requires { ⌜ (at < 2 ^ 30) × Usable (now s) d × (length (now s) ≤ 8192) × (i ≤ e) × (e ≤ length (now p)) × (length (now p) ≤ 65535) × (taken (start (kindFor (now s) d)) (slice i e (now p)) ≡ took (e - i)) ⌝ }
     ensures { λ r. ⌜ Wrote (now (out .entry)) (now (out .exit)) at r (lead at (shown (kindFor (now (s .entry)) d) (slice i e (now (p .entry))))) ⌝ }
 {
@@ -92,7 +100,14 @@ fn width(f: Form, p: &[u8], i: usize) -> usize
 }
 
 // The text of the fields from number first on, so many, of RDATA that they take.
-pub fn put_run(out: &mut [u8], fields: [FieldDesc; 64], first: usize, many: usize, s: &[u8], p: &[u8]) -> usize
+pub fn put_run(
+    out: &mut [u8],
+    fields: [FieldDesc; 64],
+    first: usize,
+    many: usize,
+    s: &[u8],
+    p: &[u8],
+) -> usize
     requires { ⌜ Accepted (now s) fields first many (now p) ⌝ }
     ensures { λ r. ⌜ Wrote (now (out .entry)) (now (out .exit)) 0 r (textOf (kindsFrom (now (s .entry)) fields first many) (now (p .entry))) ⌝ }
 {

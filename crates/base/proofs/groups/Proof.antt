@@ -66,9 +66,11 @@ loop-again c =
     let l = c .before .before .before .before .before .before .loop in
     let k = 8 * a .g / a .w in
     let s = times (a .g) (l .d) (c .before .before .before .before .before .loop-test .taken) in
-    let v = stored (a .w) (a .g) (a .t .now) (a .p .now) (c .before .before .before .before .before .before .before .before .before .before .pre .0) (l .out) _ (l .m) _ (slice (l .j) (l .j + a .g) (a .p .now)) (c .before .before .before .number-of .ensures) (c .before .before .store .ensures) in
-    (omega arith, omega (arith, times k (l .d) (c .before .before .before .before .before .loop-test .taken), wrote-length v),
-        left-piece _ _ _ _ (l .inv .2) (next-group (a .w) (a .g) (a .t .now) (a .p .now) (c .before .before .before .before .before .before .before .before .before .before .pre .0) (l .j) (a .i + a .g * a .c) (omega arith) (omega arith)) v)
+    let v = stored (a .w) (a .g) (a .t .now) (a .p .now) (c .before .before .before .before .before .before .before .before .before .before .pre .0) (l .out) _ (l .m) _ (slice (l .j) (l .j + a .g) (a .p .now)) (c .before .before .before .number-of .ensures) (c .before .before .store .ensures) in (
+      omega arith,
+      omega (arith, times k (l .d) (c .before .before .before .before .before .loop-test .taken), wrote-length v),
+      left-piece _ _ _ _ (l .inv .2) (next-group (a .w) (a .g) (a .t .now) (a .p .now) (c .before .before .before .before .before .before .before .before .before .before .pre .0) (l .j) (a .i + a .g * a .c) (omega arith) (omega arith)) v,
+    )
 
 -- src/lib.rt:44:1
 same-length : tie.Need-same-length Inv-loop μ-loop
