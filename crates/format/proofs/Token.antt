@@ -47,7 +47,7 @@ module _ (x : ℕ) (h : plainly x ≡ true) where
   bare-octet : bareOctet x ≡ keep (inBare false)
   bare-octet = rw (is-text, not-guarded, not-slash)
 
-  in-bare : scanStep (inBare false) x ≡ keep (inBare false)
+  pub in-bare : scanStep (inBare false) x ≡ keep (inBare false)
   in-bare = rw (not-blank, bare-octet)
 
   from-between : scanStep between x ≡ keep (inBare false)
@@ -105,11 +105,11 @@ kept-scanned s t (x ∷ xs) r e = by (scanStep s x) refl e (λ u. kept-scanned u
     by endQuoted p f ih = cc
     by breaks p f ih = cc
 
-onto-quote : (xs t : List ℕ) (ts : List Token) → ontoAll xs (quoted t ∷ ts) ≡ quoted (xs ++ t) ∷ ts
+pub onto-quote : (xs t : List ℕ) (ts : List Token) → ontoAll xs (quoted t ∷ ts) ≡ quoted (xs ++ t) ∷ ts
 onto-quote [] t ts = refl
 onto-quote (x ∷ xs) t ts = rw (onto-quote xs t ts)
 
-onto-bare : (xs t : List ℕ) (ts : List Token) → ontoAll xs (bare t ∷ ts) ≡ bare (xs ++ t) ∷ ts
+pub onto-bare : (xs t : List ℕ) (ts : List Token) → ontoAll xs (bare t ∷ ts) ≡ bare (xs ++ t) ∷ ts
 onto-bare [] t ts = refl
 onto-bare (x ∷ xs) t ts = rw (onto-bare xs t ts)
 

@@ -20,7 +20,8 @@ use Rattle.octets.specs.Octets.{partIn}
 use Rattle.octets.proofs.Slices.{next, none as nothing, frontEnd, front-within}
 use Rattle.qualifiers.specs.Qualifiers.{piecesIn}
 use Rattle.qualifiers.proofs.Laws.{same-length, begins, named, notComma, last-piece, next-piece}
-use Rattle.symbols.specs.Symbols.{symbolsIn, firstOf, firstIn, ifSymbol, nameFor, valueFor}
+use Rattle.types.specs.Types.{symbolsIn}
+use Rattle.symbols.specs.Symbols.{firstOf, firstIn, ifSymbol, nameFor, valueFor}
 
 -- the next piece, and the last
 module _ {B : Type 0} (f : Symbol → Option B) (s : List ℕ) (i b z : ℕ) (h : i ≤ b) (l : b ≤ length s) (q : z ≡ frontEnd notComma s i b) where

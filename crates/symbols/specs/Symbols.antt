@@ -4,18 +4,13 @@ use mathlib.Core.List.{List, [], _∷_}
 use mathlib.Core.Option.{Option, none, some}
 use lib.Dec.{eqb}
 use lib.Seq.{slice}
-use Rattle.format.specs.Lists.{_>>=_, provided, orElse, eachOf}
+use Rattle.format.specs.Lists.{provided, orElse}
 use Rattle.format.specs.Octets.{sameWord}
 use Rattle.format.specs.Field.{Symbol}
 use Rattle.format.specs.Grammar.{Qualifier, word, symbol, qualifier}
-use Rattle.format.specs.Types.{symbolOf}
-use Rattle.qualifiers.specs.Qualifiers.{piecesIn, qualifiersIn}
+use Rattle.qualifiers.specs.Qualifiers.{piecesIn}
 use Rattle.symbols.specs.declared.Spelling.{Spelling}
 use Rattle.symbols.specs.declared.Spelling.the-variants.{At, Nothing}
-
--- the symbols of an integer of w octets among the qualifiers from a to b
-abbrev pub symbolsIn : ℕ → List ℕ → ℕ → ℕ → Option (List Symbol)
-symbolsIn w s a b = qualifiersIn s a b >>= eachOf (symbolOf w)
 
 -- the first that a partial function gives
 abbrev pub firstOf : {A B : Type 0} → (A → Option B) → List A → Option B

@@ -167,7 +167,7 @@ fn refused(s: &[u8], a: usize, b: usize) -> Meant
 }
 
 // The first number that an integer of w octets cannot hold.
-fn limit(w: u8) -> u64
+pub fn limit(w: u8) -> u64
     requires { ⌜ w ≤ 4 ⌝ }
     ensures { λ r. ⌜ r ≡ 256 ^ w ⌝ }
 {

@@ -1,0 +1,114 @@
+-- Laws of numbers that are read, and of their octets.
+use Prim.Native.Nat.{ℕ, zero, suc, _+_, _-_, _/_, _%_, _^_, _≤_, _<_}
+use mathlib.Core.Path.{_≡_, refl, sym, ap, _∙_}
+use mathlib.Core.Bool.{Bool, true, false, not, _&&_, and-true}
+use mathlib.Core.List.{List, [], _∷_, map}
+use mathlib.Core.Option.{Option, none, some}
+use native.Mathlib.Omega.{arith}
+use lib.ListN.{length, take, getD, set, length-take}
+use lib.Seq.{slice, sets, length-slice}
+use lib.Dec.{eqb, leb}
+use borrow.Author.Tests.{ne-eqb, lt-ltb, le-ltb, le-leb, leb-true}
+use Rattle.format.specs.Lists.{_>>=_, orElse}
+use Rattle.format.specs.Octets.{lowered, sameWord, ascii}
+use Rattle.format.specs.Digits.{digits}
+use Rattle.format.specs.Field.{Symbol}
+use Rattle.format.specs.Number.{decimalOf, below, readInteger}
+use Rattle.format.specs.Rrtype.{typeNumber, readType}
+use Rattle.format.proofs.Digits.{digits-length}
+use Rattle.octets.specs.declared.Number.{Number}
+use Rattle.octets.specs.declared.Number.the-variants.{Value, Fault}
+use Rattle.octets.specs.Octets.{numberOf}
+use Rattle.octets.proofs.Slices.{next, none as nothing, rest}
+use Rattle.qualifiers.proofs.Laws.{part, same-length as word-length}
+use Rattle.writing.specs.Writing.{Wrote}
+use Rattle.writing.proofs.Decimal.{last-digit}
+use Rattle.read_number.specs.Numbers.{octetsOf, integerOf}
+
+-- octets that are stored from the last on
+map-same : (xs : List ℕ) → map (λ (x : ℕ). x) xs ≡ xs
+map-same [] = refl
+map-same (x ∷ xs) = ap (λ (l : List ℕ). x ∷ l) (map-same xs)
+
+pub last-octet : (o o′ : List ℕ) (n k x : ℕ) → 0 < k → o′ ≡ set o (n + (k - 1)) (x % 256) → sets o′ n (digits 256 (k - 1) (x / 256)) ≡ sets o n (digits 256 k x)
+last-octet o o′ n k x h p =
+    ap (sets o′ n) (sym (map-same (digits 256 (k - 1) (x / 256)))) ∙ last-digit (λ (x : ℕ). x) 256 o o′ n k x h p ∙ ap (sets o n) (map-same (digits 256 k x))
+
+pub all-octets : (o₀ o : List ℕ) (n w v k x : ℕ) → k ≤ 0 → sets o n (digits 256 k x) ≡ sets o₀ n (digits 256 w v) → Wrote o₀ o n (n + w) (digits 256 w v)
+all-octets o₀ o n w v zero x h e = record { octets = e; count = ap (λ (l : ℕ). n + l) (sym (digits-length 256 w v)) }
+all-octets o₀ o n w v (suc k) x h e = absurd (omega arith)
+
+-- a number's octets
+octets-of : (w : ℕ) (o : Option ℕ) → octetsOf w (numberOf o) ≡ (o >>= λ v. some (digits 256 w v))
+octets-of w none = refl
+octets-of w (some v) = refl
+
+-- an integer's, and a type's
+pub integer-octets : (w m : ℕ) (l : List Symbol) (t : List ℕ) (v : Number) → m ≡ 256 ^ w → v ≡ numberOf (integerOf m l t) → octetsOf w v ≡ readInteger w l t
+integer-octets w m l t v p q = rw (q, p) (octets-of w (integerOf (256 ^ w) l t))
+
+pub type-octets : (t : List ℕ) (v : Number) → v ≡ numberOf (typeNumber t) → octetsOf 2 v ≡ readType t
+type-octets t v q = rw q (octets-of 2 (typeNumber t))
+
+-- a number below m, and one that is not
+pub is-below : (m v : ℕ) (o : Option ℕ) → Value v ≡ numberOf o → v < m → Value v ≡ numberOf (below m o)
+is-below m v none e h = cc
+is-below m v (some x) e h = let q : v ≡ x = cc in rw (← q, lt-ltb v m h)
+
+pub not-below : (m v : ℕ) (o : Option ℕ) → Value v ≡ numberOf o → m ≤ v → Fault ≡ numberOf (below m o)
+not-below m v none e h = refl
+not-below m v (some x) e h = let q : v ≡ x = cc in rw (← q, le-ltb v m h)
+
+pub none-below : (m : ℕ) (o : Option ℕ) → Fault ≡ numberOf o → Fault ≡ numberOf (below m o)
+none-below m none e = refl
+none-below m (some x) e = let z : _≡_ {A = ℕ} 0 1 = cc in absurd (omega arith)
+
+-- the first that is there
+pub first-there : (v : ℕ) (o p : Option ℕ) → Value v ≡ numberOf o → Value v ≡ numberOf (orElse o p)
+first-there v none p e = let z : _≡_ {A = ℕ} 0 1 = cc in absurd (omega arith)
+first-there v (some x) p e = e
+
+pub first-absent : (r : Number) (o p : Option ℕ) → Fault ≡ numberOf o → r ≡ numberOf p → r ≡ numberOf (orElse o p)
+first-absent r none p e f = f
+first-absent r (some x) p e f = let z : _≡_ {A = ℕ} 0 1 = cc in absurd (omega arith)
+
+-- a letter in either case
+pub other-case : (b c : ℕ) → 65 ≤ c → c ≤ 90 → (b ≡ c → ⊥) → eqb b (c + 32) ≡ eqb (lowered b) (lowered c)
+other-case b c h k n = rw (le-leb 65 c h, le-leb c 90 k) (by (leb 65 b) refl (leb b 90) refl)
+  where
+    by : (p : Bool) → leb 65 b ≡ p → (q : Bool) → leb b 90 ≡ q → eqb b (c + 32) ≡ eqb (lowered b) (c + 32)
+    by false e q f = rw e
+    by true e false f = rw (e, f)
+    by true e true f = let l = leb-true b 90 f in rw (e, f, ne-eqb b (c + 32) (omega arith), ne-eqb (b + 32) (c + 32) (omega arith))
+
+pub was-true : (b : Bool) → not b ≡ false → b ≡ true
+was-true true h = refl
+was-true false h = sym h
+
+-- `TYPE` and what follows it
+abbrev pub sameLetter : ℕ → ℕ → Bool
+sameLetter b c = eqb (lowered b) (lowered c)
+
+module _ (s : List ℕ) (i : ℕ) where
+  pub four-octets : i + 4 ≤ length s → slice i (i + 4) s ≡ getD s i 0 ∷ getD s (i + 1) 0 ∷ getD s (i + 2) 0 ∷ getD s (i + 3) 0 ∷ []
+  four-octets h =
+      let b : i + 1 + 1 ≡ i + 2 = omega arith in
+      let c : i + 2 + 1 ≡ i + 3 = omega arith in
+      let d : i + 3 + 1 ≡ i + 4 = omega arith in
+      rw (next s i (i + 4) (omega arith) h, next s (i + 1) (i + 4) (omega arith) h, b, next s (i + 2) (i + 4) (omega arith) h, c, next s (i + 3) (i + 4) (omega arith) h, d, nothing s (i + 4) (i + 4) (omega arith))
+
+  pub type-word : i + 4 ≤ length s
+      → sameWord (slice i (i + 4) s) (ascii "TYPE") ≡ sameLetter (getD s i 0) 84 && (sameLetter (getD s (i + 1) 0) 89 && (sameLetter (getD s (i + 2) 0) 80 && sameLetter (getD s (i + 3) 0) 69))
+  type-word h = rw (four-octets h, and-true (sameLetter (getD s (i + 3) 0) 69))
+
+  -- the number after that word, or after another, or none
+  pub type-named : (e : ℕ) → i + 4 ≤ e → sameWord (slice i (i + 4) s) (ascii "TYPE") ≡ true → below 65536 (decimalOf (slice (i + 4) e s)) ≡ typeNumber (slice i e s)
+  type-named e h w = rw (part s i 4 e h, w, rest s i 4 e)
+
+  pub not-named : (e : ℕ) → i + 4 ≤ e → sameWord (slice i (i + 4) s) (ascii "TYPE") ≡ false → none ≡ typeNumber (slice i e s)
+  not-named e h w = rw (part s i 4 e h, w)
+
+  pub too-short : (e : ℕ) → e ≤ length s → e - i < 4 → none ≡ typeNumber (slice i e s)
+  too-short e l h =
+      let k : length (take 4 (slice i e s)) < 4 = omega (arith, length-take 4 (slice i e s), length-slice i e s l) in
+      rw (word-length true (take 4 (slice i e s)) (ascii "TYPE") (λ q. omega arith))

@@ -1,0 +1,95 @@
+// Integers of a fixed number of octets, in decimal or by a symbol.
+ghost use Prim.Native.Nat.{ℕ, _^_, _<_, _≤_};
+ghost use mathlib.Core.Path.{_≡_};
+ghost use mathlib.Core.List.{List};
+ghost use mathlib.Core.Option.{some};
+ghost use lib.ListN.{length};
+ghost use lib.Seq.{slice};
+ghost use Rattle.format.specs.Digits.{digits};
+ghost use Rattle.format.specs.Field.{Symbol};
+ghost use Rattle.format.specs.Number.{decimalOf, below, readInteger};
+ghost use Rattle.octets.specs.Octets.{numberOf};
+ghost use Rattle.types.specs.Types.{symbolsIn};
+ghost use Rattle.writing.specs.Writing.{Wrote, Values};
+ghost use Rattle.read_number.specs.Numbers.{octetsOf, integerOf};
+use octets::Number;
+use writing::Value;
+use writing::put;
+
+// A number in w octets, the highest first, stored from the last on.
+pub fn put_octets(out: &mut [u8], n: usize, w: usize, v: u64) -> usize
+    requires { ⌜ (n < 2 ^ 31) × (w ≤ 8) ⌝ }
+    ensures { λ r. ⌜ Wrote (now (out .entry)) (now (out .exit)) n r (digits 256 w v) ⌝ }
+{
+    let mut k = w;
+    let mut x = v;
+    while 0 < k {
+        k = k - 1;
+        put(out, n + k, (x % 256) as u8);
+        x = x / 256;
+    }
+    n + w
+}
+
+// A number that was read, in w octets.
+pub fn value(out: &mut [u8], n: usize, w: usize, v: Number) -> Value
+    requires { ⌜ (n < 2 ^ 31) × (w ≤ 8) ⌝ }
+    ensures { λ r. ⌜ Values (now (out .entry)) (now (out .exit)) n r (octetsOf w v) ⌝ }
+{
+    match v {
+        Number::Value(x) => {
+            let m = put_octets(out, n, w, x);
+            Value::Upto(m)
+        }
+        Number::Fault => Value::Fault,
+    }
+}
+
+// A decimal number below m.
+pub fn decimal_below(m: u64, t: &[u8], i: usize, e: usize) -> Number
+    requires { ⌜ (i ≤ e) × (e ≤ length (now t)) ⌝ }
+    ensures { λ r. ⌜ r ≡ numberOf (below m (decimalOf (slice i e (now (t .entry))))) ⌝ }
+{
+    let q = octets::decimal(t, i, e);
+    match q {
+        Number::Value(v) => {
+            if v < m {
+                return Number::Value(v);
+            }
+            Number::Fault
+        }
+        Number::Fault => Number::Fault,
+    }
+}
+
+// A number below m, else the number of a symbol among the qualifiers of s from a to b.
+fn number(m: u64, s: &[u8], a: usize, b: usize, t: &[u8], i: usize, e: usize) -> Number
+    requires { ⌜ (a ≤ b) × (b ≤ length (now s)) × (length (now s) ≤ 8192) × (i ≤ e) × (e ≤ length (now t)) ⌝ }
+    ensures { λ r. ⌜ ((w : ℕ) (l : List Symbol) → symbolsIn w (now (s .entry)) a b ≡ some l → r ≡ numberOf (integerOf m l (slice i e (now (t .entry))))) ⌝ }
+{
+    let q = decimal_below(m, t, i, e);
+    match q {
+        Number::Value(v) => Number::Value(v),
+        Number::Fault => symbols::value_of(s, a, b, t, i, e),
+    }
+}
+
+// An integer of w octets: a number in range or a symbol.
+pub fn field(
+    out: &mut [u8],
+    n: usize,
+    w: usize,
+    s: &[u8],
+    a: usize,
+    b: usize,
+    t: &[u8],
+    i: usize,
+    e: usize,
+) -> Value
+    requires { ⌜ (n < 2 ^ 30) × (w ≤ 4) × (a ≤ b) × (b ≤ length (now s)) × (length (now s) ≤ 8192) × (i ≤ e) × (e ≤ length (now t)) ⌝ }
+    ensures { λ r. ⌜ ((l : List Symbol) → symbolsIn w (now (s .entry)) a b ≡ some l → Values (now (out .entry)) (now (out .exit)) n r (readInteger w l (slice i e (now (t .entry))))) ⌝ }
+{
+    let m = types::limit(w as u8);
+    let v = number(m, s, a, b, t, i, e);
+    value(out, n, w, v)
+}

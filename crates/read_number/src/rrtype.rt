@@ -1,0 +1,65 @@
+// RR types, `TYPE` and a number.
+ghost use Prim.Native.Nat.{_+_, _^_, _<_, _≤_};
+ghost use mathlib.Core.Path.{_≡_};
+ghost use lib.Dec.{eqb};
+ghost use lib.ListN.{length};
+ghost use lib.Seq.{slice};
+ghost use Rattle.format.specs.Octets.{ascii, lowered, sameWord};
+ghost use Rattle.format.specs.Rrtype.{typeNumber, readType};
+ghost use Rattle.octets.specs.Octets.{numberOf};
+ghost use Rattle.writing.specs.Writing.{Values};
+use crate::integer::decimal_below;
+use crate::integer::value;
+use octets::Number;
+use writing::Value;
+
+// Whether an octet is the capital letter c, or that letter in lower case.
+fn same_letter(b: u8, c: u8) -> bool
+    requires { ⌜ (65 ≤ c) × (c ≤ 90) ⌝ }
+    ensures { λ r. ⌜ r ≡ eqb (lowered b) (lowered c) ⌝ }
+{
+    if b == c {
+        return true;
+    }
+    b == c + 32
+}
+
+// Whether `TYPE` stands at i, letters' case ignored.
+fn named_type(t: &[u8], i: usize) -> bool
+    requires { ⌜ i + 4 ≤ length (now t) ⌝ }
+    ensures { λ r. ⌜ r ≡ sameWord (slice i (i + 4) (now (t .entry))) (ascii "TYPE") ⌝ }
+{
+    if !same_letter(t[i], 84) {
+        return false;
+    }
+    if !same_letter(t[i + 1], 89) {
+        return false;
+    }
+    if !same_letter(t[i + 2], 80) {
+        return false;
+    }
+    same_letter(t[i + 3], 69)
+}
+
+// The number of a type.
+pub fn number(t: &[u8], i: usize, e: usize) -> Number
+    requires { ⌜ (i ≤ e) × (e ≤ length (now t)) ⌝ }
+    ensures { λ r. ⌜ r ≡ numberOf (typeNumber (slice i e (now (t .entry)))) ⌝ }
+{
+    if e - i < 4 {
+        return Number::Fault;
+    }
+    if named_type(t, i) {
+        return decimal_below(65536, t, i + 4, e);
+    }
+    Number::Fault
+}
+
+// A type in two octets.
+pub fn field(out: &mut [u8], n: usize, t: &[u8], i: usize, e: usize) -> Value
+    requires { ⌜ (n < 2 ^ 30) × (i ≤ e) × (e ≤ length (now t)) ⌝ }
+    ensures { λ r. ⌜ Values (now (out .entry)) (now (out .exit)) n r (readType (slice i e (now (t .entry)))) ⌝ }
+{
+    let v = number(t, i, e);
+    value(out, n, 2, v)
+}

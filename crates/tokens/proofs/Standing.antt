@@ -1,0 +1,55 @@
+-- Which octets stand for themselves, by the tests of the code.
+use Prim.Native.Nat.{ℕ, zero, suc, _+_, _-_, _<_, _≤_}
+use mathlib.Core.Path.{_≡_, refl, sym}
+use mathlib.Core.Bool.{Bool, true, false, not, cond, _&&_, _||_}
+use mathlib.Core.List.{List}
+use native.Mathlib.Omega.{arith}
+use lib.ListN.{length}
+use lib.Seq.{slice}
+use lib.Dec.{eqb, leb}
+use borrow.Author.Tests.{le-leb, lt-leb, leb-true, ne-eqb}
+use Rattle.format.specs.Lists.{allOf}
+use Rattle.format.specs.Octets.{inRange}
+use Rattle.format.specs.Token.{textOctet}
+use Rattle.format.proofs.Lists.{and-left, and-right, not-true}
+use Rattle.format.proofs.Finite.{at-each}
+use Rattle.tokens.specs.Tokens.{standing, frontEnd, blockAt}
+use Rattle.tokens.proofs.Fronts.{all-front}
+
+same-true : (a b : Bool) → cond a b (not b) ≡ true → a ≡ b
+same-true true b h = sym h
+same-true false b h = sym (not-true b h)
+
+-- in a bare token: none below 21 hex, none above 7E hex, and of the others those that are not special
+pub low-standing : (x : ℕ) → x < 33 → false ≡ standing 0 x
+low-standing x h = rw (not-true (standing 0 x) (at-each (λ x. not (standing 0 x)) 33 refl x h))
+
+pub high-standing : (x : ℕ) → 126 < x → false ≡ standing 0 x
+high-standing x h = rw (ne-eqb x 32 (λ e. omega arith), ne-eqb x 9 (λ e. omega arith), le-leb 32 x (omega arith), lt-leb x 126 h)
+
+pub bare-standing : (x : ℕ) → 33 ≤ x → x ≤ 126 → (x ≡ 34 → ⊥) → (x ≡ 59 → ⊥) → standing 0 x ≡ not (inRange 39 41 x) && not (eqb x 92)
+bare-standing x h k n m =
+    let r : inRange 39 41 x ≡ eqb x 39 || false || eqb x 40 || eqb x 41 = same-true _ _ (at-each (λ x. cond (inRange 39 41 x) (eqb x 39 || false || eqb x 40 || eqb x 41) (not (eqb x 39 || false || eqb x 40 || eqb x 41))) 127 refl x (omega arith)) in
+    rw (r, ne-eqb x 32 (λ e. omega arith), ne-eqb x 9 (λ e. omega arith), le-leb 32 x (omega arith), le-leb x 126 k, ne-eqb x 34 n, ne-eqb x 59 m)
+
+-- in a quoted one
+pub quoted-standing : (q x : ℕ) → (q ≡ 0 → ⊥) → standing q x ≡ not (eqb x q) && not (eqb x 92) && textOctet x
+quoted-standing zero x h = absurd (h refl)
+quoted-standing (suc q) x h = refl
+
+pub low-text : (x : ℕ) → x < 32 → eqb x 9 ≡ not (eqb x 92) && textOctet x
+low-text x h = rw (ne-eqb x 92 (λ e. omega arith), lt-leb 32 x h) (or-no (eqb x 9))
+  where
+    or-no : (b : Bool) → b ≡ b || false
+    or-no true = refl
+    or-no false = refl
+
+pub high-text : (x : ℕ) → 32 ≤ x → textOctet x ≡ leb x 126
+high-text x h = rw (ne-eqb x 9 (λ e. omega arith), le-leb 32 x h)
+
+-- 64 of them
+pub block-within : (q : ℕ) (t : List ℕ) (i : ℕ) → blockAt q t i ≡ true → i + 64 ≤ length t
+block-within q t i h = omega (arith, leb-true 64 (length t - i) (and-left (leb 64 (length t - i)) (allOf (standing q) (slice i (i + 64) t)) h))
+
+pub block-front : (q : ℕ) (t : List ℕ) (i : ℕ) → blockAt q t i ≡ true → frontEnd q t (i + 64) (length t) ≡ frontEnd q t i (length t)
+block-front q t i h = all-front (standing q) t i (i + 64) (omega arith) (block-within q t i h) (and-right (leb 64 (length t - i)) (allOf (standing q) (slice i (i + 64) t)) h)

@@ -1,0 +1,58 @@
+use Prim.Native.Nat.{_-_}
+use mathlib.Core.Path.{sym, _∙_}
+use lib.ListN.{length, drop}
+use Rattle.tokens.specs.Tokens.{standing}
+use Rattle.tokens.proofs.Scans.{Kept, Stopped, kept-none, kept-run, front-stops, kept-escape, escape-within, token-ended, token-from}
+use native.Mathlib.Omega.{arith}
+use borrow.Author.Needs.{needs}
+use Rattle.tokens.proofs.token.Statement.{statement}
+use Rattle.tokens.proofs.token.Tie as tie
+
+abbrev Inv-loop : tie.InvT-loop
+Inv-loop t a q j₀ j = Kept t q a j × Stopped (standing q) (drop j t)
+
+abbrev μ-loop : tie.MeasureT-loop
+μ-loop t a q j₀ j = length t - j
+
+skip-requires : tie.Need-skip-requires Inv-loop μ-loop
+skip-requires c κs = search needs
+
+loop-holds : tie.Need-loop-holds Inv-loop μ-loop
+loop-holds c = (kept-run _ _ _ _ _ (c .skip .ensures) (kept-none _ _ _ (c .before .before .pre .0)), front-stops _ _ _ _ (c .before .before .pre .0) (c .skip .ensures))
+
+escape-at-requires : tie.Need-escape-at-requires Inv-loop μ-loop
+escape-at-requires c κs = search needs
+
+add-skip : tie.Need-add-skip Inv-loop μ-loop
+add-skip c = search needs
+
+skip-requires-2 : tie.Need-skip-requires-2 Inv-loop μ-loop
+skip-requires-2 c κs = escape-within (c .before .before .before .before .before .args .t .now) (c .before .before .loop .j) (sym (c .before .escape-at .ensures) ∙ c .if1 .taken)
+
+loop-less : tie.Need-loop-less Inv-loop μ-loop
+loop-less c = omega (arith, c .skip2 .ensures, escape-within (c .before .before .before .before .before .before .args .t .now) (c .before .before .before .loop .j) (sym (c .before .before .escape-at .ensures) ∙ c .before .if1 .taken))
+
+loop-again : tie.Need-loop-again Inv-loop μ-loop
+loop-again c = let k = kept-escape _ _ _ _ (c .before .before .before .loop .inv .0) (c .before .before .before .before .before .before .pre .1) (sym (c .before .before .escape-at .ensures) ∙ c .before .if1 .taken) in (kept-run _ _ _ _ _ (c .skip2 .ensures) k, front-stops _ _ _ _ (k .within) (c .skip2 .ensures))
+
+ended-requires : tie.Need-ended-requires Inv-loop μ-loop
+ended-requires c κs = search needs
+
+returns : tie.Need-returns Inv-loop μ-loop
+returns c = rw (c .ended .ensures) (token-ended _ _ _ _ (c .before .before .before .before .before .before .pre .1) (c .before .before .before .loop .inv .0) (c .before .before .before .loop .inv .1) (sym (c .before .before .escape-at .ensures) ∙ c .before .if1 .left), token-from _ _ _ _ (c .before .before .before .loop .inv .0))
+
+pub token-spec : {M : Type 1} → statement M
+token-spec =
+    tie.close
+    (tie.spec
+    Inv-loop
+    μ-loop
+    skip-requires
+    loop-holds
+    escape-at-requires
+    add-skip
+    skip-requires-2
+    loop-less
+    loop-again
+    ended-requires
+    returns)
