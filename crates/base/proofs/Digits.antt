@@ -5,14 +5,12 @@ use mathlib.Core.Bool.{Bool, true, false, cond}
 use mathlib.Core.List.{List, [], _∷_, _++_, append-assoc, append-nil}
 use native.Mathlib.Omega.{arith}
 use native.Mathlib.Numerals.{add-one}
-use native.Mathlib.Nat.{lt-of-lt-of-le, pow-le-pow-right, pow-suc, pow-zero, mul-assoc, mul-suc, mul-comm, add-zero, one-le-pow, div-eq-of-lt-le}
+use native.Mathlib.Nat.{lt-of-lt-of-le, pow-le-pow-right, pow-suc, pow-zero, mul-assoc, mul-suc, one-le-pow, div-eq-of-lt-le}
 use lib.Pow.{pow-add}
-use lib.ListN.{length, getD, take, drop, replicate, length-append, length-replicate}
+use lib.ListN.{length, getD, take, replicate, length-append, length-replicate}
 use lib.Seq.{slice, take-length}
 use lib.Dec.{eqb}
-use borrow.Author.Tests.{eq-eqb, ne-eqb}
-use native.Mathlib.Decide.{decLe}
-use Rattle.format.specs.Lists.{flatMap}
+use borrow.Author.Tests.{eq-eqb}
 use Rattle.format.specs.Octets.{Below}
 use Rattle.format.specs.Digits.{digits, numberFrom, number}
 use Rattle.format.specs.Base.{bits, filled, toDigits}
@@ -26,7 +24,7 @@ number-append b a [] es = refl
 number-append b a (d ∷ ds) es = number-append b (a * b + d) ds es
 
 -- a number and the w bits of another
-pub bits-after : (w a d : ℕ) → d < 2 ^ w → numberFrom 2 a (digits 2 w d) ≡ a * 2 ^ w + d
+bits-after : (w a d : ℕ) → d < 2 ^ w → numberFrom 2 a (digits 2 w d) ≡ a * 2 ^ w + d
 bits-after zero a d h = omega (arith, pow-zero 2)
 bits-after (suc w) a d h =
     let g : d < 2 ^ w * 2 = rw (pow-suc 2 w) at h in

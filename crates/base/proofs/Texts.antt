@@ -1,20 +1,16 @@
 -- Laws of digits written by their characters: group by group, and the last group.
 use Prim.Native.Nat.{ℕ, zero, suc, min, _+_, _*_, _-_, _/_, _%_, _^_, _≤_, _<_}
-use mathlib.Core.Path.{_≡_, refl, sym, ap, subst, _∙_}
-use mathlib.Core.Bool.{true}
+use mathlib.Core.Path.{_≡_, refl, sym, ap, _∙_}
 use mathlib.Core.List.{List, [], _∷_, _++_, map, map-append, append-nil}
 use native.Mathlib.Omega.{arith}
-use native.Mathlib.Nat.{mul-suc, mul-comm, mul-assoc, div-lt-iff-lt-mul, div-eq-of-lt-le, div-le-self, one-le-pow, sub-zero}
+use native.Mathlib.Nat.{mul-suc, mul-comm, mul-assoc, div-lt-iff-lt-mul, div-eq-of-lt-le, div-le-self, one-le-pow, sub-zero, add-zero, zero-add}
 use native.Mathlib.Decide.{decLt}
 use borrow.Author.Needs.{needs}
-use borrow.Author.Tests.{eqb-true}
 use lib.ListN.{length, getD, take, drop, replicate, length-append, length-map, take-append-drop}
 use lib.Seq.{slice, sets, take-take, length-slice}
-use lib.Dec.{eqb}
-use Rattle.format.specs.Octets.{Below, ascii}
+use Rattle.format.specs.Octets.{Below}
 use Rattle.format.specs.Digits.{digits, number, upperDigit}
-use Rattle.format.specs.Base.{bits, toDigits, base32Text, base64Char, padding, base64Text}
-use Rattle.format.proofs.Finite.{allBelow, at-each}
+use Rattle.format.specs.Base.{bits, toDigits, base64Char, base64Text}
 use Rattle.format.proofs.Digits.{digits-length}
 use Rattle.format.proofs.Base.{digits-of}
 use Rattle.octets.proofs.Slices.{none, rest}
@@ -28,7 +24,7 @@ times g zero h = absurd (omega arith)
 times g (suc d) h = let e : suc d - 1 ≡ d = omega arith in rw (e, mul-suc g d)
 
 -- a part of a list, as a slice; and two parts that are one
-pub part-slice : (p : List ℕ) (i e : ℕ) → i ≤ e → take (e - i) (drop i p) ≡ slice i e p
+part-slice : (p : List ℕ) (i e : ℕ) → i ≤ e → take (e - i) (drop i p) ≡ slice i e p
 part-slice p zero e h = let q : e - 0 ≡ e = omega arith in rw q
 part-slice p (suc i) zero h = absurd (omega arith)
 part-slice [] (suc i) (suc e) h = let q : suc e - suc i ≡ e - i = omega arith in rw q (none-left (e - i))
@@ -38,7 +34,7 @@ part-slice [] (suc i) (suc e) h = let q : suc e - suc i ≡ e - i = omega arith 
     none-left (suc k) = refl
 part-slice (x ∷ p) (suc i) (suc e) h = let q : suc e - suc i ≡ e - i = omega arith in rw q (part-slice p i e (omega arith))
 
-pub two-parts : (p : List ℕ) (i j e : ℕ) → i ≤ j → j ≤ e → slice i e p ≡ slice i j p ++ slice j e p
+two-parts : (p : List ℕ) (i j e : ℕ) → i ≤ j → j ≤ e → slice i e p ≡ slice i j p ++ slice j e p
 two-parts p i j e h l =
     let q : i + (j - i) ≡ j = omega arith in
     sym (take-append-drop (j - i) (slice i e p))
@@ -79,34 +75,38 @@ module _ (w g : ℕ) (t p : List ℕ) (grouped : Grouped w g t) where
   pub stored : (o o′ : List ℕ) (n v : ℕ) (xs : List ℕ) → v ≡ number 2 (bits 8 xs) → o′ ≡ sets o n (chars t (digits (length t) (8 * g / w) v)) → Wrote o o′ n (n + 8 * g / w) (group-text xs)
   stored o o′ n v xs e p = record { octets = rw e at p; count = ap (λ l. n + l) (sym (group-length xs)) }
 
-  pub text-length : (i e : ℕ) → e ≤ length p → length (chars t (toDigits w (slice i e p))) ≡ (8 * (e - i) + w - 1) / w
-  text-length i e l =
-      length-map (toDigits w (slice i e p)) (λ d. getD t d 0) ∙ digit-count w (grouped .some) (slice i e p) ∙ ap (λ x. (8 * x + w - 1) / w) (length-slice i e p l)
+  text-length : (f : ℕ → ℕ) (i e : ℕ) → e ≤ length p → length (map f (toDigits w (slice i e p))) ≡ (8 * (e - i) + w - 1) / w
+  text-length f i e l =
+      length-map (toDigits w (slice i e p)) f ∙ digit-count w (grouped .some-bits) (slice i e p) ∙ ap (λ x. (8 * x + w - 1) / w) (length-slice i e p l)
 
-  pub text-few : (i e : ℕ) → e ≤ length p → length p ≤ 65535 → length (chars t (toDigits w (slice i e p))) ≤ 2 ^ 20
-  text-few i e l h = omega (arith, text-length i e l, div-le-self (8 * (e - i) + w - 1) w, grouped .few)
+  -- where a text ends, by whatever characters
+  pub near : {o o′ : List ℕ} {n m : ℕ} (f : ℕ → ℕ) (i e : ℕ) → e ≤ length p → length p ≤ 65535 → Wrote o o′ n m (map f (toDigits w (slice i e p))) → m ≤ n + 2 ^ 20
+  near f i e l h v = omega (arith, v .count, text-length f i e l, div-le-self (8 * (e - i) + w - 1) w, grouped .few-bits)
 
-  -- where the text of c groups ends, and that the buffer is as long as before
-  pub placed : {o o′ : List ℕ} {n m : ℕ} (i c : ℕ) → i + g * c ≤ length p → Wrote o o′ n m (chars t (toDigits w (slice i (i + g * c) p))) → (m ≡ n + 8 * g / w * c) × (length o′ ≡ length o)
-  placed {n = n} i c l v =
-      let K : ℕ = 8 * g / w in
-      let q : K * c * w ≡ 8 * (g * c) = mul-comm (K * c) w ∙ sym (mul-assoc w K c) ∙ ap (λ x. x * c) (grouped .whole) ∙ mul-assoc 8 g c in
+  whole-groups : (c : ℕ) → w * (8 * g / w * c) ≡ 8 * (g * c)
+  whole-groups c = sym (mul-assoc w (8 * g / w) c) ∙ ap (λ x. x * c) (grouped .whole) ∙ mul-assoc 8 g c
+
+  -- the same of c groups; and the buffer is as long as before
+  pub placed : {o o′ : List ℕ} {n m : ℕ} (f : ℕ → ℕ) (i c : ℕ) → i + g * c ≤ length p → Wrote o o′ n m (map f (toDigits w (slice i (i + g * c) p))) → (m ≡ n + 8 * g / w * c) × (length o′ ≡ length o)
+  placed {n = n} f i c l v =
+      let k : ℕ = 8 * g / w * c in
+      let q : k * w ≡ 8 * (g * c) = mul-comm k w ∙ whole-groups c in
       let d : i + g * c - i ≡ g * c = omega arith in
-      let e : (8 * (g * c) + w - 1) / w ≡ K * c = div-eq-of-lt-le {k = K * c} w {m = 8 * (g * c) + w - 1} (omega (arith, grouped .some)) (omega (arith, grouped .some)) in
-      (v .count ∙ ap (λ x. n + x) (text-length i (i + g * c) l ∙ ap (λ x. (8 * x + w - 1) / w) d ∙ e), wrote-length v)
+      let e : (8 * (g * c) + w - 1) / w ≡ k = div-eq-of-lt-le {k = k} w {m = 8 * (g * c) + w - 1} (omega (arith, grouped .some-bits)) (omega (arith, grouped .some-bits)) in
+      (v .count ∙ ap (λ x. n + x) (text-length f i (i + g * c) l ∙ ap (λ x. (8 * x + w - 1) / w) d ∙ e), wrote-length v)
 
   -- a part that is whole digits, and the rest
-  pub two-texts : (k i j e : ℕ) → i ≤ j → j ≤ e → e ≤ length p → w * k ≡ 8 * (j - i)
+  two-texts : (k i j e : ℕ) → i ≤ j → j ≤ e → e ≤ length p → w * k ≡ 8 * (j - i)
       → chars t (toDigits w (slice i e p)) ≡ chars t (toDigits w (slice i j p)) ++ chars t (toDigits w (slice j e p))
   two-texts k i j e a b l q =
       ap (λ xs. chars t (toDigits w xs)) (two-parts p i j e a b)
-      ∙ ap (chars t) (digits-append w (grouped .some) k (slice i j p) (slice j e p) (omega (arith, length-slice i j p (omega arith))))
+      ∙ ap (chars t) (digits-append w (grouped .some-bits) k (slice i j p) (slice j e p) (omega (arith, length-slice i j p (omega arith))))
       ∙ map-append (λ d. getD t d 0) (toDigits w (slice i j p)) (toDigits w (slice j e p))
 
   group-whole : (i : ℕ) → i + g ≤ length p → chars t (toDigits w (slice i (i + g) p)) ≡ group-text (slice i (i + g) p)
   group-whole i l =
       let xs : List ℕ = slice i (i + g) p in
-      rw (whole-digits w (grouped .some) (8 * g / w) xs (omega (arith, grouped .whole, length-slice i (i + g) p l)), grouped .size)
+      rw (whole-digits w (grouped .some-bits) (8 * g / w) xs (omega (arith, grouped .whole, length-slice i (i + g) p l)), grouped .size)
 
   pub next-group : (i e : ℕ) → i + g ≤ e → e ≤ length p
       → chars t (toDigits w (slice i e p)) ≡ group-text (slice i (i + g) p) ++ chars t (toDigits w (slice (i + g) e p))
@@ -115,11 +115,11 @@ module _ (w g : ℕ) (t p : List ℕ) (grouped : Grouped w g t) where
       ∙ ap (λ s. s ++ chars t (toDigits w (slice (i + g) e p))) (group-whole i (omega arith))
 
   pub no-group : (i e : ℕ) → e ≤ i → chars t (toDigits w (slice i e p)) ≡ []
-  no-group i e h = ap (λ xs. chars t (toDigits w xs)) (none p i e h) ∙ ap (chars t) (no-digits w (grouped .some))
+  no-group i e h = ap (λ xs. chars t (toDigits w xs)) (none p i e h) ∙ ap (chars t) (no-digits w (grouped .some-bits))
 
-  pub few-digits : (r : ℕ) → r ≤ g → (8 * r + w - 1) / w ≤ 8 * g / w
-  few-digits r h =
-      let m : (8 * r + w - 1) / w < 8 * g / w + 1 = div-lt-iff-lt-mul (grouped .some) .1 (omega (arith, grouped .whole, grouped .some)) in
+  pub digits-fit : (r : ℕ) → r ≤ g → (8 * r + w - 1) / w ≤ 8 * g / w
+  digits-fit r h =
+      let m : (8 * r + w - 1) / w < 8 * g / w + 1 = div-lt-iff-lt-mul (grouped .some-bits) .1 (omega (arith, grouped .whole, grouped .some-bits)) in
       omega arith
 
   -- the characters of a group that is filled with zeros: the first are those of its octets
@@ -129,17 +129,17 @@ module _ (w g : ℕ) (t p : List ℕ) (grouped : Grouped w g t) where
       let K : ℕ = 8 * g / w in
       let ds : List ℕ = digits (length t) K v in
       let l : length (chars t ds) ≡ K = length-map ds (λ d. getD t d 0) ∙ digits-length (length t) K v in
-      let few : k ≤ K = omega (arith, few-digits (length xs) h) in
+      let few : k ≤ K = omega (arith, digits-fit (length xs) h) in
       let z : K - length (chars t ds) ≡ 0 = omega arith in
       sym (take-take k K (sets (replicate 8 0) 0 (chars t ds)) few)
-      ∙ ap (take k) (before-zeros (chars t ds) K 8 (omega arith) (grouped .digits .1) ∙ ap (λ m. chars t ds ++ replicate m 0) z ∙ append-nil (chars t ds))
+      ∙ ap (take k) (before-zeros (chars t ds) K 8 (omega arith) (grouped .few-digits) ∙ ap (λ m. chars t ds ++ replicate m 0) z ∙ append-nil (chars t ds))
       ∙ take-map (λ d. getD t d 0) k ds
       ∙ ap (chars t) digits-right
     where
       digits-right : take k (digits (length t) (8 * g / w) v) ≡ toDigits w xs
       digits-right =
-          let b : v ≡ number 2 (bits 8 (xs ++ replicate (g - length xs) 0)) = e ∙ ap (λ ys. number 2 (bits 8 ys)) (before-zeros xs g 5 h (grouped .octets)) in
-          rw (b, q, grouped .size) (short-digits w (grouped .some) (8 * g / w) (g - length xs) xs (grouped .few) (omega (arith, grouped .whole)))
+          let b : v ≡ number 2 (bits 8 (xs ++ replicate (g - length xs) 0)) = e ∙ ap (λ ys. number 2 (bits 8 ys)) (before-zeros xs g 5 h (grouped .few-octets)) in
+          rw (b, q, grouped .size) (short-digits w (grouped .some-bits) (8 * g / w) (g - length xs) xs (grouped .few-bits) (omega (arith, grouped .whole)))
 
   pub group-wrote : {o o′ : List ℕ} {n m : ℕ} (i e v k : ℕ) (q x : List ℕ) → i ≤ e → e ≤ i + g → e ≤ length p → q ≡ sets (replicate 5 0) 0 (take (e - i) (drop i p))
       → v ≡ number 2 (bits 8 (slice 0 (0 + g) q)) → x ≡ sets (replicate 8 0) 0 (chars t (digits (length t) (8 * g / w) v)) → k ≡ (8 * (e - i) + w - 1) / w
@@ -159,7 +159,7 @@ module _ (w g : ℕ) (t p : List ℕ) (grouped : Grouped w g t) where
       by (no f) =
           let x : h ≡ e = omega arith in
           let u : Wrote o o′ n m (chars t (toDigits w (slice i e p))) = rw x at v in
-          record { octets = u .octets; count = q ∙ ap (λ x. n + x) (sym (text-length i e l)) }
+          record { octets = u .octets; count = q ∙ ap (λ x. n + x) (sym (text-length (λ d. getD t d 0) i e l)) }
       by (yes f) =
           let x : h ≡ i + g = omega arith in
           let u : Wrote o o′ n m (group-text (slice i (i + g) p)) = rw (x, group-whole i (omega arith)) at v in
@@ -167,38 +167,41 @@ module _ (w g : ℕ) (t p : List ℕ) (grouped : Grouped w g t) where
           let d = next-group i e (omega arith) l in
           let k : length (group-text (slice i (i + g) p)) ≡ 8 * g / w = group-length (slice i (i + g) p) in
           wrote-text _ _ (sym d)
-          (wrote-out r s u (omega (arith, u .count, out f)) (omega (arith, u .count, ap length d, length-append (group-text (slice i (i + g) p)) s, text-length i e l)))
+          (wrote-out r s u (omega (arith, u .count, out f)) (omega (arith, u .count, ap length d, length-append (group-text (slice i (i + g) p)) s, text-length (λ d. getD t d 0) i e l)))
 
--- an alphabet has the characters of a definition, by one computed test of all of them
-chars-are : (char : ℕ → ℕ) (t : List ℕ) (b : ℕ) → allBelow (λ d. eqb (getD t d 0) (char d)) b ≡ true → (ds : List ℕ) → Below b ds → chars t ds ≡ map char ds
-chars-are char t b h [] k = refl
-chars-are char t b h (d ∷ ds) k = rw (eqb-true (getD t d 0) (char d) (at-each (λ d. eqb (getD t d 0) (char d)) b h d (k .0)), chars-are char t b h ds (k .1))
+-- the characters of the digits from k on
+abbrev alphabetFrom : (ℕ → ℕ) → ℕ → ℕ → List ℕ
+alphabetFrom char k zero = []
+alphabetFrom char k (suc b) = char k ∷ alphabetFrom char (suc k) b
 
-abbrev pub alphabet32 : List ℕ
-alphabet32 = ascii "0123456789ABCDEFGHIJKLMNOPQRSTUV"
+-- the alphabet of the digits below b
+abbrev pub alphabet : (ℕ → ℕ) → ℕ → List ℕ
+alphabet char b = alphabetFrom char 0 b
 
-abbrev pub alphabet64 : List ℕ
-alphabet64 = ascii "ABCDEFGHIJKLMNOPQRSTUVWXYZabcdefghijklmnopqrstuvwxyz0123456789+/"
+char-at : (char : ℕ → ℕ) (k b d : ℕ) → d < b → getD (alphabetFrom char k b) d 0 ≡ char (k + d)
+char-at char k zero d h = absurd (omega arith)
+char-at char k (suc b) zero h = ap char (sym (add-zero k))
+char-at char k (suc b) (suc d) h = let e : suc k + d ≡ k + suc d = omega arith in char-at char (suc k) b d (omega arith) ∙ ap char e
 
-pub grouped32 : Grouped 5 5 alphabet32
-grouped32 = search needs
-
-pub grouped64 : Grouped 6 3 alphabet64
-grouped64 = search needs
+chars-are : (char : ℕ → ℕ) (b : ℕ) (ds : List ℕ) → Below b ds → chars (alphabet char b) ds ≡ map char ds
+chars-are char b [] k = refl
+chars-are char b (d ∷ ds) k = rw (char-at char 0 b d (k .0), zero-add d, chars-are char b ds (k .1))
 
 -- the whole groups and the rest are written
-module _ {o o₁ o₂ : List ℕ} {n m r : ℕ} (p : List ℕ) (i e c : ℕ) (l : e ≤ length p) where
-  pub wrote32 : i + 5 * c ≤ e → Wrote o o₁ n m (chars alphabet32 (toDigits 5 (slice i (i + 5 * c) p))) → Wrote o₁ o₂ m r (chars alphabet32 (toDigits 5 (slice (i + 5 * c) e p)))
-      → Wrote o o₂ n r (base32Text (slice i e p))
-  wrote32 h v w =
-      wrote-text _ _ (sym (two-texts 5 5 alphabet32 p grouped32 (8 * c) i (i + 5 * c) e (omega arith) h l (omega arith))
-      ∙ chars-are upperDigit alphabet32 32 refl (toDigits 5 (slice i e p)) (digits-of 5 (slice i e p))) (wrote-append v w)
+pub all-wrote : {o o₁ o₂ : List ℕ} {n m r : ℕ} (w g : ℕ) (char : ℕ → ℕ) (p : List ℕ) → Grouped w g (alphabet char (2 ^ w)) → (i e c : ℕ) → i + g * c ≤ e → e ≤ length p
+    → Wrote o o₁ n m (chars (alphabet char (2 ^ w)) (toDigits w (slice i (i + g * c) p))) → Wrote o₁ o₂ m r (chars (alphabet char (2 ^ w)) (toDigits w (slice (i + g * c) e p)))
+    → Wrote o o₂ n r (map char (toDigits w (slice i e p)))
+all-wrote w g char p grouped i e c h l u v =
+    let t : List ℕ = alphabet char (2 ^ w) in
+    let k : ℕ = 8 * g / w * c in
+    let q : w * k ≡ 8 * (i + g * c - i) = omega (arith, whole-groups w g t p grouped c) in
+    wrote-text _ _ (sym (two-texts w g t p grouped k i (i + g * c) e (omega arith) h l q) ∙ chars-are char (2 ^ w) (toDigits w (slice i e p)) (digits-of w (slice i e p))) (wrote-append u v)
 
-  pub wrote64 : i + 3 * c ≤ e → Wrote o o₁ n m (chars alphabet64 (toDigits 6 (slice i (i + 3 * c) p))) → Wrote o₁ o₂ m r (chars alphabet64 (toDigits 6 (slice (i + 3 * c) e p)))
-      → Wrote o o₂ n r (map base64Char (toDigits 6 (slice i e p)))
-  wrote64 h v w =
-      wrote-text _ _ (sym (two-texts 6 3 alphabet64 p grouped64 (4 * c) i (i + 3 * c) e (omega arith) h l (omega arith))
-      ∙ chars-are base64Char alphabet64 64 refl (toDigits 6 (slice i e p)) (digits-of 6 (slice i e p))) (wrote-append v w)
+pub grouped32 : Grouped 5 5 (alphabet upperDigit 32)
+grouped32 = search needs
+
+pub grouped64 : Grouped 6 3 (alphabet base64Char 64)
+grouped64 = search needs
 
 -- padding after the digits
 pads : (k : ℕ) → k ≤ 3 → take {A = ℕ} k (61 ∷ 61 ∷ 61 ∷ []) ≡ replicate k 61
@@ -208,10 +211,13 @@ pads (suc (suc zero)) h = refl
 pads (suc (suc (suc zero))) h = refl
 pads (suc (suc (suc (suc k)))) h = absurd (omega arith)
 
+pads-as : (j k : ℕ) → j ≡ k → k ≤ 3 → take {A = ℕ} j (61 ∷ 61 ∷ 61 ∷ []) ≡ replicate k 61
+pads-as j k e h = rw e (pads k h)
+
 pub padded : {o o₁ o₂ : List ℕ} {n m r : ℕ} (xs : List ℕ) → Wrote o o₁ n m (map base64Char (toDigits 6 xs)) → Wrote o₁ o₂ m r (take ((4 - (m - n) % 4) % 4 - 0) (61 ∷ 61 ∷ 61 ∷ []))
     → Wrote o o₂ n r (base64Text xs)
 padded {n = n} {m = m} xs v w =
     let l : m - n ≡ length (toDigits 6 xs) = omega (arith, v .count, length-map (toDigits 6 xs) base64Char) in
-    let z : (4 - (m - n) % 4) % 4 - 0 ≡ (4 - length (toDigits 6 xs) % 4) % 4 = rw l (sub-zero ((4 - length (toDigits 6 xs) % 4) % 4)) in
     let k : ℕ = (4 - length (toDigits 6 xs) % 4) % 4 in
-    wrote-append v (wrote-text (take ((4 - (m - n) % 4) % 4 - 0) (61 ∷ 61 ∷ 61 ∷ [])) (replicate k 61) (ap (λ k. take k (61 ∷ 61 ∷ 61 ∷ [])) z ∙ pads k (omega arith)) w)
+    let z : (4 - (m - n) % 4) % 4 - 0 ≡ k = rw l (sub-zero k) in
+    wrote-append v (wrote-text _ _ (pads-as ((4 - (m - n) % 4) % 4 - 0) k z (omega arith)) w)

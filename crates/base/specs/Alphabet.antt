@@ -10,9 +10,10 @@ chars t ds = map (λ d. getD t d 0) ds
 
 -- an alphabet of digits of w bits, and groups of g octets that are whole digits
 pub record Grouped (w g : ℕ) (t : List ℕ) : Type 0 where
-  pub some : 0 < w
-  pub few : w ≤ 8
+  pub some-bits : 0 < w
+  pub few-bits : w ≤ 8
   pub size : length t ≡ 2 ^ w
   pub whole : w * (8 * g / w) ≡ 8 * g
-  pub octets : g ≤ 5
-  pub digits : (0 < 8 * g / w) × (8 * g / w ≤ 8)
+  pub few-octets : g ≤ 5
+  pub some-digits : 0 < 8 * g / w
+  pub few-digits : 8 * g / w ≤ 8

@@ -40,7 +40,8 @@ fn store(out: &mut [u8], n: usize, t: &[u8], k: usize, v: usize)
     }
 }
 
-// The digits of c groups, where there is room for them.
+// The digits of c groups, where there is room for them. It is called with numbers for w and g, so that its inner loops are
+// unrolled for each of the two.
 fn groups(
     out: &mut [u8],
     n: usize,
@@ -108,6 +109,7 @@ fn rest(
     n + (8 * (e - i) + w - 1) / w
 }
 
+// Where there is no room, nothing is gone through: the digits are counted.
 pub fn base32(out: &mut [u8], n: usize, p: &[u8], i: usize, e: usize) -> usize
     requires { ⌜ (n < 2 ^ 30) × (i ≤ e) × (e ≤ length (now p)) × (length (now p) ≤ 65535) ⌝ }
     ensures { λ r. ⌜ Wrote (now (out .entry)) (now (out .exit)) n r (base32Text (slice i e (now (p .entry)))) ⌝ }
@@ -118,6 +120,7 @@ pub fn base32(out: &mut [u8], n: usize, p: &[u8], i: usize, e: usize) -> usize
     rest(out, m, t, 5, 5, p, i + 5 * c, e)
 }
 
+// As base32, with padding.
 pub fn base64(out: &mut [u8], n: usize, p: &[u8], i: usize, e: usize) -> usize
     requires { ⌜ (n < 2 ^ 30) × (i ≤ e) × (e ≤ length (now p)) × (length (now p) ≤ 65535) ⌝ }
     ensures { λ r. ⌜ Wrote (now (out .entry)) (now (out .exit)) n r (base64Text (slice i e (now (p .entry)))) ⌝ }

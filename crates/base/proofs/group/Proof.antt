@@ -1,4 +1,4 @@
-use Rattle.base.proofs.Texts.{some-chars, few-digits, group-wrote}
+use Rattle.base.proofs.Texts.{some-chars, digits-fit, group-wrote}
 use lib.ListN.{length-take}
 use Prim.Native.Nat.{_-_, _+_, _*_, _/_}
 use native.Mathlib.Nat.{sub-zero}
@@ -6,100 +6,73 @@ use native.Mathlib.Omega.{arith}
 use borrow.Author.Needs.{needs}
 use Rattle.base.proofs.group.Statement.{statement}
 use Rattle.base.proofs.group.Tie as tie
-use Rattle.base.proofs.group.Reads as reads
-use Rattle.base.proofs.group.Lts as lts
-use Rattle.base.proofs.number_of.Reads as number-of-reads
-use Rattle.base.proofs.store.Reads as store-reads
-use Rattle.writing.proofs.put_all.Reads as put-all-reads
 
--- src/lib.rt:67:13
 slice-aggregate-put-all : tie.Need-slice-aggregate-put-all
 slice-aggregate-put-all c = search needs
 
--- src/lib.rt:67:29
 sub-put-all : tie.Need-sub-put-all
 sub-put-all c = search needs
 
--- src/lib.rt:67:29
 part-put-all-start : tie.Need-part-put-all-start
 part-put-all-start c = search needs
 
--- src/lib.rt:67:29
 part-put-all-end : tie.Need-part-put-all-end
 part-put-all-end c = search needs
 
--- src/lib.rt:67:5
 put-all-requires : tie.Need-put-all-requires
 put-all-requires c κs = search needs
 
--- src/lib.rt:69:11
 slice-aggregate-store : tie.Need-slice-aggregate-store
 slice-aggregate-store c = search needs
 
--- src/lib.rt:69:28
 mul-store : tie.Need-mul-store
 mul-store c = search needs
 
--- src/lib.rt:69:28
 div-store : tie.Need-div-store
 div-store c = search needs
 
--- src/lib.rt:69:49
 slice-aggregate-number-of : tie.Need-slice-aggregate-number-of
 slice-aggregate-number-of c = search needs
 
--- src/lib.rt:69:39
 number-of-requires : tie.Need-number-of-requires
 number-of-requires c κs = search needs
 
--- src/lib.rt:69:5
 store-requires : tie.Need-store-requires
 store-requires c κs = (omega arith, some-chars _ _ (c .before .before .before .before .before .before .before .before .before .before .args .t .now) (c .before .before .before .before .before .before .before .before .before .before .args .p .now) (c .before .before .before .before .before .before .before .before .before .before .pre .0))
 
--- src/lib.rt:70:19
 sub-k : tie.Need-sub-k
 sub-k c = search needs
 
--- src/lib.rt:70:14
 mul-k : tie.Need-mul-k
 mul-k c = search needs
 
--- src/lib.rt:70:14
 add-k : tie.Need-add-k
 add-k c = search needs
 
--- src/lib.rt:70:14
 sub-k-2 : tie.Need-sub-k-2
 sub-k-2 c = search needs
 
--- src/lib.rt:70:13
 div-k : tie.Need-div-k
 div-k c = search needs
 
--- src/lib.rt:71:21
 sub-put-all-2 : tie.Need-sub-put-all-2
 sub-put-all-2 c = search needs
 
--- src/lib.rt:71:21
 part-put-all-start-2 : tie.Need-part-put-all-start-2
 part-put-all-start-2 c = search needs
 
--- src/lib.rt:71:21
 part-put-all-end-2 : tie.Need-part-put-all-end-2
 part-put-all-end-2 c =
     let a = c .before .before .before .before .before .before .before .before .before .before .before .before .before .before .args in
-    omega (arith, few-digits (a .w) (a .g) (a .t .now) (a .p .now) (c .before .before .before .before .before .before .before .before .before .before .before .before .before .before .pre .0) (a .e - a .i) (omega arith))
+    omega (arith, digits-fit (a .w) (a .g) (a .t .now) (a .p .now) (c .before .before .before .before .before .before .before .before .before .before .before .before .before .before .pre .0) (a .e - a .i) (omega arith))
 
--- src/lib.rt:71:5
 put-all-requires-2 : tie.Need-put-all-requires-2
 put-all-requires-2 c κs =
     (search needs, simp length-take (omega arith))
 
--- src/lib.rt:62:1
 same-length : tie.Need-same-length
 same-length c = search needs
 
--- src/lib.rt:62:1
 returns : tie.Need-returns
 returns c =
     let a = c .before .before .before .before .before .before .before .before .before .before .before .before .before .before .before .before .before .before .args in

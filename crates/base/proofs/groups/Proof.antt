@@ -1,19 +1,15 @@
 use Rattle.base.proofs.Texts.{some-chars, times, stored, next-group, no-group}
-use Rattle.base.specs.Alphabet.{chars, Grouped}
+use Rattle.base.specs.Alphabet.{chars}
 use Rattle.format.specs.Base.{toDigits}
 use Rattle.writing.proofs.Laws.{Left, left-all, left-piece, left-none, wrote-length}
 use lib.ListN.{length}
 use lib.Seq.{slice}
-use Prim.Native.Nat.{_≤_, _<_, _-_, _+_, _*_, _/_}
-use mathlib.Core.Path.{_≡_, refl, sym, ap, _∙_}
+use Prim.Native.Nat.{_≤_, _-_, _+_, _*_, _/_}
+use mathlib.Core.Path.{_≡_}
 use native.Mathlib.Omega.{arith}
 use borrow.Author.Needs.{needs}
 use Rattle.base.proofs.groups.Statement.{statement}
 use Rattle.base.proofs.groups.Tie as tie
-use Rattle.base.proofs.groups.Reads as reads
-use Rattle.base.proofs.groups.Lts as lts
-use Rattle.base.proofs.number_of.Reads as number-of-reads
-use Rattle.base.proofs.store.Reads as store-reads
 
 abbrev Inv-loop : tie.InvT-loop
 Inv-loop out₀ n t w g p i c k m₀ j₀ d₀ out m j d =
@@ -22,44 +18,34 @@ Inv-loop out₀ n t w g p i c k m₀ j₀ d₀ out m j d =
 abbrev μ-loop : tie.MeasureT-loop
 μ-loop out₀ n t w g p i c k m₀ j₀ d₀ out m j d = d
 
--- src/lib.rt:48:13
 mul-k : tie.Need-mul-k Inv-loop μ-loop
 mul-k c = search needs
 
--- src/lib.rt:48:13
 div-k : tie.Need-div-k Inv-loop μ-loop
 div-k c = search needs
 
--- src/lib.rt:52:5
 loop-holds : tie.Need-loop-holds Inv-loop μ-loop
 loop-holds c = (search needs, search needs, left-all _ _ _)
 
--- src/lib.rt:53:29
 number-of-requires : tie.Need-number-of-requires Inv-loop μ-loop
 number-of-requires c κs = (omega (arith, times (c .before .before .before .before .before .before .args .g) (c .before .before .loop .d) (c .before .loop-test .taken)), search needs)
 
--- src/lib.rt:53:9
 store-requires : tie.Need-store-requires Inv-loop μ-loop
 store-requires c κs =
     (omega (arith, times (8 * c .before .before .before .before .before .before .before .args .g / c .before .before .before .before .before .before .before .args .w) (c .before .before .before .loop .d) (c .before .before .loop-test .taken)), some-chars _ _ (c .before .before .before .before .before .before .before .args .t .now) (c .before .before .before .before .before .before .before .args .p .now) (c .before .before .before .before .before .before .before .pre .0))
 
--- src/lib.rt:54:13
 add-m : tie.Need-add-m Inv-loop μ-loop
 add-m c = record { fits = omega (arith, times (8 * c .before .before .before .before .before .before .before .before .before .before .args .g / c .before .before .before .before .before .before .before .before .before .before .args .w) (c .before .before .before .before .before .before .loop .d) (c .before .before .before .before .before .loop-test .taken)) }
 
--- src/lib.rt:55:13
 add-j : tie.Need-add-j Inv-loop μ-loop
 add-j c = search needs
 
--- src/lib.rt:56:13
 sub-d : tie.Need-sub-d Inv-loop μ-loop
 sub-d c = search needs
 
--- src/lib.rt:52:5
 loop-less : tie.Need-loop-less Inv-loop μ-loop
 loop-less c = search needs
 
--- src/lib.rt:52:5
 loop-again : tie.Need-loop-again Inv-loop μ-loop
 loop-again c =
     let a = c .before .before .before .before .before .before .before .before .before .before .args in
@@ -72,11 +58,9 @@ loop-again c =
       left-piece _ _ _ _ (l .inv .2) (next-group (a .w) (a .g) (a .t .now) (a .p .now) (c .before .before .before .before .before .before .before .before .before .before .pre .0) (l .j) (a .i + a .g * a .c) (omega arith) (omega arith)) v,
     )
 
--- src/lib.rt:44:1
 same-length : tie.Need-same-length Inv-loop μ-loop
 same-length c = search needs
 
--- src/lib.rt:44:1
 returns : tie.Need-returns Inv-loop μ-loop
 returns c =
     let a = c .before .before .before .before .before .args in

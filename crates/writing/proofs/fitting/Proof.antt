@@ -5,27 +5,19 @@ use native.Mathlib.Omega.{arith}
 use borrow.Author.Needs.{needs}
 use Rattle.writing.proofs.fitting.Statement.{statement}
 use Rattle.writing.proofs.fitting.Tie as tie
-use Rattle.writing.proofs.fitting.Reads as reads
-use Rattle.writing.proofs.fitting.Lts as lts
-use Rattle.writing.proofs.least.Reads as least-reads
 
--- src/lib.rt:37:9
 returns : tie.Need-returns
 returns c = let e : c .before .args .len - c .before .args .n ≡ 0 = omega arith in rw (e, zero-div (c .before .args .w)) (omega arith)
 
--- src/lib.rt:39:19
 sub-least : tie.Need-sub-least
 sub-least c = search needs
 
--- src/lib.rt:39:18
 div-least : tie.Need-div-least
 div-least c = search needs
 
--- src/lib.rt:39:5
 least-requires : tie.Need-least-requires
 least-requires c κs = search needs
 
--- src/lib.rt:32:1
 returns-2 : tie.Need-returns-2
 returns-2 c = search needs
 

@@ -7,9 +7,6 @@ use native.Mathlib.Omega.{arith}
 use borrow.Author.Needs.{needs}
 use Rattle.writing.proofs.hex_pairs.Statement.{statement}
 use Rattle.writing.proofs.hex_pairs.Tie as tie
-use Rattle.writing.proofs.hex_pairs.Reads as reads
-use Rattle.writing.proofs.hex_pairs.Lts as lts
-use Rattle.writing.proofs.upper_digit.Reads as upper-digit-reads
 
 abbrev Inv-loop : tie.InvT-loop
 Inv-loop out₀ n s m₀ i₀ out m i = (i ≤ length s) × (m ≡ n + 2 * i) × Left out₀ n (hexText s) out m (hexText (drop i s))
@@ -17,55 +14,42 @@ Inv-loop out₀ n s m₀ i₀ out m i = (i ≤ length s) × (m ≡ n + 2 * i) ×
 abbrev μ-loop : tie.MeasureT-loop
 μ-loop out₀ n s m₀ i₀ out m i = length s - i
 
--- src/lib.rt:120:5
 loop-holds : tie.Need-loop-holds Inv-loop μ-loop
 loop-holds c = (search needs, search needs, left-all _ _ _)
 
--- src/lib.rt:121:17
 shared-slice-read-b : tie.Need-shared-slice-read-b Inv-loop μ-loop
 shared-slice-read-b c = search needs
 
--- src/lib.rt:122:18
 upper-digit-requires : tie.Need-upper-digit-requires Inv-loop μ-loop
 upper-digit-requires c κs = search needs
 
--- src/lib.rt:122:9
 slice-write-out : tie.Need-slice-write-out Inv-loop μ-loop
 slice-write-out c = search needs
 
--- src/lib.rt:123:22
 upper-digit-requires-2 : tie.Need-upper-digit-requires-2 Inv-loop μ-loop
 upper-digit-requires-2 c κs = search needs
 
--- src/lib.rt:123:13
 add-out : tie.Need-add-out Inv-loop μ-loop
 add-out c = search needs
 
--- src/lib.rt:123:9
 slice-write-out-2 : tie.Need-slice-write-out-2 Inv-loop μ-loop
 slice-write-out-2 c = simp length-set (omega arith)
 
--- src/lib.rt:124:13
 add-m : tie.Need-add-m Inv-loop μ-loop
 add-m c = search needs
 
--- src/lib.rt:125:13
 add-i : tie.Need-add-i Inv-loop μ-loop
 add-i c = search needs
 
--- src/lib.rt:120:5
 loop-less : tie.Need-loop-less Inv-loop μ-loop
 loop-less c = search needs
 
--- src/lib.rt:120:5
 loop-again : tie.Need-loop-again Inv-loop μ-loop
 loop-again c = (search needs, search needs, rw (c .before .upper-digit .ensures, c .upper-digit2 .ensures) (left-piece _ _ _ _ (c .before .before .before .before .loop .inv .2) (ap hexText (next _ _ (c .before .before .before .loop-test .taken))) (wrote-two _ _ _ _ _ _ refl refl)))
 
--- src/lib.rt:114:1
 same-length : tie.Need-same-length Inv-loop μ-loop
 same-length c = search needs
 
--- src/lib.rt:114:1
 returns : tie.Need-returns Inv-loop μ-loop
 returns c = left-none (c .before .loop .inv .2) (ap hexText (none _ _ (c .loop-test .left)))
 

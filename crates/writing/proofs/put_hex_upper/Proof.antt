@@ -10,63 +10,45 @@ use native.Mathlib.Omega.{arith}
 use borrow.Author.Needs.{needs}
 use Rattle.writing.proofs.put_hex_upper.Statement.{statement}
 use Rattle.writing.proofs.put_hex_upper.Tie as tie
-use Rattle.writing.proofs.put_hex_upper.Reads as reads
-use Rattle.writing.proofs.put_hex_upper.Lts as lts
-use Rattle.writing.proofs.fitting.Reads as fitting-reads
-use Rattle.writing.proofs.hex_pairs.Reads as hex-pairs-reads
-use Rattle.writing.proofs.put_hex_upper_octet.Reads as put-hex-upper-octet-reads
 
--- src/lib.rt:135:9
 fitting-requires : tie.Need-fitting-requires
 fitting-requires c κs = search needs
 
--- src/lib.rt:136:31
 sub-hex-pairs : tie.Need-sub-hex-pairs
 sub-hex-pairs c = search needs
 
--- src/lib.rt:136:31
 part-hex-pairs-start : tie.Need-part-hex-pairs-start
 part-hex-pairs-start c = search needs
 
--- src/lib.rt:136:31
 part-hex-pairs-end : tie.Need-part-hex-pairs-end
 part-hex-pairs-end c = search needs
 
--- src/lib.rt:136:9
 hex-pairs-requires : tie.Need-hex-pairs-requires
 hex-pairs-requires c κs = search needs
 
--- src/lib.rt:138:9
 same-length : tie.Need-same-length
 same-length c = search needs
 
--- src/lib.rt:138:9
 returns : tie.Need-returns
 returns c =
     wrote-text _ _ (hex-all (c .before .before .before .before .before .before .before .before .before .args .s .now) (c .before .before .before .before .before .before .fitting .result) (c .if1 .taken)) (rw (sub-zero (c .before .before .before .before .before .before .fitting .result)) at (c .before .before .before .hex-pairs .ensures))
 
--- src/lib.rt:140:33
 shared-slice-read-put-hex-upper-octet : tie.Need-shared-slice-read-put-hex-upper-octet
 shared-slice-read-put-hex-upper-octet c = search needs
 
--- src/lib.rt:140:5
 put-hex-upper-octet-requires : tie.Need-put-hex-upper-octet-requires
 put-hex-upper-octet-requires c κs =
     omega (arith, c .before .before .before .before .before .hex-pairs .ensures .count, hex-count (c .before .before .before .before .before .before .before .before .before .before .before .args .s .now) (c .before .before .before .before .before .before .before .before .fitting .result - 0) (omega arith))
 
--- src/lib.rt:141:9
 mul-result : tie.Need-mul-result
 mul-result c = search needs
 
--- src/lib.rt:141:5
 add-result : tie.Need-add-result
 add-result c = search needs
 
--- src/lib.rt:131:1
 same-length-2 : tie.Need-same-length-2
 same-length-2 c = search needs
 
--- src/lib.rt:131:1
 returns-2 : tie.Need-returns-2
 returns-2 c =
     let s = c .before .before .before .before .before .before .before .before .before .before .before .before .before .before .args .s .now in
