@@ -412,19 +412,19 @@ fn put_printed(
     values: &[u8; 256],
     line: &mut [u8],
     asked: Asked,
-    data: Span,
+    rdata: Span,
     room: u64,
     text: &mut [u8],
     out: &mut [u8],
     output: Output,
 ) -> Output
-    requires { ⌜ (asked .stanza .from ≤ asked .stanza .to) × (asked .stanza .to ≤ length (now line)) × (data .from ≤ data .to) × (data .to ≤ length (now line)) × (output .taken + 128 ≤ length (now out)) ⌝ }
+    requires { ⌜ (asked .stanza .from ≤ asked .stanza .to) × (asked .stanza .to ≤ length (now line)) × (rdata .from ≤ rdata .to) × (rdata .to ≤ length (now line)) × (output .taken + 128 ≤ length (now out)) ⌝ }
     ensures { λ r. ⌜ r .taken ≤ length (now (out .entry)) ⌝ }
 {
     let a = asked.stanza.from;
     let b = asked.stanza.to;
-    let c = data.from;
-    let d = data.to;
+    let c = rdata.from;
+    let d = rdata.to;
     let s = octets(values, &mut line[a..b]);
     let p = octets(values, &mut line[c..d]);
     if s.good & p.good {
@@ -444,13 +444,13 @@ fn answer_print(values: &[u8; 256], line: &mut [u8], text: &mut [u8], out: &mut 
     ensures { λ r. ⌜ r .taken ≤ length (now (out .entry)) ⌝ }
 {
     let asked = asked_run(line);
-    let data = next_word(line, asked.to);
-    let last = next_word(line, data.to);
+    let rdata = next_word(line, asked.to);
+    let last = next_word(line, rdata.to);
     let a = last.from;
     let b = last.to;
     let room = number(&line[a..b]);
     if asked.good & room.good & (b == line.len()) {
-        return put_printed(values, line, asked, data, room.value, text, out, output);
+        return put_printed(values, line, asked, rdata, room.value, text, out, output);
     }
     unknown(out, output)
 }

@@ -7,10 +7,10 @@ use Rattle.probe.proofs.answer_lines.Statement.{statement}
 use Rattle.probe.proofs.answer_lines.Tie as tie
 
 abbrev Inv-loop : tie.InvT-loop
-Inv-loop values buf₀ kept long out₀ start₀ skipping₀ output₀ end₀ buf out start skipping output end = (start ≤ end) × (end ≤ length buf) × (length buf ≡ length buf₀) × (length out ≡ length out₀) × (output .taken ≤ length out)
+Inv-loop values buf₀ kept long text₀ out₀ start₀ skipping₀ output₀ end₀ buf text out start skipping output end = (start ≤ end) × (end ≤ length buf) × (length buf ≡ length buf₀) × (length out ≡ length out₀) × (output .taken ≤ length out)
 
 abbrev μ-loop : tie.MeasureT-loop
-μ-loop values buf₀ kept long out₀ start₀ skipping₀ output₀ end₀ buf out start skipping output end = length buf - end
+μ-loop values buf₀ kept long text₀ out₀ start₀ skipping₀ output₀ end₀ buf text out start skipping output end = length buf - end
 
 line-end-requires : tie.Need-line-end-requires Inv-loop μ-loop
 line-end-requires c κs = search needs

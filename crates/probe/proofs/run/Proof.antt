@@ -5,10 +5,10 @@ use Rattle.probe.proofs.run.Statement.{statement}
 use Rattle.probe.proofs.run.Tie as tie
 
 abbrev Inv-loop : tie.InvT-loop
-Inv-loop values buf₀ out₀ state₀ turns₀ buf out state turns = state .kept ≤ 2200000
+Inv-loop values buf₀ text₀ out₀ state₀ turns₀ buf text out state turns = state .kept ≤ 2200000
 
 abbrev μ-loop : tie.MeasureT-loop
-μ-loop values buf₀ out₀ state₀ turns₀ buf out state turns = turns
+μ-loop values buf₀ text₀ out₀ state₀ turns₀ buf text out state turns = turns
 
 loop-holds : tie.Need-loop-holds Inv-loop μ-loop
 loop-holds c = search needs
