@@ -274,26 +274,17 @@ fn next_word(line: &[u8], end: usize) -> Span
     ensures { λ r. ⌜ (r .from ≤ r .to) × (r .to ≤ length (now (line .entry))) ⌝ }
 {
     if end == line.len() {
-        return Span {
-            from: end,
-            to: end,
-        };
+        return Span { from: end, to: end };
     }
     let from = end + 1;
     let mut to = from;
     while to < line.len() {
         if line[to] == b' ' {
-            return Span {
-                from: from,
-                to: to,
-            };
+            return Span { from: from, to: to };
         }
         to = to + 1;
     }
-    Span {
-        from: from,
-        to: to,
-    }
+    Span { from: from, to: to }
 }
 
 // The stanza and the run of a request.
@@ -407,6 +398,26 @@ fn put_result(out: &mut [u8], output: Output, reply: extlang::Reply, octets: &[u
     put_octets(out, state, octets)
 }
 
+// Puts what printing answers.
+fn put_text(
+    s: &[u8],
+    first: u64,
+    many: u64,
+    p: &[u8],
+    room: u64,
+    text: &mut [u8],
+    out: &mut [u8],
+    output: Output,
+) -> Output
+    requires { ⌜ output .taken + 128 ≤ length (now out) ⌝ }
+    ensures { λ r. ⌜ r .taken ≤ length (now (out .entry)) ⌝ }
+{
+    let most = least(room, text.len());
+    let reply = extlang::print(s, first as usize, many as usize, p, &mut text[0..most], 0);
+    let n = least(reply.place as u64, text.len());
+    put_result(out, output, reply, &text[0..n])
+}
+
 // Puts the answer to the request to print the RDATA that a word of the line spells.
 fn put_printed(
     values: &[u8; 256],
@@ -430,16 +441,28 @@ fn put_printed(
     if s.good & p.good {
         let e = a + s.count;
         let f = c + p.count;
-        let most = least(room, text.len());
-        let reply = extlang::print(&line[a..e], asked.first as usize, asked.many as usize, &line[c..f], &mut text[0..most], 0);
-        let n = least(reply.place as u64, text.len());
-        return put_result(out, output, reply, &text[0..n]);
+        return put_text(
+            &line[a..e],
+            asked.first,
+            asked.many,
+            &line[c..f],
+            room,
+            text,
+            out,
+            output,
+        );
     }
     unknown(out, output)
 }
 
 // Puts the answer to a request to print.
-fn answer_print(values: &[u8; 256], line: &mut [u8], text: &mut [u8], out: &mut [u8], output: Output) -> Output
+fn answer_print(
+    values: &[u8; 256],
+    line: &mut [u8],
+    text: &mut [u8],
+    out: &mut [u8],
+    output: Output,
+) -> Output
     requires { ⌜ (1 ≤ length (now line)) × (output .taken + 128 ≤ length (now out)) ⌝ }
     ensures { λ r. ⌜ r .taken ≤ length (now (out .entry)) ⌝ }
 {
@@ -467,7 +490,13 @@ fn unknown(out: &mut [u8], output: Output) -> Output
 }
 
 // Puts the answer to a line, which is without its LF. The line's octets may change.
-fn answer_line(values: &[u8; 256], line: &mut [u8], text: &mut [u8], out: &mut [u8], output: Output) -> Output
+fn answer_line(
+    values: &[u8; 256],
+    line: &mut [u8],
+    text: &mut [u8],
+    out: &mut [u8],
+    output: Output,
+) -> Output
     requires { ⌜ output .taken + 128 ≤ length (now out) ⌝ }
     ensures { λ r. ⌜ r .taken ≤ length (now (out .entry)) ⌝ }
 {
