@@ -298,7 +298,7 @@ fn rejected(number: u8, line: u16) -> Outline
         text_end: 0,
     };
     let f = FieldDesc {
-        form: Form::Rrtype,
+        form: Form::Int(0),
         qualifiers_at: 0,
         qualifiers_end: 0,
         text_at: 0,
@@ -329,8 +329,9 @@ pub fn judged_outline(s: &[u8]) -> Outline
         text_at: 0,
         text_end: 0,
     };
+    // all zeros, so that the array is cleared at once
     let nothing = FieldDesc {
-        form: Form::Rrtype,
+        form: Form::Int(0),
         qualifiers_at: 0,
         qualifiers_end: 0,
         text_at: 0,

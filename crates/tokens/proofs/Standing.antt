@@ -20,6 +20,10 @@ same-true : (a b : Bool) → cond a b (not b) ≡ true → a ≡ b
 same-true true b h = sym h
 same-true false b h = sym (not-true b h)
 
+and-yes : (b : Bool) → b ≡ b && true
+and-yes true = refl
+and-yes false = refl
+
 -- in a bare token: none below 21 hex, none above 7E hex, and of the others those that are not special
 pub low-standing : (x : ℕ) → x < 33 → false ≡ standing 0 x
 low-standing x h = rw (not-true (standing 0 x) (at-each (λ x. not (standing 0 x)) 33 refl x h))
@@ -27,10 +31,10 @@ low-standing x h = rw (not-true (standing 0 x) (at-each (λ x. not (standing 0 x
 pub high-standing : (x : ℕ) → 126 < x → false ≡ standing 0 x
 high-standing x h = rw (ne-eqb x 32 (λ e. omega arith), ne-eqb x 9 (λ e. omega arith), le-leb 32 x (omega arith), lt-leb x 126 h)
 
-pub bare-standing : (x : ℕ) → 33 ≤ x → x ≤ 126 → (x ≡ 34 → ⊥) → (x ≡ 59 → ⊥) → standing 0 x ≡ not (inRange 39 41 x) && not (eqb x 92)
-bare-standing x h k n m =
+pub bare-standing : (x : ℕ) → 33 ≤ x → x ≤ 126 → (x ≡ 34 → ⊥) → (x ≡ 59 → ⊥) → (x ≡ 92 → ⊥) → not (inRange 39 41 x) ≡ standing 0 x
+bare-standing x h k n m l =
     let r : inRange 39 41 x ≡ eqb x 39 || false || eqb x 40 || eqb x 41 = same-true _ _ (at-each (λ x. cond (inRange 39 41 x) (eqb x 39 || false || eqb x 40 || eqb x 41) (not (eqb x 39 || false || eqb x 40 || eqb x 41))) 127 refl x (omega arith)) in
-    rw (r, ne-eqb x 32 (λ e. omega arith), ne-eqb x 9 (λ e. omega arith), le-leb 32 x (omega arith), le-leb x 126 k, ne-eqb x 34 n, ne-eqb x 59 m)
+    rw (r, ne-eqb x 32 (λ e. omega arith), ne-eqb x 9 (λ e. omega arith), le-leb 32 x (omega arith), le-leb x 126 k, ne-eqb x 34 n, ne-eqb x 59 m, ne-eqb x 92 l) (and-yes (not (eqb x 39 || false || eqb x 40 || eqb x 41)))
 
 -- in a quoted one
 pub quoted-standing : (q x : ℕ) → (q ≡ 0 → ⊥) → standing q x ≡ not (eqb x q) && not (eqb x 92) && textOctet x
@@ -44,8 +48,11 @@ low-text x h = rw (ne-eqb x 92 (λ e. omega arith), lt-leb 32 x h) (or-no (eqb x
     or-no true = refl
     or-no false = refl
 
-pub high-text : (x : ℕ) → 32 ≤ x → textOctet x ≡ leb x 126
-high-text x h = rw (ne-eqb x 9 (λ e. omega arith), le-leb 32 x h)
+pub high-text : (x : ℕ) → 126 < x → false ≡ not (eqb x 92) && textOctet x
+high-text x h = rw (ne-eqb x 92 (λ e. omega arith), ne-eqb x 9 (λ e. omega arith), le-leb 32 x (omega arith), lt-leb x 126 h)
+
+pub plain-text : (x : ℕ) → 32 ≤ x → x ≤ 126 → not (eqb x 92) ≡ not (eqb x 92) && textOctet x
+plain-text x h k = rw (ne-eqb x 9 (λ e. omega arith), le-leb 32 x h, le-leb x 126 k) (and-yes (not (eqb x 92)))
 
 -- 64 of them
 pub block-within : (q : ℕ) (t : List ℕ) (i : ℕ) → blockAt q t i ≡ true → i + 64 ≤ length t

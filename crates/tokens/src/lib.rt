@@ -31,6 +31,7 @@ fn is_text(b: u8) -> bool
     b <= 126
 }
 
+// lo to hi
 fn is_between(lo: u8, hi: u8, b: u8) -> bool
     ensures { λ r. ⌜ r ≡ inRange lo hi b ⌝ }
 {
@@ -57,10 +58,10 @@ fn stands_bare(b: u8) -> bool
     if 126 < b {
         return false;
     }
-    if is_between(39, 41, b) {
+    if b == 92 {
         return false;
     }
-    b != 92
+    !is_between(39, 41, b)
 }
 
 // The same in a token that q quotes, or in a bare one where q is 0.
@@ -76,10 +77,10 @@ fn stands(q: u8, b: u8) -> bool
     if b < 32 {
         return b == 9;
     }
-    if b == 92 {
+    if 126 < b {
         return false;
     }
-    b <= 126
+    b != 92
 }
 
 // The end of the octets from i on and before e that stand for themselves.
@@ -112,6 +113,7 @@ fn all_stand(t: &[u8], i: usize, q: u8) -> bool
     all
 }
 
+// Whether 64 octets are left from i on, and all of them stand for themselves.
 fn block_at(t: &[u8], i: usize, q: u8) -> bool
     requires { ⌜ i ≤ length (now t) ⌝ }
     ensures { λ r. ⌜ r ≡ blockAt q (now (t .entry)) i ⌝ }

@@ -1,4 +1,4 @@
-use Rattle.tokens.proofs.Standing.{quoted-standing, low-text, high-text}
+use Rattle.tokens.proofs.Standing.{quoted-standing, low-text, high-text, plain-text}
 use borrow.Author.Tests.{eq-eqb, ne-eqb}
 use borrow.Author.Needs.{needs}
 use Rattle.tokens.proofs.stands.Statement.{statement}
@@ -17,10 +17,10 @@ returns-3 : tie.Need-returns-3
 returns-3 c = rw (quoted-standing _ _ (c .before .before .if1 .left), ne-eqb _ _ (c .before .if2 .left)) (low-text _ (c .if3 .taken))
 
 returns-4 : tie.Need-returns-4
-returns-4 c = rw (quoted-standing _ _ (c .before .before .before .if1 .left), ne-eqb _ _ (c .before .before .if2 .left), eq-eqb _ _ (c .if4 .taken))
+returns-4 c = rw (quoted-standing _ _ (c .before .before .before .if1 .left), ne-eqb _ _ (c .before .before .if2 .left)) (high-text _ (c .if4 .taken))
 
 returns-5 : tie.Need-returns-5
-returns-5 c = rw (quoted-standing _ _ (c .before .before .before .if1 .left), ne-eqb _ _ (c .before .before .if2 .left), ne-eqb _ _ (c .if4 .left), high-text _ (c .before .if3 .left))
+returns-5 c = rw (quoted-standing _ _ (c .before .before .before .if1 .left), ne-eqb _ _ (c .before .before .if2 .left)) (plain-text _ (c .before .if3 .left) (c .if4 .left))
 
 pub stands-spec : {M : Type 1} → statement M
 stands-spec =

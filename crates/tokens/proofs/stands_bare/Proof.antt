@@ -15,16 +15,16 @@ returns-3 c = rw (c .if3 .taken)
 returns-4 : tie.Need-returns-4
 returns-4 c = high-standing _ (c .if4 .taken)
 
+returns-5 : tie.Need-returns-5
+returns-5 c = rw (c .if5 .taken)
+
 is-between-requires : tie.Need-is-between-requires
 is-between-requires c κs = search needs
 
-returns-5 : tie.Need-returns-5
-returns-5 c = rw (bare-standing _ (c .before .before .before .before .if2 .left) (c .before .before .if4 .left) (c .before .before .before .before .before .if1 .left) (c .before .before .before .if3 .left), ← c .before .is-between .ensures, c .if5 .taken)
-
 returns-6 : tie.Need-returns-6
-returns-6 c = rw (bare-standing _ (c .before .before .before .before .if2 .left) (c .before .before .if4 .left) (c .before .before .before .before .before .if1 .left) (c .before .before .before .if3 .left), ← c .before .is-between .ensures, c .if5 .left)
+returns-6 c = rw (c .is-between .ensures) (bare-standing _ (c .before .before .before .before .if2 .left) (c .before .before .if4 .left) (c .before .before .before .before .before .if1 .left) (c .before .before .before .if3 .left) (c .before .if5 .left))
 
 pub stands-bare-spec : {M : Type 1} → statement M
 stands-bare-spec =
     tie.close
-    (tie.spec returns returns-2 returns-3 returns-4 is-between-requires returns-5 returns-6)
+    (tie.spec returns returns-2 returns-3 returns-4 returns-5 is-between-requires returns-6)

@@ -1,0 +1,3 @@
+pub mod Escapes
+pub mod Values
+pub mod Texts
