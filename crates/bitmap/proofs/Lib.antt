@@ -1,2 +1,4 @@
 pub mod Texts
 pub mod Blocks
+pub mod Windows
+pub mod Plain
