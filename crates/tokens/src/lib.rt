@@ -175,7 +175,7 @@ fn escape_at(t: &[u8], j: usize) -> bool
 }
 
 // Whether a blank stands at j, or the text ends.
-fn parted_at(t: &[u8], j: usize) -> bool
+pub fn parted_at(t: &[u8], j: usize) -> bool
     ensures { λ r. ⌜ r ≡ partedOff (drop j (now (t .entry))) ⌝ }
 {
     if t.len() <= j {
