@@ -101,6 +101,19 @@ module _ (g : Bool) (s : List ℕ) (i e j f x y : ℕ) (h : i < e) (l : e ≤ le
   pub same-off : (x ≡ y → ⊥) → false ≡ sameBy g (slice i e s) (slice j f s)
   same-off r = rw (same-one, ne-eqb x y r)
 
+-- a name and a qualifier that start with other octets
+pub first-other : (g : Bool) (s : List ℕ) (a n i z x y : ℕ) → a < n → n ≤ length s → i < z → z ≤ length s
+    → x ≡ cond g (lowered (getD s a 0)) (getD s a 0) → y ≡ cond g (lowered (getD s i 0)) (getD s i 0) → (x ≡ y → ⊥) → sameBy g (slice a n s) (nameIn (partIn s i z)) ≡ false
+first-other g s a n i z x y h l k m p q r = rw (next s a n h l, next s i z k m) (by (nameOctet (getD s i 0)))
+  where
+    no-octet : (b : Bool) (v : ℕ) (vs : List ℕ) → sameBy b (v ∷ vs) [] ≡ false
+    no-octet true v vs = refl
+    no-octet false v vs = refl
+
+    by : (b : Bool) → sameBy g (getD s a 0 ∷ slice (a + 1) n s) (spanning b (getD s i 0) (slice (i + 1) z s) (span nameOctet (slice (i + 1) z s)) .front) ≡ false
+    by true = rw (same-next g (getD s a 0) (getD s i 0) (slice (a + 1) n s) (span nameOctet (slice (i + 1) z s) .front), ← p, ← q, ne-eqb x y r)
+    by false = no-octet g (getD s a 0) (slice (a + 1) n s)
+
 pub same-end : (g : Bool) (s : List ℕ) (i e j f : ℕ) → e ≤ i → f ≤ j → true ≡ sameBy g (slice i e s) (slice j f s)
 same-end g s i e j f h k = rw (nothing s i e h, nothing s j f k, same-none g)
 
@@ -305,3 +318,7 @@ module _ (s : List ℕ) (i b z : ℕ) (h : i ≤ b) (l : b ≤ length s) (q : z 
 
   pub twice-last : (g : Bool) → z ≡ b → false ≡ twiceIn g s i b
   twice-last g m = rw (last-piece m)
+
+-- the name of a qualifier from i to z ends where the octets of names do
+pub named-in : (g : Bool) (s : List ℕ) (i z m : ℕ) → i ≤ z → z ≤ length s → m ≡ frontEnd nameOctet s i z → (t : List ℕ) (r : Bool) → r ≡ sameBy g t (slice i m s) → r ≡ sameBy g t (nameIn (partIn s i z))
+named-in g s i z m h l q t r e = e ∙ ap (sameBy g t) (ap (λ k. slice i k s) q ∙ sym (front nameOctet s i z h l))

@@ -4,7 +4,7 @@ ghost use lib.ListN.{length};
 ghost use lib.Dec.{leb};
 ghost use lib.Seq.{slice};
 ghost use mathlib.Core.Path.{_≡_};
-ghost use mathlib.Core.Bool.{cond, _&&_};
+ghost use mathlib.Core.Bool.{true, false, cond, _&&_};
 ghost use mathlib.Core.List.{[], _∷_};
 ghost use mathlib.Core.Option.{none, some};
 ghost use Rattle.format.specs.Lists.{anyOf};
@@ -276,6 +276,32 @@ pub fn same(ignoring: bool, s: &[u8], a: usize, e: usize, b: usize, f: usize) ->
     true
 }
 
+// Whether the name from a to n and the qualifier from i to z start with other octets.
+fn starts_other(ignoring: bool, s: &[u8], a: usize, n: usize, i: usize, z: usize) -> bool
+    requires { ⌜ (n ≤ length (now s)) × (z ≤ length (now s)) ⌝ }
+    ensures { λ r. ⌜ (r ≡ true → sameBy ignoring (slice a n (now (s .entry))) (nameIn (partIn (now (s .entry)) i z)) ≡ false) ⌝ }
+{
+    if n <= a {
+        return false;
+    }
+    if z <= i {
+        return false;
+    }
+    fold(ignoring, s[a]) != fold(ignoring, s[i])
+}
+
+// Whether the name from a to n is the name of the qualifier from i to z. Most start otherwise, and are not gone through.
+fn names(ignoring: bool, s: &[u8], a: usize, n: usize, i: usize, z: usize) -> bool
+    requires { ⌜ (a ≤ n) × (n ≤ length (now s)) × (i ≤ z) × (z ≤ length (now s)) ⌝ }
+    ensures { λ r. ⌜ r ≡ sameBy ignoring (slice a n (now (s .entry))) (nameIn (partIn (now (s .entry)) i z)) ⌝ }
+{
+    if starts_other(ignoring, s, a, n, i, z) {
+        return false;
+    }
+    let m = octets::skip(s, i, z, octets::Class::NameOctet);
+    same(ignoring, s, a, n, i, m)
+}
+
 // Whether the name from a to n is the name of some qualifier between h and b.
 fn later(ignoring: bool, s: &[u8], a: usize, n: usize, h: usize, b: usize) -> bool
     requires { ⌜ (a ≤ n) × (n ≤ length (now s)) × (h ≤ b) × (b ≤ length (now s)) ⌝ }
@@ -284,8 +310,7 @@ fn later(ignoring: bool, s: &[u8], a: usize, n: usize, h: usize, b: usize) -> bo
     let mut i = h;
     loop {
         let z = octets::skip(s, i, b, octets::Class::NotComma);
-        let m = octets::skip(s, i, z, octets::Class::NameOctet);
-        if same(ignoring, s, a, n, i, m) {
+        if names(ignoring, s, a, n, i, z) {
             return true;
         }
         if z == b {

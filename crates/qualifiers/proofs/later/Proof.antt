@@ -1,13 +1,17 @@
-use Rattle.qualifiers.proofs.Laws.{within, name-within, same-name, any-found, any-last, any-next}
-use Prim.Native.Nat.{_-_, _≤_}
-use mathlib.Core.Path.{_≡_, refl, sym, _∙_}
-use lib.Seq.{slice}
-use Rattle.format.specs.Lists.{anyOf}
+use Rattle.qualifiers.proofs.Laws.{within, any-found, any-last, any-next}
 use Rattle.qualifiers.specs.Qualifiers.{piecesIn, sameBy, nameIn}
+use Rattle.format.specs.Lists.{anyOf}
+use lib.Seq.{slice}
+use mathlib.Core.Path.{_≡_, refl, sym, _∙_}
+use Prim.Native.Nat.{_-_, _≤_}
 use native.Mathlib.Omega.{arith}
 use borrow.Author.Needs.{needs}
 use Rattle.qualifiers.proofs.later.Statement.{statement}
 use Rattle.qualifiers.proofs.later.Tie as tie
+use Rattle.qualifiers.proofs.later.Reads as reads
+use Rattle.qualifiers.proofs.later.Lts as lts
+use Rattle.octets.proofs.skip.Reads as skip-reads
+use Rattle.qualifiers.proofs.names.Reads as names-reads
 
 abbrev Inv-loop : tie.InvT-loop
 Inv-loop ignoring s a n h b i₀ i = (i ≤ b) × (anyOf (λ p. sameBy ignoring (slice a n s) (nameIn p)) (piecesIn s i b) ≡ anyOf (λ p. sameBy ignoring (slice a n s) (nameIn p)) (piecesIn s h b))
@@ -15,32 +19,37 @@ Inv-loop ignoring s a n h b i₀ i = (i ≤ b) × (anyOf (λ p. sameBy ignoring 
 abbrev μ-loop : tie.MeasureT-loop
 μ-loop ignoring s a n h b i₀ i = b - i
 
+-- src/lib.rt:311:5
 loop-holds : tie.Need-loop-holds Inv-loop μ-loop
 loop-holds c = (search needs, refl)
 
+-- src/lib.rt:312:13
 skip-requires : tie.Need-skip-requires Inv-loop μ-loop
 skip-requires c κs = search needs
 
-skip-requires-2 : tie.Need-skip-requires-2 Inv-loop μ-loop
-skip-requires-2 c κs = (omega arith, omega (arith, within _ _ _ _ (c .before .loop .inv .0) (c .before .before .before .pre .3) (c .skip .ensures)))
+-- src/lib.rt:313:12
+names-requires : tie.Need-names-requires Inv-loop μ-loop
+names-requires c κs = let z = within _ _ _ _ (c .before .loop .inv .0) (c .before .before .before .pre .3) (c .skip .ensures) in (c .before .before .before .pre .0, c .before .before .before .pre .1, omega arith, omega (arith, z))
 
-same-requires : tie.Need-same-requires Inv-loop μ-loop
-same-requires c κs = (c .before .before .before .before .pre .0, c .before .before .before .before .pre .1, omega arith, omega (arith, within _ _ _ _ (c .before .before .loop .inv .0) (c .before .before .before .before .pre .3) (c .before .skip .ensures), name-within _ _ _ _ (c .before .before .loop .inv .0) (c .before .before .before .before .pre .3) (c .before .skip .ensures) _ (c .skip2 .ensures)))
-
+-- src/lib.rt:314:13
 returns : tie.Need-returns Inv-loop μ-loop
-returns c = sym (any-found _ _ _ _ (c .before .before .before .before .loop .inv .0) (c .before .before .before .before .before .before .pre .3) (c .before .before .before .skip .ensures) (λ p. sameBy (c .before .before .before .before .before .before .args .ignoring) (slice (c .before .before .before .before .before .before .args .a) (c .before .before .before .before .before .before .args .n) (c .before .before .before .before .before .before .args .s .now)) (nameIn p)) (same-name _ _ _ _ (c .before .before .before .before .loop .inv .0) (c .before .before .before .before .before .before .pre .3) (c .before .before .before .skip .ensures) (c .before .before .before .before .before .before .args .ignoring) _ (c .before .before .skip2 .ensures) (slice (c .before .before .before .before .before .before .args .a) (c .before .before .before .before .before .before .args .n) (c .before .before .before .before .before .before .args .s .now)) _ (c .before .same .ensures) ∙ c .if1 .taken)) ∙ c .before .before .before .before .loop .inv .1
+returns c = sym (any-found _ _ _ _ (c .before .before .before .loop .inv .0) (c .before .before .before .before .before .pre .3) (c .before .before .skip .ensures) (λ p. sameBy (c .before .before .before .before .before .args .ignoring) (slice (c .before .before .before .before .before .args .a) (c .before .before .before .before .before .args .n) (c .before .before .before .before .before .args .s .now)) (nameIn p)) (sym (c .before .names .ensures) ∙ c .if1 .taken)) ∙ c .before .before .before .loop .inv .1
 
+-- src/lib.rt:317:13
 returns-2 : tie.Need-returns-2 Inv-loop μ-loop
-returns-2 c = sym (any-last _ _ _ _ (c .before .before .before .before .before .loop .inv .0) (c .before .before .before .before .before .before .before .pre .3) (c .before .before .before .before .skip .ensures) (λ p. sameBy (c .before .before .before .before .before .before .before .args .ignoring) (slice (c .before .before .before .before .before .before .before .args .a) (c .before .before .before .before .before .before .before .args .n) (c .before .before .before .before .before .before .before .args .s .now)) (nameIn p)) (c .if2 .taken) (same-name _ _ _ _ (c .before .before .before .before .before .loop .inv .0) (c .before .before .before .before .before .before .before .pre .3) (c .before .before .before .before .skip .ensures) (c .before .before .before .before .before .before .before .args .ignoring) _ (c .before .before .before .skip2 .ensures) (slice (c .before .before .before .before .before .before .before .args .a) (c .before .before .before .before .before .before .before .args .n) (c .before .before .before .before .before .before .before .args .s .now)) _ (c .before .before .same .ensures) ∙ c .before .if1 .left)) ∙ c .before .before .before .before .before .loop .inv .1
+returns-2 c = sym (any-last _ _ _ _ (c .before .before .before .before .loop .inv .0) (c .before .before .before .before .before .before .pre .3) (c .before .before .before .skip .ensures) (λ p. sameBy (c .before .before .before .before .before .before .args .ignoring) (slice (c .before .before .before .before .before .before .args .a) (c .before .before .before .before .before .before .args .n) (c .before .before .before .before .before .before .args .s .now)) (nameIn p)) (c .if2 .taken) (sym (c .before .before .names .ensures) ∙ c .before .if1 .left)) ∙ c .before .before .before .before .loop .inv .1
 
+-- src/lib.rt:319:13
 add-i : tie.Need-add-i Inv-loop μ-loop
-add-i c = omega (arith, within _ _ _ _ (c .before .before .before .before .before .loop .inv .0) (c .before .before .before .before .before .before .before .pre .3) (c .before .before .before .before .skip .ensures))
+add-i c = omega (arith, within _ _ _ _ (c .before .before .before .before .loop .inv .0) (c .before .before .before .before .before .before .pre .3) (c .before .before .before .skip .ensures))
 
+-- src/lib.rt:311:5
 loop-less : tie.Need-loop-less Inv-loop μ-loop
-loop-less c = omega (arith, within _ _ _ _ (c .before .before .before .before .before .loop .inv .0) (c .before .before .before .before .before .before .before .pre .3) (c .before .before .before .before .skip .ensures))
+loop-less c = omega (arith, within _ _ _ _ (c .before .before .before .before .loop .inv .0) (c .before .before .before .before .before .before .pre .3) (c .before .before .before .skip .ensures))
 
+-- src/lib.rt:311:5
 loop-again : tie.Need-loop-again Inv-loop μ-loop
-loop-again c = (omega (arith, within _ _ _ _ (c .before .before .before .before .before .loop .inv .0) (c .before .before .before .before .before .before .before .pre .3) (c .before .before .before .before .skip .ensures)), any-next _ _ _ _ (c .before .before .before .before .before .loop .inv .0) (c .before .before .before .before .before .before .before .pre .3) (c .before .before .before .before .skip .ensures) (λ p. sameBy (c .before .before .before .before .before .before .before .args .ignoring) (slice (c .before .before .before .before .before .before .before .args .a) (c .before .before .before .before .before .before .before .args .n) (c .before .before .before .before .before .before .before .args .s .now)) (nameIn p)) (c .if2 .left) (same-name _ _ _ _ (c .before .before .before .before .before .loop .inv .0) (c .before .before .before .before .before .before .before .pre .3) (c .before .before .before .before .skip .ensures) (c .before .before .before .before .before .before .before .args .ignoring) _ (c .before .before .before .skip2 .ensures) (slice (c .before .before .before .before .before .before .before .args .a) (c .before .before .before .before .before .before .before .args .n) (c .before .before .before .before .before .before .before .args .s .now)) _ (c .before .before .same .ensures) ∙ c .before .if1 .left) ∙ c .before .before .before .before .before .loop .inv .1)
+loop-again c = (omega (arith, within _ _ _ _ (c .before .before .before .before .loop .inv .0) (c .before .before .before .before .before .before .pre .3) (c .before .before .before .skip .ensures)), any-next _ _ _ _ (c .before .before .before .before .loop .inv .0) (c .before .before .before .before .before .before .pre .3) (c .before .before .before .skip .ensures) (λ p. sameBy (c .before .before .before .before .before .before .args .ignoring) (slice (c .before .before .before .before .before .before .args .a) (c .before .before .before .before .before .before .args .n) (c .before .before .before .before .before .before .args .s .now)) (nameIn p)) (c .if2 .left) (sym (c .before .before .names .ensures) ∙ c .before .if1 .left) ∙ c .before .before .before .before .loop .inv .1)
 
 pub later-spec : {M : Type 1} → statement M
 later-spec =
@@ -50,8 +59,7 @@ later-spec =
     μ-loop
     loop-holds
     skip-requires
-    skip-requires-2
-    same-requires
+    names-requires
     returns
     returns-2
     add-i
