@@ -1,3 +1,4 @@
 pub mod Escapes
 pub mod Values
 pub mod Texts
+pub mod Names

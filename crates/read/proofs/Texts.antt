@@ -32,15 +32,15 @@ octets-cons : (i : Item) (o : Option (List Item)) → octetsOf (consBoth (some i
 octets-cons i none = refl
 octets-cons i (some is) = refl
 
-plain-unescaped : (x : ℕ) (xs : List ℕ) → noEscape x ≡ true → unescapedFrom outside (x ∷ xs) ≡ consBoth (some (plain x)) (unescapedFrom outside xs)
+pub plain-unescaped : (x : ℕ) (xs : List ℕ) → noEscape x ≡ true → unescapedFrom outside (x ∷ xs) ≡ consBoth (some (plain x)) (unescapedFrom outside xs)
 unfolding unescapedFrom
 plain-unescaped x xs h = rw (not-true (eqb x 92) h)
 
-nothing-unescaped : unescapedFrom outside [] ≡ some []
+pub nothing-unescaped : unescapedFrom outside [] ≡ some []
 unfolding unescapedFrom
 nothing-unescaped = refl
 
-slash-unescaped : (xs : List ℕ) → unescapedFrom outside (92 ∷ xs) ≡ unescapedFrom slash xs
+pub slash-unescaped : (xs : List ℕ) → unescapedFrom outside (92 ∷ xs) ≡ unescapedFrom slash xs
 unfolding unescapedFrom
 slash-unescaped xs = refl
 
