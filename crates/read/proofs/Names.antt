@@ -24,7 +24,7 @@ use Rattle.read.specs.declared.escape.Escape.the-variants.{Fault as NoOc
 use Rattle.read.specs.declared.name.LabelEnd.{LabelEnd}
 use Rattle.read.specs.declared.name.LabelEnd.the-variants.{Fault as NoLabel, Dot, Last}
 use Rattle.read.specs.Escapes.{itemsBy, EndsWithin}
-use Rattle.read.specs.Name.{sole, labelsOf, spelled, limited, limitedEnd, OneItem, BeforeDot, BeforeOrigin, Labelled}
+use Rattle.read.specs.Name.{sole, labelsOf, spelled, limited, limitedEnd, OneItem, BeforeDot, BeforeOrigin, Labelled, nameEnd, Finished}
 use Rattle.read.proofs.Values.{after, Begun, begun-fault, begun-piece, begun-rest}
 use Rattle.read.proofs.Texts.{plain-unescaped, nothing-unescaped, slash-unescaped}
 
@@ -227,7 +227,7 @@ module _ {o₀ o : List ℕ} {n m : ℕ} {t : List ℕ} {i j e : ℕ} (p : Part 
       }
 
 -- at most 255 octets
-pub limited-value : (o₀ o : List ℕ) (n m : ℕ) (v : Option (List ℕ)) → Values o₀ o n (Upto m) v → Values o₀ o n (limitedEnd n m) (limited v)
+limited-value : (o₀ o : List ℕ) (n m : ℕ) (v : Option (List ℕ)) → Values o₀ o n (Upto m) v → Values o₀ o n (limitedEnd n m) (limited v)
 limited-value o₀ o n m v (xs, f, w) = let q : m - n ≡ length xs = omega (arith, w .count) in rw (f, q) (by (leb (length xs) 255))
   where
     by : (b : Bool) → Values o₀ o n (cond b (Upto m) Fault) (provided b xs)
@@ -263,12 +263,12 @@ module _ {o₀ o : List ℕ} {n m : ℕ} {all : Option (List ℕ)} (origin t : L
     pub last-count : (m ≤ z) × (z ≤ m + 64)
     last-count = (omega (arith, last-after .wrote .count), last-after .small)
 
-    pub with-origin : (o″ : List ℕ) (y : ℕ) → Wrote o′ o″ z y origin → Values o₀ o″ n (Upto y) all
-    with-origin o″ y w = begun-rest o″ (Upto y) b (last-after .label ++ origin, last-after .same origin, wrote-append (last-after .wrote) w)
+    pub with-origin : (o″ : List ℕ) (v : Value) → Finished o′ o″ n z (nameEnd false origin) v → Values o₀ o″ n v (limited all)
+    with-origin o″ v (y, w, q) = rw q (limited-value o₀ o″ n y all (begun-rest o″ (Upto y) b (last-after .label ++ origin, last-after .same origin, wrote-append (last-after .wrote) w)))
 
-pub with-zero : {o₀ o : List ℕ} {n m : ℕ} {all : Option (List ℕ)} (origin t : List ℕ) (j e : ℕ) → Begun o₀ o n m all (spelled origin (slice j e t)) → e ≤ j → (o′ : List ℕ) (y : ℕ) → Wrote o o′ m y (0 ∷ [])
-    → Values o₀ o′ n (Upto y) all
-with-zero origin t j e b h o′ y w = begun-rest o′ (Upto y) b (0 ∷ [], ap (spelled origin) (no-octet t j e h) ∙ spelled-none origin, w)
+pub with-zero : {o₀ o : List ℕ} {n m : ℕ} {all : Option (List ℕ)} (origin t : List ℕ) (j e : ℕ) → Begun o₀ o n m all (spelled origin (slice j e t)) → e ≤ j → (o′ : List ℕ) (v : Value)
+    → Finished o o′ n m (nameEnd true origin) v → Values o₀ o′ n v (limited all)
+with-zero {o₀} {o} {n} {m} {all} origin t j e b h o′ v (y, w, q) = rw q (limited-value o₀ o′ n y all (begun-rest o′ (Upto y) b (0 ∷ [], ap (spelled origin) (no-octet t j e h) ∙ spelled-none origin, w)))
 
 -- "`.` is the root", "`@` alone is the origin"
 and-same : (a : Bool) → a && true ≡ a

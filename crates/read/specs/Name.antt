@@ -2,7 +2,7 @@
 use Prim.Native.Nat.{ℕ, _+_, _-_, _≤_, _<_}
 use Prim.Native.Char.{code}
 use mathlib.Core.Path.{_≡_}
-use mathlib.Core.Bool.{cond}
+use mathlib.Core.Bool.{Bool, true, false, cond}
 use mathlib.Core.List.{List, [], _∷_, _++_, map}
 use mathlib.Core.Option.{Option, none, some}
 use lib.Dec.{leb, eqb}
@@ -64,3 +64,12 @@ abbrev pub Labelled : List ℕ → List ℕ → ℕ → List ℕ → ℕ → ℕ
 Labelled before after n t i e NoLabel = (origin : List ℕ) → spelled origin (slice i e t) ≡ none
 Labelled before after n t i e (Dot k m) = BeforeDot before after n t i e k m
 Labelled before after n t i e (Last m) = BeforeOrigin before after n t i e m
+
+-- "a final unescaped dot makes it absolute, else the origin is appended"
+abbrev pub nameEnd : Bool → List ℕ → List ℕ
+nameEnd true origin = 0 ∷ []
+nameEnd false origin = origin
+
+-- the end of a name stands in the buffer from m on, and at most 255 octets from n on
+abbrev pub Finished : List ℕ → List ℕ → ℕ → ℕ → List ℕ → Value → Type 0
+Finished before after n m end r = (z : ℕ) × Wrote before after m z end × (r ≡ limitedEnd n z)

@@ -6,7 +6,7 @@ ghost use lib.ListN.{length};
 ghost use lib.Seq.{slice};
 ghost use Rattle.format.specs.Name.{isWireName, readName};
 ghost use Rattle.writing.specs.Writing.{Values};
-ghost use Rattle.read.specs.Name.{sole, spelled, limited, limitedEnd, OneItem, Labelled};
+ghost use Rattle.read.specs.Name.{sole, spelled, limited, limitedEnd, OneItem, Labelled, nameEnd, Finished};
 use crate::escape;
 use crate::escape::Escape;
 use writing::Value;
@@ -90,6 +90,17 @@ fn label(out: &mut [u8], n: usize, t: &[u8], i: usize, e: usize) -> LabelEnd
     LabelEnd::Last(m)
 }
 
+// The end of a name whose labels stand from n up to m: a zero octet, or the origin.
+fn finish(out: &mut [u8], n: usize, m: usize, origin: &[u8], absolute: bool) -> Value
+    requires { ⌜ (n ≤ m) × (m < 2 ^ 31) × (length (now origin) ≤ 255) ⌝ }
+    ensures { λ r. ⌜ Finished (now (out .entry)) (now (out .exit)) n m (nameEnd absolute (now (origin .entry))) r ⌝ }
+{
+    if absolute {
+        return limited_end(n, put_octet(out, m, 0));
+    }
+    limited_end(n, put_all(out, m, origin))
+}
+
 // The labels from a on, then a zero octet after a final dot, else the origin.
 fn labels(out: &mut [u8], n: usize, t: &[u8], a: usize, e: usize, origin: &[u8]) -> Value
     requires { ⌜ (n < 2 ^ 30) × (a ≤ e) × (e ≤ length (now t)) × (length (now origin) ≤ 255) ⌝ }
@@ -104,8 +115,7 @@ fn labels(out: &mut [u8], n: usize, t: &[u8], a: usize, e: usize, origin: &[u8])
                 return Value::Fault;
             }
             LabelEnd::Last(r) => {
-                let z = put_all(out, r, origin);
-                return limited_end(n, z);
+                return finish(out, n, r, origin, false);
             }
             LabelEnd::Dot(k, r) => {
                 if 255 < r - n {
@@ -116,8 +126,7 @@ fn labels(out: &mut [u8], n: usize, t: &[u8], a: usize, e: usize, origin: &[u8])
             }
         }
     }
-    let z = put_octet(out, m, 0);
-    limited_end(n, z)
+    finish(out, n, m, origin, true)
 }
 
 // The name that the octets of t from a to e spell: the root, the origin, an absolute name, or a relative one with the origin

@@ -1,4 +1,4 @@
-use Rattle.read.proofs.Names.{no-label, dot-after, dot-count, dot-begun, last-count, with-origin, with-zero, limited-value, limited-begun}
+use Rattle.read.proofs.Names.{no-label, dot-after, dot-count, dot-begun, last-count, with-origin, with-zero, limited-begun}
 use Rattle.read.proofs.Values.{Begun, begun-none}
 use Rattle.read.specs.Name.{spelled}
 use lib.Seq.{slice}
@@ -34,17 +34,14 @@ returns c = no-label (c .before .before .before .before .before .before .before 
 enum-known-x : tie.Need-enum-known-x Inv-loop μ-loop
 enum-known-x c = search needs
 
-put-all-requires : tie.Need-put-all-requires Inv-loop μ-loop
-put-all-requires c κs = let w = last-count (c .before .before .before .before .before .before .before .before .before .before .before .before .before .args .origin .now) (c .before .before .before .before .before .before .before .before .before .before .before .before .before .args .t .now) (c .before .before .before .before .before .before .before .before .before .loop .j) (c .before .before .before .before .before .before .before .before .before .before .before .before .before .args .e) (c .before .before .before .before .before .before .before .before .before .loop .inv .5) _ (c .before .before .before .before .before .before .label .result) (c .before .before .before .before .before .before .label .ensures) _ (c .before .before .x .given .1) in (omega (arith, w, c .before .before .before .before .before .before .before .before .before .loop .inv .3, c .before .before .before .before .before .before .before .before .before .before .before .before .before .pre .0), omega (arith, c .before .before .before .before .before .before .before .before .before .before .before .before .before .pre .3))
-
-limited-end-requires : tie.Need-limited-end-requires Inv-loop μ-loop
-limited-end-requires c κs = let w = last-count (c .before .before .before .before .before .before .before .before .before .before .before .before .before .before .before .before .args .origin .now) (c .before .before .before .before .before .before .before .before .before .before .before .before .before .before .before .before .args .t .now) (c .before .before .before .before .before .before .before .before .before .before .before .before .loop .j) (c .before .before .before .before .before .before .before .before .before .before .before .before .before .before .before .before .args .e) (c .before .before .before .before .before .before .before .before .before .before .before .before .loop .inv .5) _ (c .before .before .before .before .before .before .before .before .before .label .result) (c .before .before .before .before .before .before .before .before .before .label .ensures) _ (c .before .before .before .before .before .x .given .1) in omega (arith, w, c .before .before .before .before .before .before .before .before .before .before .before .before .loop .inv .2, c .before .before .put-all .ensures .count)
+finish-requires : tie.Need-finish-requires Inv-loop μ-loop
+finish-requires c κs = let w = last-count (c .before .before .before .before .before .before .before .before .before .before .before .before .before .args .origin .now) (c .before .before .before .before .before .before .before .before .before .before .before .before .before .args .t .now) (c .before .before .before .before .before .before .before .before .before .loop .j) (c .before .before .before .before .before .before .before .before .before .before .before .before .before .args .e) (c .before .before .before .before .before .before .before .before .before .loop .inv .5) _ (c .before .before .before .before .before .before .label .result) (c .before .before .before .before .before .before .label .ensures) _ (c .before .before .x .given .1) in (omega (arith, w, c .before .before .before .before .before .before .before .before .before .loop .inv .2), omega (arith, w, c .before .before .before .before .before .before .before .before .before .loop .inv .3, c .before .before .before .before .before .before .before .before .before .before .before .before .before .pre .0), c .before .before .before .before .before .before .before .before .before .before .before .before .before .pre .3)
 
 same-length-2 : tie.Need-same-length-2 Inv-loop μ-loop
 same-length-2 c = search needs
 
 returns-2 : tie.Need-returns-2 Inv-loop μ-loop
-returns-2 c = rw (c .limited-end .ensures) (limited-value _ _ _ _ _ (with-origin (c .before .before .before .before .before .before .before .before .before .before .before .before .before .before .before .before .before .args .origin .now) (c .before .before .before .before .before .before .before .before .before .before .before .before .before .before .before .before .before .args .t .now) (c .before .before .before .before .before .before .before .before .before .before .before .before .before .loop .j) (c .before .before .before .before .before .before .before .before .before .before .before .before .before .before .before .before .before .args .e) (c .before .before .before .before .before .before .before .before .before .before .before .before .before .loop .inv .5) _ (c .before .before .before .before .before .before .before .before .before .before .label .result) (c .before .before .before .before .before .before .before .before .before .before .label .ensures) _ (c .before .before .before .before .before .before .x .given .1) _ _ (c .before .before .before .put-all .ensures)))
+returns-2 c = with-origin (c .before .before .before .before .before .before .before .before .before .before .before .before .before .before .before .before .args .origin .now) (c .before .before .before .before .before .before .before .before .before .before .before .before .before .before .before .before .args .t .now) (c .before .before .before .before .before .before .before .before .before .before .before .before .loop .j) (c .before .before .before .before .before .before .before .before .before .before .before .before .before .before .before .before .args .e) (c .before .before .before .before .before .before .before .before .before .before .before .before .loop .inv .5) _ (c .before .before .before .before .before .before .before .before .before .label .result) (c .before .before .before .before .before .before .before .before .before .label .ensures) _ (c .before .before .before .before .before .x .given .1) _ (c .before .before .finish .result) (c .before .before .finish .ensures)
 
 enum-known-x-2 : tie.Need-enum-known-x-2 Inv-loop μ-loop
 enum-known-x-2 c = search needs
@@ -64,17 +61,14 @@ loop-less c = let w = dot-after (c .before .before .before .before .before .befo
 loop-again : tie.Need-loop-again Inv-loop μ-loop
 loop-again c = let w = dot-after (c .before .before .before .before .before .before .before .before .before .before .before .before .before .args .origin .now) (c .before .before .before .before .before .before .before .before .before .before .before .before .before .args .t .now) (c .before .before .before .before .before .before .before .before .before .loop .j) (c .before .before .before .before .before .before .before .before .before .before .before .before .before .args .e) (c .before .before .before .before .before .before .before .before .before .loop .inv .5) _ (c .before .before .before .before .before .before .label .result) (c .before .before .before .before .before .before .label .ensures) _ _ (c .before .before .x2 .given .1) in (omega (arith, w .on, c .before .before .before .before .before .before .before .before .before .loop .inv .0), w .within, omega (arith, w .wrote .count, c .before .before .before .before .before .before .before .before .before .loop .inv .2), omega (arith, c .if1 .left), search needs, dot-begun (c .before .before .before .before .before .before .before .before .before .before .before .before .before .args .origin .now) (c .before .before .before .before .before .before .before .before .before .before .before .before .before .args .t .now) (c .before .before .before .before .before .before .before .before .before .loop .j) (c .before .before .before .before .before .before .before .before .before .before .before .before .before .args .e) (c .before .before .before .before .before .before .before .before .before .loop .inv .5) _ (c .before .before .before .before .before .before .label .result) (c .before .before .before .before .before .before .label .ensures) _ _ (c .before .before .x2 .given .1))
 
-put-octet-requires : tie.Need-put-octet-requires Inv-loop μ-loop
-put-octet-requires c κs = search needs
-
-limited-end-requires-2 : tie.Need-limited-end-requires-2 Inv-loop μ-loop
-limited-end-requires-2 c κs = omega (arith, c .before .before .put-octet .ensures .count, c .before .before .before .before .before .loop .inv .2)
+finish-requires-2 : tie.Need-finish-requires-2 Inv-loop μ-loop
+finish-requires-2 c κs = search needs
 
 same-length-4 : tie.Need-same-length-4 Inv-loop μ-loop
 same-length-4 c = search needs
 
 returns-4 : tie.Need-returns-4 Inv-loop μ-loop
-returns-4 c = rw (c .limited-end2 .ensures) (limited-value _ _ _ _ _ (with-zero (c .before .before .before .before .before .before .before .before .before .before .args .origin .now) (c .before .before .before .before .before .before .before .before .before .before .args .t .now) (c .before .before .before .before .before .before .loop .j) (c .before .before .before .before .before .before .before .before .before .before .args .e) (c .before .before .before .before .before .before .loop .inv .5) (c .before .before .before .before .before .loop-test .left) _ _ (c .before .before .before .put-octet .ensures)))
+returns-4 c = with-zero (c .before .before .before .before .before .before .before .before .before .args .origin .now) (c .before .before .before .before .before .before .before .before .before .args .t .now) (c .before .before .before .before .before .loop .j) (c .before .before .before .before .before .before .before .before .before .args .e) (c .before .before .before .before .before .loop .inv .5) (c .before .before .before .before .loop-test .left) _ (c .before .before .finish2 .result) (c .before .before .finish2 .ensures)
 
 pub labels-spec : {M : Type 1} → statement M
 labels-spec =
@@ -88,8 +82,7 @@ labels-spec =
     same-length
     returns
     enum-known-x
-    put-all-requires
-    limited-end-requires
+    finish-requires
     same-length-2
     returns-2
     enum-known-x-2
@@ -98,7 +91,6 @@ labels-spec =
     returns-3
     loop-less
     loop-again
-    put-octet-requires
-    limited-end-requires-2
+    finish-requires-2
     same-length-4
     returns-4)
