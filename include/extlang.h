@@ -4,9 +4,9 @@
  * Link with libextlang.a, which `rt staticlib extlang` writes to target/staticlib.
  *
  * A function takes a part of memory as a pointer and a count of octets. The
- * pointer is never null, even where the count is 0, and nothing may write those
- * octets while the function runs. No function keeps a pointer, allocates, or
- * changes anything but what it says; each always returns.
+ * pointer is never null, even where the count is 0, and nothing else may write
+ * those octets while the function runs. No function keeps a pointer, allocates,
+ * or changes anything but what it says; each always returns.
  */
 #ifndef EXTLANG_H
 #define EXTLANG_H
@@ -51,6 +51,38 @@ static inline uint32_t extlang_place(uint64_t answer)
  * over all lines, blank and comment lines too.
  */
 uint64_t extlang_judge(const uint8_t *stanza, size_t stanza_len);
+
+/*
+ * Prints RDATA as text under a run of a description's fields: `length` of them,
+ * from number `first` on, counted from 1. A length of 0 is an empty run, which
+ * takes no octets. Any octets may be handed in as the stanza and the RDATA.
+ *
+ * The text goes to out from the octet `at` on, counted from 0. Its room is what
+ * out has from there: none, where that place is past the end. Out must not
+ * overlap the stanza or the RDATA, and may hold anything.
+ *
+ * Number 0: done; the lower half counts the text's octets, at most 1,048,576.
+ *           No NUL stands after them, and no other octet of out has changed.
+ * Number 1: the stanza has more than 8,192 octets, or the RDATA more than
+ *           65,535; the place is 0.
+ * Number 2, 3, 4, 5: the stanza is refused, with the place that extlang_judge
+ *           gives.
+ * Number 6: first is 0, or the run goes past the stanza's last field; the place
+ *           is 0.
+ * Number 8: the RDATA ends before a field is complete.
+ * Number 9: a value breaks its field's rule.
+ * Number 10: something is left after the last field; the place is the run's
+ *           length plus 1.
+ * Number 12: the text is longer than its room; the place is the count of octets
+ *           that it needs.
+ *
+ * At 8 and 9 the place is the number of the field in the run, counted from 1.
+ * Where the number is not 0, no octet of out has changed.
+ */
+uint64_t extlang_print(const uint8_t *stanza, size_t stanza_len,
+                       uint64_t first, uint64_t length,
+                       const uint8_t *rdata, size_t rdata_len,
+                       uint8_t *out, size_t out_len, uint64_t at);
 
 #ifdef __cplusplus
 }
