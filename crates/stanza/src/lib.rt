@@ -286,42 +286,10 @@ fn field_step(s: &[u8], f: FieldVerdict, last: bool, names: &[u16], ends: &[u16]
     }
 }
 
-// The outline of a refused stanza.
-fn rejected(number: u8, line: u16) -> Outline
-    ensures { λ r. ⌜ (r .number ≡ number) × (r .line ≡ line) ⌝ }
-{
-    let h = HeaderDesc {
-        name_at: 0,
-        name_end: 0,
-        number: 0,
-        text_at: 0,
-        text_end: 0,
-    };
-    let f = FieldDesc {
-        form: Form::Int(0),
-        qualifiers_at: 0,
-        qualifiers_end: 0,
-        text_at: 0,
-        text_end: 0,
-    };
-    Outline {
-        number: number,
-        line: line,
-        header: h,
-        fields: [f; 64],
-        names: [0u16; 64],
-        ends: [0u16; 64],
-        count: 0,
-    }
-}
-
 // The judged stanza.
 pub fn judged_outline(s: &[u8]) -> Outline
     ensures { λ r. ⌜ Outlined (now (s .entry)) r ⌝ }
 {
-    if 8192 < s.len() {
-        return rejected(1, 0);
-    }
     let mut header = HeaderDesc {
         name_at: 0,
         name_end: 0,
@@ -340,6 +308,18 @@ pub fn judged_outline(s: &[u8]) -> Outline
     let mut fields = [nothing; 64];
     let mut names = [0u16; 64];
     let mut ends = [0u16; 64];
+    // every way out hands on the same arrays, so that they are copied as a whole
+    if 8192 < s.len() {
+        return Outline {
+            number: 1,
+            line: 0,
+            header: header,
+            fields: fields,
+            names: names,
+            ends: ends,
+            count: 0,
+        };
+    }
     let mut n = 0;
     let mut have = false;
     let mut last = false;
@@ -354,7 +334,15 @@ pub fn judged_outline(s: &[u8]) -> Outline
                 line = line + 1;
             }
             Step::Refuse(k) => {
-                return rejected(k, line);
+                return Outline {
+                    number: k,
+                    line: line,
+                    header: header,
+                    fields: fields,
+                    names: names,
+                    ends: ends,
+                    count: 0,
+                };
             }
             Step::Head(h) => {
                 header = h;
@@ -376,7 +364,15 @@ pub fn judged_outline(s: &[u8]) -> Outline
         }
     }
     if n == 0 {
-        return rejected(2, 0);
+        return Outline {
+            number: 2,
+            line: 0,
+            header: header,
+            fields: fields,
+            names: names,
+            ends: ends,
+            count: 0,
+        };
     }
     Outline {
         number: 0,

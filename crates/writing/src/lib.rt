@@ -3,7 +3,7 @@
 ghost use mathlib.Core.Bool.{cond};
 ghost use mathlib.Core.Path.{_≡_};
 ghost use mathlib.Core.List.{[], _∷_, map};
-ghost use Prim.Native.Nat.{_*_, _-_, _/_, _^_, _<_, _≤_, min};
+ghost use Prim.Native.Nat.{_+_, _*_, _-_, _/_, _^_, _<_, _≤_, min};
 ghost use lib.ListN.{length, set};
 ghost use Rattle.format.specs.Digits.{digits, upperDigit, lowerDigit};
 ghost use Rattle.format.specs.Number.{decimal, fixedDecimal};
@@ -54,8 +54,32 @@ pub fn put_octet(out: &mut [u8], n: usize, b: u8) -> usize
     n + 1
 }
 
+// A whole list of octets, where there is room for all of them: without a test at each, many are stored at once.
+fn store_all(out: &mut [u8], n: usize, s: &[u8]) -> usize
+    requires { ⌜ n + length (now s) ≤ length (now out) ⌝ }
+    ensures { λ r. ⌜ Wrote (now (out .entry)) (now (out .exit)) n r (now (s .entry)) ⌝ }
+{
+    let mut i = 0;
+    while i < s.len() {
+        out[n + i] = s[i];
+        i = i + 1;
+    }
+    n + i
+}
+
 // A whole list of octets.
 pub fn put_all(out: &mut [u8], n: usize, s: &[u8]) -> usize
+    requires { ⌜ (n < 2 ^ 32) × (length (now s) < 2 ^ 32) ⌝ }
+    ensures { λ r. ⌜ Wrote (now (out .entry)) (now (out .exit)) n r (now (s .entry)) ⌝ }
+{
+    if n + s.len() <= out.len() {
+        return store_all(out, n, s);
+    }
+    put_each(out, n, s)
+}
+
+// The same where there may be none.
+fn put_each(out: &mut [u8], n: usize, s: &[u8]) -> usize
     requires { ⌜ (n < 2 ^ 32) × (length (now s) < 2 ^ 32) ⌝ }
     ensures { λ r. ⌜ Wrote (now (out .entry)) (now (out .exit)) n r (now (s .entry)) ⌝ }
 {

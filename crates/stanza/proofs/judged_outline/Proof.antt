@@ -14,7 +14,6 @@ use Rattle.stanza.proofs.judged_outline.Reads as reads
 use Rattle.stanza.proofs.judged_outline.Lts as lts
 use Rattle.octets.proofs.skip.Reads as skip-reads
 use Rattle.stanza.proofs.line_step.Reads as line-step-reads
-use Rattle.stanza.proofs.rejected.Reads as rejected-reads
 use Rattle.stanza.proofs.tail_after.Reads as tail-after-reads
 
 abbrev Inv-loop : tie.InvT-loop
@@ -23,147 +22,135 @@ Inv-loop s header₀ fields₀ names₀ ends₀ n₀ have₀ last₀ at₀ line�
 abbrev μ-loop : tie.MeasureT-loop
 μ-loop s header₀ fields₀ names₀ ends₀ n₀ have₀ last₀ at₀ line₀ header fields names ends n have last at line = length s + 1 - at
 
--- src/lib.rt:288:9
-rejected-requires : tie.Need-rejected-requires Inv-loop μ-loop
-rejected-requires c κs = search needs
-
--- src/lib.rt:288:9
+-- src/lib.rt:313:9
 returns : tie.Need-returns Inv-loop μ-loop
-returns c = refused-outlined (c .before .before .before .args .s .now) (c .rejected .result) 1 0 (c .rejected .ensures) (omega arith) (sym (judged-long (c .before .before .before .args .s .now) (c .before .if1 .taken)))
+returns c = refused-outlined (c .before .before .args .s .now) _ 1 0 (refl, refl) (omega arith) (sym (judged-long (c .before .before .args .s .now) (c .if1 .taken)))
 
--- src/lib.rt:300:5
+-- src/lib.rt:328:5
 loop-holds : tie.Need-loop-holds Inv-loop μ-loop
 loop-holds c = (search needs, search needs, search needs, kept-start _ _ _ _ _ (search needs) (search needs) (search needs))
 
--- src/lib.rt:301:13
+-- src/lib.rt:329:13
 skip-requires : tie.Need-skip-requires Inv-loop μ-loop
 skip-requires c κs = search needs
 
--- src/lib.rt:302:52
+-- src/lib.rt:330:52
 slice-aggregate-line-step : tie.Need-slice-aggregate-line-step Inv-loop μ-loop
 slice-aggregate-line-step c = search needs
 
--- src/lib.rt:302:60
+-- src/lib.rt:330:60
 slice-aggregate-line-step-2 : tie.Need-slice-aggregate-line-step-2 Inv-loop μ-loop
 slice-aggregate-line-step-2 c = search needs
 
--- src/lib.rt:302:13
+-- src/lib.rt:330:13
 line-step-requires : tie.Need-line-step-requires Inv-loop μ-loop
 line-step-requires c κs = (line-within (c .before .before .before .before .before .before .before .args .s .now) (c .before .before .before .before .loop .at) (c .before .before .skip .result) (c .before .before .before .loop-test .taken) (c .before .before .skip .ensures) .0, line-within (c .before .before .before .before .before .before .before .args .s .now) (c .before .before .before .before .loop .at) (c .before .before .skip .result) (c .before .before .before .loop-test .taken) (c .before .before .skip .ensures) .1, c .before .before .before .before .before .if1 .left, omega (arith, c .before .before .before .before .loop .inv .1, c .before .before .before .before .loop .inv .3 .all-names), omega (arith, c .before .before .before .before .loop .inv .1, c .before .before .before .before .loop .inv .3 .all-ends))
 
--- src/lib.rt:305:22
+-- src/lib.rt:333:22
 enum-told : tie.Need-enum-told Inv-loop μ-loop
 enum-told c = search needs
 
--- src/lib.rt:305:22
+-- src/lib.rt:333:22
 add-at : tie.Need-add-at Inv-loop μ-loop
 add-at c = omega (arith, line-within (c .before .before .before .before .before .before .before .before .before .before .args .s .now) (c .before .before .before .before .before .before .before .loop .at) (c .before .before .before .before .before .skip .result) (c .before .before .before .before .before .before .loop-test .taken) (c .before .before .before .before .before .skip .ensures))
 
--- src/lib.rt:306:24
+-- src/lib.rt:334:24
 add-line : tie.Need-add-line Inv-loop μ-loop
 add-line c = search needs
 
--- src/lib.rt:300:5
+-- src/lib.rt:328:5
 loop-less : tie.Need-loop-less Inv-loop μ-loop
 loop-less c = search needs
 
--- src/lib.rt:300:5
+-- src/lib.rt:328:5
 loop-again : tie.Need-loop-again Inv-loop μ-loop
 loop-again c = (omega (arith, line-within (c .before .before .before .before .before .before .before .before .before .before .args .s .now) (c .before .before .before .before .before .before .before .loop .at) (c .before .before .before .before .before .skip .result) (c .before .before .before .before .before .before .loop-test .taken) (c .before .before .before .before .before .skip .ensures)), c .before .before .before .before .before .before .before .loop .inv .1, omega (arith, line-within (c .before .before .before .before .before .before .before .before .before .before .args .s .now) (c .before .before .before .before .before .before .before .loop .at) (c .before .before .before .before .before .skip .result) (c .before .before .before .before .before .before .loop-test .taken) (c .before .before .before .before .before .skip .ensures), c .before .before .before .before .before .before .before .loop .inv .2), turn-skip (c .before .before .before .before .before .before .before .loop .inv .3) (c .before .before .before .before .before .before .loop-test .taken) (c .before .before .before .before .before .skip .result) (c .before .before .before .before .before .skip .ensures) (c .before .before .line-step .result) (c .before .before .line-step .ensures .0) (c .before .before .line-step .ensures .1) (c .enum-told .given .1))
 
--- src/lib.rt:308:26
+-- src/lib.rt:336:26
 enum-known-step : tie.Need-enum-known-step Inv-loop μ-loop
 enum-known-step c = search needs
 
--- src/lib.rt:309:17
-rejected-requires-2 : tie.Need-rejected-requires-2 Inv-loop μ-loop
-rejected-requires-2 c κs = search needs
-
--- src/lib.rt:309:17
+-- src/lib.rt:337:17
 returns-2 : tie.Need-returns-2 Inv-loop μ-loop
-returns-2 c = let z = turn-refuse (c .before .before .before .before .before .before .before .before .before .loop .inv .3) (c .before .before .before .before .before .before .before .before .loop-test .taken) (c .before .before .before .before .before .before .before .skip .result) (c .before .before .before .before .before .before .before .skip .ensures) (c .before .before .before .before .line-step .result) (c .before .before .before .before .line-step .ensures .0) (c .before .before .before .before .line-step .ensures .1) (c .before .before .step .given .1) in refused-outlined (c .before .before .before .before .before .before .before .before .before .before .before .before .args .s .now) (c .rejected2 .result) _ _ (c .rejected2 .ensures) (z .0) (z .1 ∙ sym (judged-lines (c .before .before .before .before .before .before .before .before .before .before .before .before .args .s .now) (c .before .before .before .before .before .before .before .before .before .before .if1 .left)))
+returns-2 c = let z = turn-refuse (c .before .before .before .before .before .before .before .before .loop .inv .3) (c .before .before .before .before .before .before .before .loop-test .taken) (c .before .before .before .before .before .before .skip .result) (c .before .before .before .before .before .before .skip .ensures) (c .before .before .before .line-step .result) (c .before .before .before .line-step .ensures .0) (c .before .before .before .line-step .ensures .1) (c .before .step .given .1) in refused-outlined (c .before .before .before .before .before .before .before .before .before .before .before .args .s .now) _ _ _ (refl, refl) (z .0) (z .1 ∙ sym (judged-lines (c .before .before .before .before .before .before .before .before .before .before .before .args .s .now) (c .before .before .before .before .before .before .before .before .before .if1 .left)))
 
--- src/lib.rt:311:24
+-- src/lib.rt:347:24
 enum-known-step-2 : tie.Need-enum-known-step-2 Inv-loop μ-loop
 enum-known-step-2 c = search needs
 
--- src/lib.rt:314:22
+-- src/lib.rt:350:22
 add-at-2 : tie.Need-add-at-2 Inv-loop μ-loop
 add-at-2 c = omega (arith, line-within (c .before .before .before .before .before .before .before .before .before .before .before .args .s .now) (c .before .before .before .before .before .before .before .before .loop .at) (c .before .before .before .before .before .before .skip .result) (c .before .before .before .before .before .before .before .loop-test .taken) (c .before .before .before .before .before .before .skip .ensures))
 
--- src/lib.rt:315:24
+-- src/lib.rt:351:24
 add-line-2 : tie.Need-add-line-2 Inv-loop μ-loop
 add-line-2 c = search needs
 
--- src/lib.rt:300:5
+-- src/lib.rt:328:5
 loop-less-2 : tie.Need-loop-less-2 Inv-loop μ-loop
 loop-less-2 c = search needs
 
--- src/lib.rt:300:5
+-- src/lib.rt:328:5
 loop-again-2 : tie.Need-loop-again-2 Inv-loop μ-loop
 loop-again-2 c = (omega (arith, line-within (c .before .before .before .before .before .before .before .before .before .before .before .args .s .now) (c .before .before .before .before .before .before .before .before .loop .at) (c .before .before .before .before .before .before .skip .result) (c .before .before .before .before .before .before .before .loop-test .taken) (c .before .before .before .before .before .before .skip .ensures)), c .before .before .before .before .before .before .before .before .loop .inv .1, omega (arith, line-within (c .before .before .before .before .before .before .before .before .before .before .before .args .s .now) (c .before .before .before .before .before .before .before .before .loop .at) (c .before .before .before .before .before .before .skip .result) (c .before .before .before .before .before .before .before .loop-test .taken) (c .before .before .before .before .before .before .skip .ensures), c .before .before .before .before .before .before .before .before .loop .inv .2), turn-head (c .before .before .before .before .before .before .before .before .loop .inv .3) (c .before .before .before .before .before .before .before .loop-test .taken) (c .before .before .before .before .before .before .skip .result) (c .before .before .before .before .before .before .skip .ensures) (c .before .before .before .line-step .result) (c .before .before .before .line-step .ensures .0) (c .before .before .before .line-step .ensures .1) (c .before .step2 .given .1))
 
--- src/lib.rt:317:23
+-- src/lib.rt:353:23
 enum-known-step-3 : tie.Need-enum-known-step-3 Inv-loop μ-loop
 enum-known-step-3 c = search needs
 
--- src/lib.rt:320:17
+-- src/lib.rt:356:17
 mul-fields : tie.Need-mul-fields Inv-loop μ-loop
 mul-fields c = search needs
 
--- src/lib.rt:320:17
+-- src/lib.rt:356:17
 array-set-from-fields : tie.Need-array-set-from-fields Inv-loop μ-loop
 array-set-from-fields c = add-room (c .before .before .before .before .before .before .before .before .before .loop .inv .3) (c .before .before .before .before .before .before .before .before .loop-test .taken) (c .before .before .before .before .before .before .before .skip .result) (c .before .before .before .before .before .before .before .skip .ensures) (c .before .before .before .before .line-step .result) (c .before .before .before .before .line-step .ensures .0) (c .before .before .before .before .line-step .ensures .1) (c .before .before .step3 .given .1)
 
--- src/lib.rt:321:17
+-- src/lib.rt:357:17
 mul-names : tie.Need-mul-names Inv-loop μ-loop
 mul-names c = search needs
 
--- src/lib.rt:321:17
+-- src/lib.rt:357:17
 array-write-names : tie.Need-array-write-names Inv-loop μ-loop
 array-write-names c = add-room (c .before .before .before .before .before .before .before .before .before .loop .inv .3) (c .before .before .before .before .before .before .before .before .loop-test .taken) (c .before .before .before .before .before .before .before .skip .result) (c .before .before .before .before .before .before .before .skip .ensures) (c .before .before .before .before .line-step .result) (c .before .before .before .before .line-step .ensures .0) (c .before .before .before .before .line-step .ensures .1) (c .before .before .step3 .given .1)
 
--- src/lib.rt:322:17
+-- src/lib.rt:358:17
 mul-ends : tie.Need-mul-ends Inv-loop μ-loop
 mul-ends c = search needs
 
--- src/lib.rt:322:17
+-- src/lib.rt:358:17
 array-write-ends : tie.Need-array-write-ends Inv-loop μ-loop
 array-write-ends c = add-room (c .before .before .before .before .before .before .before .before .before .loop .inv .3) (c .before .before .before .before .before .before .before .before .loop-test .taken) (c .before .before .before .before .before .before .before .skip .result) (c .before .before .before .before .before .before .before .skip .ensures) (c .before .before .before .before .line-step .result) (c .before .before .before .before .line-step .ensures .0) (c .before .before .before .before .line-step .ensures .1) (c .before .before .step3 .given .1)
 
--- src/lib.rt:323:17
+-- src/lib.rt:359:17
 tail-after-requires : tie.Need-tail-after-requires Inv-loop μ-loop
 tail-after-requires c κs = search needs
 
--- src/lib.rt:324:21
+-- src/lib.rt:360:21
 add-n : tie.Need-add-n Inv-loop μ-loop
 add-n c = search needs
 
--- src/lib.rt:325:22
+-- src/lib.rt:361:22
 add-at-3 : tie.Need-add-at-3 Inv-loop μ-loop
 add-at-3 c = omega (arith, line-within (c .before .before .before .before .before .before .before .before .before .before .before .before .before .args .s .now) (c .before .before .before .before .before .before .before .before .before .before .loop .at) (c .before .before .before .before .before .before .before .before .skip .result) (c .before .before .before .before .before .before .before .before .before .loop-test .taken) (c .before .before .before .before .before .before .before .before .skip .ensures))
 
--- src/lib.rt:326:24
+-- src/lib.rt:362:24
 add-line-3 : tie.Need-add-line-3 Inv-loop μ-loop
 add-line-3 c = search needs
 
--- src/lib.rt:300:5
+-- src/lib.rt:328:5
 loop-less-3 : tie.Need-loop-less-3 Inv-loop μ-loop
 loop-less-3 c = search needs
 
--- src/lib.rt:300:5
+-- src/lib.rt:328:5
 loop-again-3 : tie.Need-loop-again-3 Inv-loop μ-loop
 loop-again-3 c = (omega (arith, line-within (c .before .before .before .before .before .before .before .before .before .before .before .before .before .args .s .now) (c .before .before .before .before .before .before .before .before .before .before .loop .at) (c .before .before .before .before .before .before .before .before .skip .result) (c .before .before .before .before .before .before .before .before .before .loop-test .taken) (c .before .before .before .before .before .before .before .before .skip .ensures)), omega (arith, add-room (c .before .before .before .before .before .before .before .before .before .before .loop .inv .3) (c .before .before .before .before .before .before .before .before .before .loop-test .taken) (c .before .before .before .before .before .before .before .before .skip .result) (c .before .before .before .before .before .before .before .before .skip .ensures) (c .before .before .before .before .before .line-step .result) (c .before .before .before .before .before .line-step .ensures .0) (c .before .before .before .before .before .line-step .ensures .1) (c .before .before .before .step3 .given .1)), omega (arith, line-within (c .before .before .before .before .before .before .before .before .before .before .before .before .before .args .s .now) (c .before .before .before .before .before .before .before .before .before .before .loop .at) (c .before .before .before .before .before .before .before .before .skip .result) (c .before .before .before .before .before .before .before .before .before .loop-test .taken) (c .before .before .before .before .before .before .before .before .skip .ensures), c .before .before .before .before .before .before .before .before .before .before .loop .inv .2), turn-add (c .before .before .before .before .before .before .before .before .before .before .loop .inv .3) (c .before .before .before .before .before .before .before .before .before .loop-test .taken) (c .before .before .before .before .before .before .before .before .skip .result) (c .before .before .before .before .before .before .before .before .skip .ensures) (c .before .before .before .before .before .line-step .result) (c .before .before .before .before .before .line-step .ensures .0) (c .before .before .before .before .before .line-step .ensures .1) (c .before .before .before .step3 .given .1) _ (c .tail-after .ensures _))
 
--- src/lib.rt:331:9
-rejected-requires-3 : tie.Need-rejected-requires-3 Inv-loop μ-loop
-rejected-requires-3 c κs = search needs
-
--- src/lib.rt:331:9
+-- src/lib.rt:367:9
 returns-3 : tie.Need-returns-3 Inv-loop μ-loop
-returns-3 c = refused-outlined (c .before .before .before .before .before .before .args .s .now) (c .rejected3 .result) 2 0 (c .rejected3 .ensures) (omega arith) (no-fields (c .before .before .before .loop .inv .3) (c .before .before .loop-test .left) (c .before .if2 .taken) ∙ sym (judged-lines (c .before .before .before .before .before .before .args .s .now) (c .before .before .before .before .if1 .left)))
+returns-3 c = refused-outlined (c .before .before .before .before .before .args .s .now) _ 2 0 (refl, refl) (omega arith) (no-fields (c .before .before .loop .inv .3) (c .before .loop-test .left) (c .if2 .taken) ∙ sym (judged-lines (c .before .before .before .before .before .args .s .now) (c .before .before .before .if1 .left)))
 
--- src/lib.rt:284:1
+-- src/lib.rt:290:1
 returns-4 : tie.Need-returns-4 Inv-loop μ-loop
 returns-4 c = record { judges = some-fields (c .before .before .loop .inv .3) (c .before .loop-test .left) (c .if2 .left) ∙ sym (judged-lines (c .before .before .before .before .before .args .s .now) (c .before .before .before .if1 .left)); placed = λ z. c .before .before .loop .inv .3 .placed }
 
@@ -173,7 +160,6 @@ judged-outline-spec =
     (tie.spec
     Inv-loop
     μ-loop
-    rejected-requires
     returns
     loop-holds
     skip-requires
@@ -186,7 +172,6 @@ judged-outline-spec =
     loop-less
     loop-again
     enum-known-step
-    rejected-requires-2
     returns-2
     enum-known-step-2
     add-at-2
@@ -206,6 +191,5 @@ judged-outline-spec =
     add-line-3
     loop-less-3
     loop-again-3
-    rejected-requires-3
     returns-3
     returns-4)

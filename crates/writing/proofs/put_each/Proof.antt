@@ -3,8 +3,8 @@ use lib.ListN.{length, drop}
 use mathlib.Core.Path.{_≡_}
 use Prim.Native.Nat.{_+_, _-_, _≤_}
 use borrow.Author.Needs.{needs}
-use Rattle.writing.proofs.put_all.Statement.{statement}
-use Rattle.writing.proofs.put_all.Tie as tie
+use Rattle.writing.proofs.put_each.Statement.{statement}
+use Rattle.writing.proofs.put_each.Tie as tie
 
 abbrev Inv-loop : tie.InvT-loop
 Inv-loop out₀ n s m₀ i₀ out m i = (i ≤ length s) × (m ≡ n + i) × Left out₀ n s out m (drop i s)
@@ -39,8 +39,8 @@ same-length c = search needs
 returns : tie.Need-returns Inv-loop μ-loop
 returns c = left-none (c .before .loop .inv .2) (none _ _ (c .loop-test .left))
 
-pub put-all-spec : {M : Type 1} → statement M
-put-all-spec =
+pub put-each-spec : {M : Type 1} → statement M
+put-each-spec =
     tie.close
     (tie.spec
     Inv-loop
