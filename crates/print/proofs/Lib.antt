@@ -5,3 +5,4 @@ pub mod Pieces
 pub mod Strings
 pub mod Names
 pub mod Zeros
+pub mod Plain

@@ -10,7 +10,7 @@ use Rattle.format.specs.Text.{piecesFrom, pieces}
 use Rattle.octets.proofs.Slices.{next, none, rest}
 
 -- the front of a part is a part
-front : (p : List ℕ) (i e n : ℕ) → i + n ≤ e → e ≤ length p → take n (slice i e p) ≡ slice i (i + n) p
+pub front : (p : List ℕ) (i e n : ℕ) → i + n ≤ e → e ≤ length p → take n (slice i e p) ≡ slice i (i + n) p
 front p i e zero h l = sym (none p i (i + 0) (omega arith))
 front p i e (suc n) h l =
     let q : i + 1 + n ≡ i + suc n = omega arith in

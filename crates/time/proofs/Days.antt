@@ -8,7 +8,7 @@ use lib.Dec.{eqb}
 use borrow.Author.Tests.{lt-ltb, le-ltb, eqb-true}
 use Rattle.format.specs.Time.{leap, monthDays, monthLength, daysBefore, Day, dayFrom, dayOf, momentText}
 use Rattle.format.proofs.Finite.{at-each}
-use Rattle.time.specs.Years.{yearDays}
+use Rattle.time.specs.Years.{yearDays, daysIn}
 
 -- there are no fewer days before a later month
 days-grow : (m k : ℕ) → daysBefore k ≤ daysBefore (m + k)
@@ -59,11 +59,7 @@ month-at y m h =
     let b : (y * 12 + m) % 12 ≡ m = omega arith in
     rw (a, b)
 
-abbrev daysIn : Bool → ℕ → ℕ
-daysIn b zero = 0
-daysIn b (suc m) = daysIn b m + monthDays b m
-
-in-year : (y m : ℕ) → m ≤ 12 → daysBefore (y * 12 + m) ≡ daysBefore (y * 12) + daysIn (leap (1970 + y)) m
+pub in-year : (y m : ℕ) → m ≤ 12 → daysBefore (y * 12 + m) ≡ daysBefore (y * 12) + daysIn (leap (1970 + y)) m
 in-year y zero h = let q : y * 12 + 0 ≡ y * 12 = omega arith in rw q (omega arith)
 in-year y (suc m) h =
     let q : y * 12 + suc m ≡ suc (y * 12 + m) = omega arith in

@@ -1,8 +1,13 @@
 -- Years of the Gregorian calendar.
-use Prim.Native.Nat.{ℕ}
-use mathlib.Core.Bool.{cond}
-use Rattle.format.specs.Time.{leap}
+use Prim.Native.Nat.{ℕ, zero, suc, _+_}
+use mathlib.Core.Bool.{Bool, cond}
+use Rattle.format.specs.Time.{leap, monthDays}
 
 -- how many days a year has
 abbrev pub yearDays : ℕ → ℕ
 yearDays y = cond (leap y) 366 365
+
+-- how many of them lie before month m, if the year has 29 February and if not
+abbrev pub daysIn : Bool → ℕ → ℕ
+daysIn b zero = 0
+daysIn b (suc m) = daysIn b m + monthDays b m

@@ -11,6 +11,8 @@ ghost use Rattle.time.specs.Years.{yearDays};
 use print::integer::number;
 use writing::put_fixed;
 
+pub mod read;
+
 // Whether a year has 29 February.
 pub fn leap(y: u64) -> bool
     ensures { λ r. ⌜ r ≡ Time.leap y ⌝ }

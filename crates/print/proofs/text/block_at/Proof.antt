@@ -1,0 +1,28 @@
+use mathlib.Core.Bool.{true≢false}
+use mathlib.Core.Path.{_≡_, sym, _∙_}
+use native.Mathlib.Omega.{arith}
+use borrow.Author.Needs.{needs}
+use Rattle.print.proofs.text.block_at.Statement.{statement}
+use Rattle.print.proofs.text.block_at.Tie as tie
+use Rattle.print.proofs.text.block_at.Reads as reads
+use Rattle.print.proofs.text.block_at.Lts as lts
+use Rattle.print.proofs.text.all_plain.Reads as all-plain-reads
+
+-- src/text.rt:53:8
+sub-if1 : tie.Need-sub-if1
+sub-if1 c = search needs
+
+-- src/text.rt:54:9
+returns : tie.Need-returns
+returns c = λ q. absurd (true≢false (sym q))
+
+-- src/text.rt:56:5
+all-plain-requires : tie.Need-all-plain-requires
+all-plain-requires c κs = search needs
+
+-- src/text.rt:49:1
+returns-2 : tie.Need-returns-2
+returns-2 c = λ q. (omega arith, sym (c .all-plain .ensures) ∙ q)
+
+pub block-at-spec : {M : Type 1} → statement M
+block-at-spec = tie.close (tie.spec sub-if1 returns all-plain-requires returns-2)
