@@ -39,7 +39,7 @@ all-octets o₀ o n w v zero x h e = record { octets = e; count = ap (λ (l : �
 all-octets o₀ o n w v (suc k) x h e = absurd (omega arith)
 
 -- a number's octets
-octets-of : (w : ℕ) (o : Option ℕ) → octetsOf w (numberOf o) ≡ (o >>= λ v. some (digits 256 w v))
+pub octets-of : (w : ℕ) (o : Option ℕ) → octetsOf w (numberOf o) ≡ (o >>= λ v. some (digits 256 w v))
 octets-of w none = refl
 octets-of w (some v) = refl
 

@@ -2,7 +2,7 @@
 ghost use Prim.Native.Nat.{ℕ, _^_, _<_, _≤_};
 ghost use mathlib.Core.Path.{_≡_};
 ghost use mathlib.Core.List.{List};
-ghost use mathlib.Core.Option.{some};
+ghost use mathlib.Core.Option.{Option, some};
 ghost use lib.ListN.{length};
 ghost use lib.Seq.{slice};
 ghost use Rattle.format.specs.Digits.{digits};
@@ -45,21 +45,28 @@ pub fn value(out: &mut [u8], n: usize, w: usize, v: Number) -> Value
     }
 }
 
-// A decimal number below m.
-pub fn decimal_below(m: u64, t: &[u8], i: usize, e: usize) -> Number
-    requires { ⌜ (i ≤ e) × (e ≤ length (now t)) ⌝ }
-    ensures { λ r. ⌜ r ≡ numberOf (below m (decimalOf (slice i e (now (t .entry))))) ⌝ }
+// A number that was read, where it is below m.
+pub fn in_range(v: Number, m: u64) -> Number
+    ensures { λ r. ⌜ ((o : Option ℕ) → v ≡ numberOf o → r ≡ numberOf (below m o)) ⌝ }
 {
-    let q = octets::decimal(t, i, e);
-    match q {
-        Number::Value(v) => {
-            if v < m {
-                return Number::Value(v);
+    match v {
+        Number::Value(x) => {
+            if x < m {
+                return Number::Value(x);
             }
             Number::Fault
         }
         Number::Fault => Number::Fault,
     }
+}
+
+// A decimal number below m.
+pub fn decimal_below(m: u64, t: &[u8], i: usize, e: usize) -> Number
+    requires { ⌜ (i ≤ e) × (e ≤ length (now t)) ⌝ }
+    ensures { λ r. ⌜ r ≡ numberOf (below m (decimalOf (slice i e (now (t .entry))))) ⌝ }
+{
+    let v = octets::decimal(t, i, e);
+    in_range(v, m)
 }
 
 // A number below m, else the number of a symbol among the qualifiers of s from a to b.
