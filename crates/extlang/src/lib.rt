@@ -173,13 +173,19 @@ pub fn print(s: &[u8], first: usize, many: usize, p: &[u8], out: &mut [u8], at: 
     }
 }
 
-// The same for C: the number in the upper 32 bits, the place or the count in the lower.
+// An answer in 64 bits: the number in the upper 32, the place or the count in the lower.
+fn packed(r: Reply) -> u64
+    ensures { λ n. ⌜ n ≡ r .number * 4294967296 + r .place ⌝ }
+{
+    (r.number as u64) * 4294967296 + r.place as u64
+}
+
+// The same for C.
 #[no_mangle]
 pub extern "C" fn extlang_judge(s: &[u8]) -> u64
     ensures { λ r. ⌜ r ≡ Entries.judge (now (s .entry)) .number * 4294967296 + Entries.judge (now (s .entry)) .place ⌝ }
 {
-    let r = judge(s);
-    (r.number as u64) * 4294967296 + r.place as u64
+    packed(judge(s))
 }
 
 #[no_mangle]
@@ -193,6 +199,5 @@ pub extern "C" fn extlang_print(
 ) -> u64
     ensures { λ r. ⌜ Packs r (now (out .exit)) (Entries.print (now (s .entry)) first many (now (p .entry)) (now (out .entry)) at) ⌝ }
 {
-    let r = print(s, first as usize, many as usize, p, out, at as usize);
-    (r.number as u64) * 4294967296 + r.place as u64
+    packed(print(s, first as usize, many as usize, p, out, at as usize))
 }
