@@ -45,7 +45,19 @@ fn all_plain(p: &[u8], i: usize) -> bool
     all
 }
 
-// Whether 32 octets are left from i on, and all of them stand for themselves.
+// Whether the first octets from i on stand for themselves, so that a block is worth a test.
+fn begins_plain(p: &[u8], i: usize) -> bool
+    requires { ⌜ i + 4 ≤ length (now p) ⌝ }
+{
+    if is_plain(p[i]) {
+        if is_plain(p[i + 1]) {
+            return is_plain(p[i + 3]);
+        }
+    }
+    false
+}
+
+// Whether 32 octets are left from i on, and all of them stand for themselves. It may say no where they do.
 fn block_at(p: &[u8], i: usize, e: usize) -> bool
     requires { ⌜ (i ≤ e) × (e ≤ length (now p)) ⌝ }
     ensures { λ r. ⌜ (r ≡ true → (i + 32 ≤ e) × (allOf plainText (slice i (i + 32) (now (p .entry))) ≡ true)) ⌝ }
@@ -53,7 +65,10 @@ fn block_at(p: &[u8], i: usize, e: usize) -> bool
     if e - i < 32 {
         return false;
     }
-    all_plain(p, i)
+    if begins_plain(p, i) {
+        return all_plain(p, i);
+    }
+    false
 }
 
 // A place up to which the octets from i on stand for themselves, in whole blocks.
