@@ -1,0 +1,4 @@
+pub mod Values
+pub mod Numbers
+pub mod Parts
+pub mod Read

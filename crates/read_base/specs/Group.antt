@@ -1,0 +1,105 @@
+-- Digits of w bits by an alphabet, which gives the number of each octet, and their octets.
+use Prim.Native.Nat.{ℕ, zero, suc, _+_, _*_, _^_, _≤_, _<_}
+use mathlib.Core.Path.{_≡_}
+use mathlib.Core.Bool.{Bool, cond, false}
+use mathlib.Core.List.{List, [], _∷_, _++_}
+use mathlib.Core.Option.{Option, none, some}
+use lib.ListN.{length, getD}
+use lib.Seq.{slice}
+use lib.Dec.{ltb, eqb}
+use Rattle.format.specs.Lists.{_>>=_, provided, eachOf, span}
+use Rattle.format.specs.Octets.{Below, blank}
+use Rattle.format.specs.Digits.{number, digitValue}
+use Rattle.format.specs.Text.{counted}
+use Rattle.format.specs.Base.{fromDigits}
+use Rattle.writing.specs.Writing.{Wrote}
+
+-- a digit below the base
+abbrev pub charValue : List ℕ → ℕ → ℕ → Option ℕ
+charValue a base x = provided (ltb (getD a x 0) base) (getD a x 0)
+
+abbrev pub leftOut : List ℕ → ℕ → ℕ → Bool
+leftOut a skip x = eqb (getD a x 0) skip
+
+abbrev pub keptFrom : List ℕ → ℕ → List ℕ → ℕ → ℕ → ℕ
+keptFrom a skip t i e = i + length (span (leftOut a skip) (slice i e t) .front)
+
+-- the elements that do not pass
+abbrev pub without : (ℕ → Bool) → List ℕ → List ℕ
+without f [] = []
+without f (x ∷ xs) = cond (f x) (without f xs) (x ∷ without f xs)
+
+abbrev pub digitsBy : List ℕ → ℕ → ℕ → List ℕ → Option (List ℕ)
+digitsBy a skip base s = eachOf (charValue a base) (without (leftOut a skip) s)
+
+abbrev pub octetsBy : List ℕ → ℕ → ℕ → ℕ → List ℕ → Option (List ℕ)
+octetsBy a skip w base s = digitsBy a skip base s >>= fromDigits w
+
+-- octets before those of a value
+abbrev pub after : List ℕ → Option (List ℕ) → Option (List ℕ)
+after xs o = o >>= λ ys. some (xs ++ ys)
+
+-- digits of w bits in base 2 ^ w, of which k are g octets
+pub record Grouping (w base k g : ℕ) : Type 0 where
+  pub based : base ≡ 2 ^ w
+  pub some-bits : 0 < w
+  pub few-bits : w ≤ 6
+  pub some-digits : 0 < k
+  pub few-digits : k ≤ 8
+  pub less : g ≤ k
+  pub whole : w * k ≡ 8 * g
+
+-- the octet at j is no digit and is not left out
+pub record Stops (a : List ℕ) (skip base x : ℕ) : Type 0 where
+  pub kept : leftOut a skip x ≡ false
+  pub high : base ≤ getD a x 0
+
+-- `count` digits with a number stand from i to `at`, k or as many as there are
+pub record Taken (a : List ℕ) (skip base : ℕ) (t : List ℕ) (i e k at count num : ℕ) : Type 0 where
+  pub ds : List ℕ
+  pub from : i + count ≤ at
+  pub within : at ≤ e
+  pub below : Below base ds
+  pub long : length ds ≡ count
+  pub few : count ≤ k
+  pub is : number base ds ≡ num
+  pub read : digitsBy a skip base (slice i at t) ≡ some ds
+  pub stops : at < e → count < k → Stops a skip base (getD t at 0)
+
+-- The digits from i to `at` are `all`: the octets of whole groups of them stand from n to `end`, and `ds` are left.
+pub record Begun (before after′ : List ℕ) (n : ℕ) (a : List ℕ) (skip w base : ℕ) (t : List ℕ) (i e k at end count num : ℕ) : Type 0 where
+  pub xs : List ℕ
+  pub all : List ℕ
+  pub ds : List ℕ
+  pub many : ℕ
+  pub wrote : Wrote before after′ n end xs
+  pub from : i ≤ at
+  pub within : at ≤ e
+  pub bound : end + i + count ≤ n + at
+  pub below : Below base ds
+  pub long : length ds ≡ count
+  pub few : count ≤ k
+  pub is : number base ds ≡ num
+  pub read : digitsBy a skip base (slice i at t) ≡ some all
+  pub counts : length all ≡ k * many + count
+  pub same : (r : List ℕ) → fromDigits w (all ++ r) ≡ after xs (fromDigits w (ds ++ r))
+  pub stops : at < e → count < k → Stops a skip base (getD t at 0)
+
+-- f at n numbers from x on
+abbrev pub numbered : (ℕ → ℕ) → ℕ → ℕ → List ℕ
+numbered f x zero = []
+numbered f x (suc n) = f x ∷ numbered f (x + 1) n
+
+abbrev pub orElse : Option ℕ → ℕ → ℕ
+orElse none d = d
+orElse (some x) d = x
+
+-- 0 to 9, then letters in either case
+abbrev pub letterNumber : ℕ → ℕ
+letterNumber x = cond (blank x) 64 (orElse (digitValue 32 x) 99)
+
+unfoldable pub letters : List ℕ
+letters = numbered letterNumber 0 256
+
+abbrev pub countedBy : ℕ → ℕ → List ℕ → Option (List ℕ)
+countedBy w base s = octetsBy letters 100 w base s >>= counted 1
