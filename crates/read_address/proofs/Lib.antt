@@ -1,4 +1,5 @@
-pub mod Values
 pub mod Numbers
 pub mod Parts
 pub mod Read
+pub mod Doubled
+pub mod Groups

@@ -1,11 +1,11 @@
 -- The number of a part.
-use Prim.Native.Nat.{ℕ, zero, suc, _+_, _*_, _-_, _/_, _%_, _^_, _≤_, _<_}
+use Prim.Native.Nat.{ℕ, zero, suc, _+_, _*_, _-_, _^_, _≤_, _<_}
 use mathlib.Core.Path.{_≡_, refl, sym, ap, _∙_}
 use mathlib.Core.Bool.{Bool, true, false, not, cond}
 use mathlib.Core.List.{List, [], _∷_, _++_, map}
 use mathlib.Core.Option.{Option, none, some}
 use native.Mathlib.Omega.{arith}
-use native.Mathlib.Nat.{pow-suc, pow-le-pow-right, mod-eq-of-lt}
+use native.Mathlib.Nat.{pow-suc, pow-le-pow-right}
 use lib.ListN.{length, getD, length-append, length-map, replicate, length-replicate}
 use lib.Seq.{slice, length-slice}
 use lib.Dec.{leb, ltb, eqb, lit<}
@@ -207,7 +207,6 @@ zeros-gone (suc (suc k)) d ds = zeros-gone (suc k) d ds
 -- ten digits of it
 ten-digits : (ds : List ℕ) → Below 10 ds → length ds ≤ 10 → digits 10 10 (number 10 ds) ≡ replicate (10 - length ds) 0 ++ ds
 ten-digits ds h l =
-    let k : ℕ = 10 - length ds in
     let q : length (replicate (10 - length ds) 0 ++ ds) ≡ 10 = length-append (replicate (10 - length ds) 0) ds ∙ ap (λ n. n + length ds) (length-replicate (10 - length ds) 0) ∙ omega arith in
     ap (digits 10 10) (sym (zeros-value 10 (10 - length ds) ds)) ∙ ap (λ w. digits 10 w (number 10 (replicate (10 - length ds) 0 ++ ds))) (sym q)
     ∙ digits-number 10 (replicate (10 - length ds) 0 ++ ds) (zeros-below 10 (10 - length ds) ds (omega arith) h)
@@ -242,11 +241,11 @@ spelled t v e = by (inRange 1 10 (length t)) refl e
     by false f g = let z : _≡_ {A = ℕ} 0 1 = cc in absurd (omega arith)
 
 -- a number 0 to 255
-was-number : (v : ℕ) (o : Option ℕ) → Value v ≡ numberOf o → o ≡ some v
+pub was-number : (v : ℕ) (o : Option ℕ) → Value v ≡ numberOf o → o ≡ some v
 was-number v none e = let z : _≡_ {A = ℕ} 0 1 = cc in absurd (omega arith)
 was-number v (some x) e = cc
 
-was-fault : (o : Option ℕ) → Fault ≡ numberOf o → o ≡ none
+pub was-fault : (o : Option ℕ) → Fault ≡ numberOf o → o ≡ none
 was-fault none e = refl
 was-fault (some x) e = let z : _≡_ {A = ℕ} 0 1 = cc in absurd (omega arith)
 

@@ -2,23 +2,22 @@
 use Prim.Native.Nat.{ℕ, zero, suc, _+_, _-_, _≤_, _<_}
 use mathlib.Core.Path.{_≡_, refl, sym, ap, _∙_}
 use mathlib.Core.Bool.{Bool, true, false, not}
-use mathlib.Core.List.{List, [], _∷_, _++_, map, append-nil}
+use mathlib.Core.List.{List, [], _∷_, _++_}
 use mathlib.Core.Option.{Option, none, some}
 use native.Mathlib.Omega.{arith}
 use lib.Dec.{eqb, eqb·suc-suc, eqb·suc-zero}
-use lib.ListN.{length, take, drop, getD, length-map}
-use lib.Seq.{slice, take-take, length-slice}
-use borrow.Author.Tests.{eqb-true, ne-eqb}
-use Rattle.format.specs.Lists.{_>>=_, provided, consBoth, eachOf, exactly, flat, flatMap, consFirst, parting, split, spanning, span}
-use Rattle.format.specs.Octets.{Below, splitOn}
+use lib.ListN.{length, take, drop}
+use lib.Seq.{slice, take-take}
+use borrow.Author.Tests.{ne-eqb}
+use Rattle.format.specs.Lists.{provided, consBoth, eachOf, flat, consFirst, parting, split, spanning, span}
+use Rattle.format.specs.Octets.{splitOn}
 use Rattle.octets.proofs.Slices.{next, none as no-octet, lent, span-front, front-within, front-rest}
-use Rattle.writing.specs.Writing.{Wrote, Values}
+use Rattle.writing.specs.Writing.{Values}
 use Rattle.writing.specs.declared.Value.{Value}
 use Rattle.writing.specs.declared.Value.the-variants.{Fault, Upto}
-use Rattle.writing.proofs.Laws.{wrote-length}
 use Rattle.read_address.specs.declared.part.Form.{Form}
 use Rattle.read_address.specs.Part.{apart, partEnd, pieceOf, joined, partsBy}
-use Rattle.read_address.proofs.Values.{after, Begun, begun-piece, begun-fault, begun-all}
+use Rattle.read.proofs.Values.{after, Begun, begun-piece, begun-fault, begun-all}
 use Rattle.read_address.proofs.Numbers.{piece-short}
 
 -- the first part, and those after it
@@ -31,7 +30,7 @@ module _ (c : ℕ) where
   first-more x t [] = refl
   first-more x t (y ∷ ys) = refl
 
-  split-span : (xs : List ℕ) → split (λ x. eqb x c) xs ≡ more (span (apart c) xs .front) (span (apart c) xs .rest)
+  pub split-span : (xs : List ℕ) → split (λ x. eqb x c) xs ≡ more (span (apart c) xs .front) (span (apart c) xs .rest)
   split-span [] = refl
   split-span (x ∷ xs) = by (eqb x c) (split-span xs)
     where
@@ -115,9 +114,6 @@ module _ (c : ℕ) (p : List ℕ → Option (List ℕ)) where
 -- one step of a reader: the part up to z was read, or it was not
 module _ (f : Form) (c k : ℕ) {o₀ o : List ℕ} {n m : ℕ} {all : Option (List ℕ)} (s : List ℕ) (j e z : ℕ) (h : j ≤ e) (l : e ≤ length s) (q : z ≡ partEnd c s j e)
     (b : Begun o₀ o n m all (partsBy c (pieceOf f) k (slice j e s))) (o′ : List ℕ) (x : Value) (p : Values o o′ m x (pieceOf f (slice j z s))) where
-  pub step-length : length o ≡ length o₀
-  step-length = wrote-length (b .wrote)
-
   pub step-fault : x ≡ Fault → all ≡ none
   step-fault y = begun-fault b (part-fault c (pieceOf f) s j e z h l q k (rw y at p))
 

@@ -118,7 +118,7 @@ fn small(t: &[u8], i: usize, e: usize) -> Number
 }
 
 // The number of a part by its form.
-fn number(f: Form, t: &[u8], i: usize, e: usize) -> Number
+pub fn number(f: Form, t: &[u8], i: usize, e: usize) -> Number
     requires { ⌜ (i ≤ e) × (e ≤ length (now t)) ⌝ }
     ensures { λ r. ⌜ r ≡ numberOf (valueOf f (slice i e (now (t .entry)))) ⌝ }
 {
@@ -141,7 +141,7 @@ fn mark(f: Form) -> u8
 }
 
 // A number's octets by the form of its part.
-fn put_number(out: &mut [u8], n: usize, f: Form, v: u64) -> usize
+pub fn put_number(out: &mut [u8], n: usize, f: Form, v: u64) -> usize
     requires { ⌜ n < 2 ^ 32 ⌝ }
     ensures { λ r. ⌜ Wrote (now (out .entry)) (now (out .exit)) n r (digits 256 (widthOf f) v) ⌝ }
 {

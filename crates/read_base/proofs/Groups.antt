@@ -100,7 +100,7 @@ each-append f (x ∷ xs) ys ds es p q = by (f x) (eachOf f xs) refl refl (λ zs 
     by (some d) none a b ih c = cc
     by (some d) (some zs) a b ih c = let z : ds ≡ d ∷ zs = cc in rw (a, ih zs b, z)
 
-each-none : (f : ℕ → Option ℕ) (xs : List ℕ) (y : ℕ) (ys : List ℕ) → f y ≡ none → eachOf f (xs ++ y ∷ ys) ≡ none
+pub each-none : (f : ℕ → Option ℕ) (xs : List ℕ) (y : ℕ) (ys : List ℕ) → f y ≡ none → eachOf f (xs ++ y ∷ ys) ≡ none
 each-none f [] y ys p = rw p
 each-none f (x ∷ xs) y ys p = rw (each-none f xs y ys p) (by (f x))
   where

@@ -47,7 +47,7 @@ same-is (some x) (some y) h = ap some (eqb-true x y h)
 pub all-same : (f g : ℕ → Option ℕ) → allBelow (λ x. same (f x) (g x)) 256 ≡ true → (x : ℕ) → x < 256 → f x ≡ g x
 all-same f g h x l = same-is (f x) (g x) (at-each (λ x. same (f x) (g x)) 256 h x l)
 
-letters16 : (x : ℕ) → x < 256 → charValue letters 16 x ≡ digitValue 16 x
+pub letters16 : (x : ℕ) → x < 256 → charValue letters 16 x ≡ digitValue 16 x
 unfolding letters
 letters16 = all-same (charValue letters 16) (digitValue 16) refl
 

@@ -1,3 +1,5 @@
 pub mod Bits
 pub mod Groups
 pub mod Letters
+pub mod Joined
+pub mod HexRest

@@ -2,3 +2,4 @@
 pub mod base32;
 pub mod group;
 pub mod hex;
+pub mod rest;

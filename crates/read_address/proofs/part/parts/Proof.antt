@@ -1,10 +1,9 @@
-use Prim.Native.Nat.{_+_, _*_, _-_, _≤_}
+use Prim.Native.Nat.{_+_, _*_, _≤_}
 use mathlib.Core.Path.{_≡_}
 use lib.ListN.{length}
 use lib.Seq.{slice}
-use Rattle.writing.proofs.Laws.{wrote-length}
 use Rattle.read_address.specs.Part.{pieceOf, partsBy}
-use Rattle.read_address.proofs.Values.{Begun, begun-none}
+use Rattle.read.proofs.Values.{Begun, begun-none}
 use Rattle.read_address.proofs.Parts.{within, step-fault, step-count, step-on, step-last, step-few, step-many}
 use native.Mathlib.Omega.{arith}
 use borrow.Author.Needs.{needs}

@@ -1,0 +1,13 @@
+-- What the code's answer for all the tokens that are left means, by the definitions of document 01.
+use Prim.Native.Nat.{ℕ}
+use mathlib.Core.Path.{_≡_}
+use mathlib.Core.List.{List, []}
+use Rattle.format.specs.Run.{Got, noToken, badToken, got}
+use Rattle.writing.specs.Writing.{Wrote}
+use Rattle.read_base.specs.declared.rest.Got.{Got as Answer}
+use Rattle.read_base.specs.declared.rest.Got.the-variants.{Missing, Fault, Upto}
+
+abbrev pub Gets : List ℕ → List ℕ → ℕ → Answer → Got → Type 0
+Gets before after place Missing g = g ≡ noToken
+Gets before after place Fault g = g ≡ badToken
+Gets before after place (Upto r) g = (xs : List ℕ) × (g ≡ got xs []) × Wrote before after place r xs
