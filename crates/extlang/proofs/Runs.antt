@@ -29,9 +29,9 @@ use Rattle.types.specs.Types.{kindOf, intWidth, symbolsIn, orNone}
 use Rattle.stanza.specs.declared.FieldDesc.{FieldDesc}
 use Rattle.stanza.specs.declared.Outline.{Outline}
 use Rattle.stanza.specs.Stanza.{noField, descriptionOf, outlineOf, Outlined}
-use Rattle.run.specs.Run.{kindFor, kindsFrom}
+use Rattle.run.specs.Run.{kindFor, kindsFrom, Usable, UsableRun}
 use Rattle.run.proofs.Laws.{kinds-from, kinds-many, kinds-run}
-use Rattle.printing.specs.Printing.{Usable, UsableRun, Accepted}
+use Rattle.printing.specs.Printing.{Accepted}
 use Rattle.printing.proofs.Runs.{octets-all}
 use Rattle.extlang.specs.Entries.{withRoom, runText}
 use Rattle.extlang.proofs.Laws.{accepted, many, refused as not-judged}

@@ -20,9 +20,9 @@ use Rattle.stanza.specs.declared.FieldDesc.{FieldDesc}
 use Rattle.stanza.specs.Stanza.{noField}
 use Rattle.writing.specs.Writing.{Wrote}
 use Rattle.writing.proofs.Laws.{Left, left-piece, wrote-before}
-use Rattle.run.specs.Run.{kindFor, kindsFrom}
+use Rattle.run.specs.Run.{kindFor, kindsFrom, Usable}
 use Rattle.run.proofs.Laws.{next-kind, no-kind, to-end}
-use Rattle.printing.specs.Printing.{Usable, lead}
+use Rattle.printing.specs.Printing.{lead}
 use Rattle.format.proofs.Run.{First, took-first, first, more}
 
 pub lead-joined : (n : ℕ) (f t : List ℕ) → lead n (joined f t) ≡ lead n f ++ lead (n + length (lead n f)) t

@@ -1,28 +1,13 @@
--- What printing asks of the fields of a run.
-use Prim.Native.Nat.{ℕ, zero, suc, _+_, _<_, _≤_}
+-- What printing asks of a run and its octets.
+use Prim.Native.Nat.{ℕ, zero, suc, _≤_}
 use mathlib.Core.Path.{_≡_}
-use mathlib.Core.Bool.{true}
 use mathlib.Core.List.{List, [], _∷_}
-use lib.ListN.{length, getD}
+use lib.ListN.{length}
 use Rattle.format.specs.Run.{parts, partsOf}
-use Rattle.format.specs.Demands.{tailsLast, soundKind}
 use Rattle.stanza.specs.declared.FieldDesc.{FieldDesc}
-use Rattle.stanza.specs.Stanza.{Placed, noField}
-use Rattle.run.specs.Run.{kindFor, kindsFrom}
+use Rattle.run.specs.Run.{kindsFrom, UsableRun}
 
--- a field of a judged stanza: its qualifiers lie in the stanza, and its kind is one that the judge lets pass
-pub record Usable (s : List ℕ) (d : FieldDesc) : Type 0 where
-  pub placed : Placed s d
-  pub sound : soundKind (kindFor s d) ≡ true
-
--- a run of such fields, from number `first` on, from 0
-pub record UsableRun (s : List ℕ) (fs : List FieldDesc) (first many : ℕ) : Type 0 where
-  pub short : length s ≤ 8192
-  pub within : first + many ≤ 64
-  pub fields : (k : ℕ) → k < many → Usable s (getD fs (first + k) noField)
-  pub tails : tailsLast (kindsFrom s fs first many) ≡ true
-
--- and octets that it takes
+-- a run of a judged stanza, and octets that it takes
 pub record Accepted (s : List ℕ) (fs : List FieldDesc) (first many : ℕ) (xs : List ℕ) : Type 0 where
   pub usable : UsableRun s fs first many
   pub short : length xs ≤ 65535

@@ -4,7 +4,8 @@ use Rattle.octets.proofs.Slices.{rest, lent}
 use Rattle.writing.proofs.Laws.{wrote-text}
 use Rattle.format.specs.Hex.{hexText}
 use Rattle.format.specs.Text.{stringText}
-use Rattle.printing.proofs.Fields.{symbolsOf, symbols-of, int-wide, int-four}
+use Rattle.printing.proofs.Fields.{int-wide}
+use Rattle.run.proofs.Fields.{symbolsOf, symbols-of, int-four}
 use Rattle.format.specs.Run.{shown}
 use Rattle.printing.proofs.Fields.{octets-wide, counted-some, name-anyhow}
 use mathlib.Core.Path.{_≡_, sym, ap, _∙_}
