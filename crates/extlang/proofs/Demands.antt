@@ -1,4 +1,4 @@
--- Demand 3 over what `print` promises, proved from that promise alone.
+-- Demands 2 and 3 over what `print` and `read` promise, proved from these promises alone.
 use Prim.Native.Nat.{ℕ, zero, suc, _+_, _-_, _≤_, _<_}
 use mathlib.Core.Path.{_≡_, refl, sym, ap, _∙_, subst}
 use mathlib.Core.Logic.{_↔_, _⊎_, inl, inr}
@@ -15,12 +15,13 @@ use Rattle.format.specs.Octets.{among}
 use Rattle.format.specs.Field.{Kind, Field, kinds}
 use Rattle.format.specs.Judge.{Description, described, judged}
 use Rattle.format.specs.Run.{maxRdata, accepts, joined, textOf}
-use Rattle.format.specs.Entries.{Outcome, room, stored, isRun, run, print}
-use Rattle.format.specs.Demands.{Prints, Divides, wholeList, firstList, secondList, Cuts}
-use Rattle.format.proofs.Demands.{demand-3, prints}
+use Rattle.format.specs.Entries.{done, Outcome, room, stored, isRun, run, printing, print, reading, read}
+use Rattle.format.specs.Demands.{Prints, RoundTrip, Divides, wholeList, firstList, secondList, Cuts}
+use Rattle.format.proofs.Demands.{demand-2, demand-3, prints, read-accepted}
 use Rattle.extlang.specs.declared.Reply.{Reply}
 use Rattle.extlang.specs.Entries.{Leaves}
-use Rattle.extlang.specs.Demands.{Call, accepted, written, Answers, CutCalls, EmptyCall, Demand3}
+use Rattle.extlang.specs.Demands.{Call, accepted, written, Answers, CutCalls, EmptyCall, Demand3, ReadCall, rdataOf, Demand2, OneText, ReadAccepted}
+use Rattle.extlang.proofs.Numbers.{print-told, read-told, zero-done, HasRun, print-run, read-run}
 
 -- the octets of a text that is stored
 stored-text : (out : List ℕ) (at : ℕ) (t : List ℕ) → length t ≤ room out at → take (length t) (drop at (stored out at t)) ≡ t
@@ -163,3 +164,71 @@ module _ (stanza : List ℕ) (d : Description) (j : judged stanza ≡ described 
 
 pub demand-3-of-print : Demand3
 demand-3-of-print s d j k h xs m = (λ whole front back. cut-calls s d j k h xs m whole front back, λ c. empty-call s d j k h xs m c)
+
+-- a run of an accepted stanza
+module _ (stanza : List ℕ) (first many : ℕ) (h : HasRun stanza first many) where
+  abbrev run-kinds : List Kind
+  run-kinds = run first many (kinds (h .description .fields))
+
+  run-answers : (xs : List ℕ) (c : Call stanza first many xs) → Answers run-kinds stanza first many xs c
+  run-answers xs c = answers run-kinds stanza first many xs (prints stanza (h .description) (h .accepted) first many (h .run) xs) c
+
+-- a call that answers 0 is of such a run
+printed-run : (stanza : List ℕ) (first many : ℕ) (xs : List ℕ) (c : Call stanza first many xs) → c .reply .number ≡ 0 → HasRun stanza first many
+unfolding print
+printed-run stanza first many xs c z =
+    let (t, e, l) = zero-done (printing stanza first many xs) (print-told stanza first many xs) (c .out) (c .at) (sym (c .promise .numbers) ∙ z) in print-run stanza first many xs t e
+
+pub one-text-of-print : OneText
+one-text-of-print stanza first many xs p q y z =
+    let h = printed-run stanza first many xs p y in
+    run-answers stanza first many h xs p .text y .1 ∙ sym (run-answers stanza first many h xs q .text z .1)
+
+pub demand-2-of-entries : Demand2
+demand-2-of-entries stanza first many xs b p z origin w q = record {
+  enough-room = λ l.
+      let e = reads ∙ trip .reads taken origin w (q .out) (q .at) l in
+      let n = q .promise .places ∙ ap (λ o. o .place) e in
+      let r = q .promise .octets ∙ ap (λ o. o .lent) e in
+      (q .promise .numbers ∙ ap (λ o. o .number) e, n, rw (n, r) (stored-text (q .out) (q .at) xs l), r);
+  no-room = λ l.
+      let e = reads ∙ trip .reads-no-room taken origin w (q .out) (q .at) l in
+      (q .promise .numbers ∙ ap (λ o. o .number) e, q .promise .places ∙ ap (λ o. o .place) e, q .promise .octets ∙ ap (λ o. o .lent) e);
+}
+  where
+    h : HasRun stanza first many
+    h = printed-run stanza first many xs p z
+
+    ks : List Kind
+    ks = run-kinds stanza first many h
+
+    a : Answers ks stanza first many xs p
+    a = run-answers stanza first many h xs p
+
+    taken : accepts ks xs ≡ true
+    taken = done-accepts ks stanza first many xs p a z
+
+    trip : RoundTrip stanza first many ks xs
+    trip = demand-2 stanza (h .description) (h .accepted) first many (h .run) xs b
+
+    reads : read stanza first many origin (written p) (q .out) (q .at) ≡ read stanza first many origin (textOf ks xs) (q .out) (q .at)
+    reads = ap (λ t. read stanza first many origin t (q .out) (q .at)) (a .text z .1)
+
+-- what `read` wrote is what the definition answers
+read-done : (stanza : List ℕ) (first many : ℕ) (origin text : List ℕ) (c : ReadCall stanza first many origin text) → c .reply .number ≡ 0 → reading stanza first many origin text ≡ done (rdataOf c)
+unfolding read
+read-done stanza first many origin text c z =
+    let (xs, e, l) = zero-done (reading stanza first many origin text) (read-told stanza first many origin text) (c .out) (c .at) (sym (c .promise .numbers) ∙ z) in by xs e l
+  where
+    by : (xs : List ℕ) → reading stanza first many origin text ≡ done xs → length xs ≤ room (c .out) (c .at) → reading stanza first many origin text ≡ done (rdataOf c)
+    by xs e l =
+        let f : read stanza first many origin text (c .out) (c .at) ≡ record { number = 0; place = length xs; lent = stored (c .out) (c .at) xs } = rw (e, le-leb (length xs) (room (c .out) (c .at)) l) in
+        let n = c .promise .places ∙ ap (λ o. o .place) f in
+        let r = c .promise .octets ∙ ap (λ o. o .lent) f in
+        rw (n, r, stored-text (c .out) (c .at) xs l) e
+
+pub read-accepted-of-entries : ReadAccepted
+read-accepted-of-entries stanza first many origin text q z p =
+    let e = read-done stanza first many origin text q z in
+    let h = read-run stanza first many origin text (rdataOf q) e in
+    run-answers stanza first many h (rdataOf q) p .exactly ∙ read-accepted stanza (h .description) (h .accepted) first many origin text (rdataOf q) e

@@ -1,15 +1,16 @@
--- Demand 3 over what `print` promises of its calls, whatever it does otherwise.
+-- Demands 2 and 3 over what `print` and `read` promise of their calls, whatever they do otherwise.
 use Prim.Native.Nat.{ℕ, _+_, _-_, _≤_, _<_}
 use mathlib.Core.Path.{_≡_}
 use mathlib.Core.Logic.{_↔_, _⊎_}
 use mathlib.Core.Bool.{Bool, true, false}
 use mathlib.Core.List.{List, [], _∷_}
 use lib.ListN.{length, take, drop}
-use Rattle.format.specs.Octets.{among}
+use Rattle.format.specs.Octets.{Octets, among}
 use Rattle.format.specs.Field.{Kind, kinds}
+use Rattle.format.specs.Name.{isWireName}
 use Rattle.format.specs.Judge.{Description, described, judged}
 use Rattle.format.specs.Run.{maxRdata, accepts, joined, textOf}
-use Rattle.format.specs.Entries.{room, stored, print}
+use Rattle.format.specs.Entries.{room, stored, print, read}
 use Rattle.format.specs.Demands.{wholeList, firstList, secondList}
 use Rattle.extlang.specs.declared.Reply.{Reply}
 use Rattle.extlang.specs.Entries.{Leaves}
@@ -63,3 +64,34 @@ Demand3 = (stanza : List ℕ) (d : Description) → judged stanza ≡ described 
     → ((whole : Call stanza 1 (length (kinds (d .fields))) xs) (front : (e : ℕ) → Call stanza 1 k (take e xs))
     (back : (e : ℕ) → Call stanza (k + 1) (length (kinds (d .fields)) - k) (drop e xs)) → CutCalls stanza (kinds (d .fields)) k xs whole front back)
     × ((c : Call stanza (k + 1) 0 xs) → EmptyCall stanza k xs c)
+
+-- a call of `read`: the same
+pub record ReadCall (stanza : List ℕ) (first many : ℕ) (origin text : List ℕ) : Type 0 where
+  pub out : List ℕ
+  pub at : ℕ
+  pub reply : Reply
+  pub after : List ℕ
+  pub promise : Leaves reply after (read stanza first many origin text out at)
+
+-- the RDATA written
+abbrev pub rdataOf : {stanza : List ℕ} {first many : ℕ} {origin text : List ℕ} → ReadCall stanza first many origin text → List ℕ
+rdataOf c = take (c .reply .place) (drop (c .at) (c .after))
+
+-- ".. given room, returns the same octets": 0, their number, and only they change; else 12, "octets needed", and nothing does
+pub record Returns (stanza : List ℕ) (first many : ℕ) (origin text xs : List ℕ) (c : ReadCall stanza first many origin text) : Type 0 where
+  pub enough-room : length xs ≤ room (c .out) (c .at) → (c .reply .number ≡ 0) × (c .reply .place ≡ length xs) × (rdataOf c ≡ xs) × (c .after ≡ stored (c .out) (c .at) xs)
+  pub no-room : room (c .out) (c .at) < length xs → (c .reply .number ≡ 12) × (c .reply .place ≡ length xs) × (c .after ≡ c .out)
+
+-- "reading that text under any valid origin": of any call of `print` that answers 0 and any call of `read` on the text that it wrote
+abbrev pub Demand2 : Type 0
+Demand2 = (stanza : List ℕ) (first many : ℕ) (xs : List ℕ) → Octets xs → (p : Call stanza first many xs) → p .reply .number ≡ 0 → (origin : List ℕ) → isWireName origin ≡ true
+    → (q : ReadCall stanza first many origin (written p)) → Returns stanza first many origin (written p) xs q
+
+-- "Accepted RDATA prints as the one text fixed there": whatever the buffers and places, two calls write the same
+abbrev pub OneText : Type 0
+OneText = (stanza : List ℕ) (first many : ℕ) (xs : List ℕ) (p q : Call stanza first many xs) → p .reply .number ≡ 0 → q .reply .number ≡ 0 → written p ≡ written q
+
+-- What `read` writes, `print` accepts under the same run.
+abbrev pub ReadAccepted : Type 0
+ReadAccepted = (stanza : List ℕ) (first many : ℕ) (origin text : List ℕ) (q : ReadCall stanza first many origin text) → q .reply .number ≡ 0
+    → (p : Call stanza first many (rdataOf q)) → accepted p ≡ true
