@@ -45,14 +45,14 @@ few-digits base q v h k l =
     lt-of-lt-of-le l (le-trans a b)
 
 -- one part after another
-slice-append : (t : List ℕ) (a i j : ℕ) → a ≤ i → i ≤ j → j ≤ length t → slice a j t ≡ slice a i t ++ slice i j t
+pub slice-append : (t : List ℕ) (a i j : ℕ) → a ≤ i → i ≤ j → j ≤ length t → slice a j t ≡ slice a i t ++ slice i j t
 slice-append t a i j h k l =
     let e : i + (j - i) ≡ j = omega arith in
     let n : a ≤ length (take i t) = omega (arith, length-take-le i t (omega arith)) in
     ap (λ m. drop a (take m t)) (sym e) ∙ ap (drop a) (take-add i (j - i) t) ∙ drop-append-le a (take i t) (take (j - i) (drop i t)) n ∙ ap (λ ys. slice a i t ++ ys) (lent t i j k)
 
 module _ (f : ℕ → Bool) where
-  without-append : (xs ys : List ℕ) → without f (xs ++ ys) ≡ without f xs ++ without f ys
+  pub without-append : (xs ys : List ℕ) → without f (xs ++ ys) ≡ without f xs ++ without f ys
   without-append [] ys = refl
   without-append (x ∷ xs) ys = by (f x) (without-append xs ys)
     where
@@ -77,7 +77,7 @@ module _ (f : ℕ → Bool) where
       by false p ih q = let z : x ≡ y = cc in ap f (sym z) ∙ p
 
   module _ (t : List ℕ) (i e j : ℕ) (h : i ≤ e) (l : e ≤ length t) (p : j ≡ i + length (span f (slice i e t) .front)) where
-    run-within : (i ≤ j) × (j ≤ e)
+    pub run-within : (i ≤ j) × (j ≤ e)
     run-within = (omega arith, omega (arith, front-within f t i e h l))
 
     run-is : span f (slice i e t) .front ≡ slice i j t
@@ -88,8 +88,17 @@ module _ (f : ℕ → Bool) where
     run-out : without f (slice i j t) ≡ []
     run-out = ap (without f) (sym run-is) ∙ without-front (slice i e t)
 
-    run-stops : j < e → f (getD t j 0) ≡ false
+    pub run-stops : j < e → f (getD t j 0) ≡ false
     run-stops k = rest-head (slice i e t) (getD t j 0) (slice (j + 1) e t) (sym (front-rest f t i e) ∙ ap (λ m. slice m e t) (sym p) ∙ next t j e k l)
+
+    -- what is left out stands before the first that is not
+    pub run-skipped : without f (slice i e t) ≡ without f (slice j e t)
+    run-skipped =
+        ap (without f) (slice-append t i j e (run-within .0) (run-within .1) l) ∙ without-append (slice i j t) (slice j e t)
+        ∙ ap (λ xs. xs ++ without f (slice j e t)) run-out
+
+  pub without-next : (t : List ℕ) (j e : ℕ) → j < e → e ≤ length t → f (getD t j 0) ≡ false → without f (slice j e t) ≡ getD t j 0 ∷ without f (slice (j + 1) e t)
+  without-next t j e h l p = rw (next t j e h l, p)
 
 each-append : (f : ℕ → Option ℕ) (xs ys ds es : List ℕ) → eachOf f xs ≡ some ds → eachOf f ys ≡ some es → eachOf f (xs ++ ys) ≡ some (ds ++ es)
 each-append f [] ys ds es p q = let e : ds ≡ [] = cc in rw e q

@@ -1,7 +1,7 @@
 -- Hex digits of all the tokens that are left.
 use Prim.Native.Nat.{ℕ, _+_, _≤_, _<_}
-use mathlib.Core.Path.{_≡_, refl, sym, ap, subst, _∙_}
-use mathlib.Core.Bool.{Bool, true, false, not, cond, _||_}
+use mathlib.Core.Path.{_≡_, refl, sym, ap, _∙_}
+use mathlib.Core.Bool.{true, false, not, _||_}
 use mathlib.Core.List.{List, [], _∷_, _++_}
 use mathlib.Core.Option.{Option, none, some}
 use native.Mathlib.Omega.{arith}
@@ -9,39 +9,24 @@ use native.Mathlib.Decide.{decLe}
 use lib.ListN.{length, getD, drop}
 use lib.Seq.{slice, take-length}
 use borrow.Author.Tests.{le-leb, lt-leb}
-use Rattle.format.specs.Lists.{_>>=_, consBoth, eachOf}
-use Rattle.format.specs.Octets.{Octets, blank}
+use Rattle.format.specs.Lists.{_>>=_, consBoth}
+use Rattle.format.specs.Octets.{blank}
 use Rattle.format.specs.Token.{tokens}
 use Rattle.format.specs.Digits.{digitValue}
-use Rattle.format.specs.Text.{notEmpty}
 use Rattle.format.specs.Base.{fromDigits}
 use Rattle.format.specs.Hex.{hexPair, fromHex}
-use Rattle.format.specs.Run.{Got, noToken, badToken, got, joinedBares}
+use Rattle.format.specs.Run.{noToken, badToken, joinedBares}
 use Rattle.format.proofs.Lists.{implied}
-use Rattle.format.proofs.Finite.{allBelow, at-each}
+use Rattle.format.proofs.Finite.{at-each}
 use Rattle.format.proofs.Token.{plainly}
-use Rattle.writing.specs.Writing.{Wrote, Values}
+use Rattle.writing.specs.Writing.{Values}
 use Rattle.writing.specs.declared.Value.the-variants.{Upto}
-use Rattle.read_base.specs.Group.{charValue, leftOut, without, octetsBy, letters}
+use Rattle.read_base.specs.Group.{leftOut, without, octetsBy, letters}
 use Rattle.read_base.specs.Rest.{Gets}
 use Rattle.read_base.specs.declared.rest.Got.the-variants.{Upto as UptoAll}
 use Rattle.read_base.proofs.Groups.{each-none}
-use Rattle.read_base.proofs.Letters.{letters16, hex-digits, octets-part}
-use Rattle.read_base.proofs.Joined.{joinedText, joined-is}
-
-abbrev there : Option ℕ → Bool
-there none = false
-there (some x) = true
-
-abbrev sameBool : Bool → Bool → Bool
-sameBool true b = b
-sameBool false b = not b
-
-same-bool : (a b : Bool) → sameBool a b ≡ true → a ≡ b
-same-bool true true h = refl
-same-bool true false h = cc
-same-bool false true h = cc
-same-bool false false h = refl
+use Rattle.read_base.proofs.Letters.{there, no-digit, sameBool, same-bool, each-blank, letters16, hex-digits, octets-part}
+use Rattle.read_base.proofs.Joined.{joinedText, joined-is, text-fault, text-got, nothing-stored}
 
 far : (x : ℕ) → 256 ≤ x → digitValue 16 x ≡ none
 far x h = rw (le-leb 48 x (omega arith), lt-leb x 57 (omega arith), le-leb 65 x (omega arith), lt-leb x 90 (omega arith), le-leb 97 x (omega arith), lt-leb x 122 (omega arith))
@@ -53,25 +38,12 @@ plain-digit x h = by (decLe 256 x)
     by (yes k) = let q : there none ≡ true = ap there (sym (far x k)) ∙ h in cc
     by (no k) = implied (there (digitValue 16 x)) (plainly x) (at-each (λ y. not (there (digitValue 16 y)) || plainly y) 256 refl x (omega arith)) h
 
-no-digit : (o : Option ℕ) → there o ≡ false → o ≡ none
-no-digit none h = refl
-no-digit (some x) h = cc
-
 bad-digit : (p : List ℕ) (x : ℕ) (ys : List ℕ) → there (digitValue 16 x) ≡ false → fromHex (p ++ x ∷ ys) ≡ none
 bad-digit p x ys h = hex-digits (p ++ x ∷ ys) ∙ ap (λ o. o >>= fromDigits 4) (each-none (digitValue 16) p x ys (no-digit (digitValue 16 x) h))
 
 blank-left : (x : ℕ) → x < 256 → leftOut letters 64 x ≡ blank x
 unfolding letters
 blank-left x h = same-bool (leftOut letters 64 x) (blank x) (at-each (λ y. sameBool (leftOut letters 64 y) (blank y)) 256 refl x h)
-
-each-blank : (s : List ℕ) → Octets s → eachOf (charValue letters 16) (without (leftOut letters 64) s) ≡ eachOf (digitValue 16) (without blank s)
-each-blank [] o = refl
-each-blank (x ∷ s) o = rw (blank-left x (o .0)) (by (blank x) (letters16 x (o .0)) (each-blank s (o .1)))
-  where
-    by : (b : Bool) → charValue letters 16 x ≡ digitValue 16 x → eachOf (charValue letters 16) (without (leftOut letters 64) s) ≡ eachOf (digitValue 16) (without blank s)
-        → eachOf (charValue letters 16) (cond b (without (leftOut letters 64) s) (x ∷ without (leftOut letters 64) s)) ≡ eachOf (digitValue 16) (cond b (without blank s) (x ∷ without blank s))
-    by true e ih = ih
-    by false e ih = rw (e, ih)
 
 some-hex : (xs : List ℕ) → fromHex xs ≡ some [] → joinedText fromHex xs ≡ noToken
 some-hex [] e = refl
@@ -83,19 +55,9 @@ some-hex (a ∷ b ∷ xs) e = by (hexPair (a ∷ b ∷ [])) (fromHex xs) e
     by (some x) none q = cc
     by (some x) (some ys) q = cc
 
--- no octets of a text that is there
-text-fault : (f : List ℕ → Option (List ℕ)) (xs : List ℕ) → f [] ≡ some [] → f xs ≡ none → joinedText f xs ≡ badToken
-text-fault f [] z e = cc
-text-fault f (x ∷ xs) z e = rw e
-
-text-got : (f : List ℕ → Option (List ℕ)) (xs ys : List ℕ) → f [] ≡ some [] → f xs ≡ some ys → 0 < length ys → joinedText f xs ≡ got ys []
-text-got f xs [] z e h = absurd (omega arith)
-text-got f [] (y ∷ ys) z e h = cc
-text-got f (x ∷ xs) (y ∷ ys) z e h = rw e
-
 module _ (t : List ℕ) (i : ℕ) (o : (k : ℕ) → getD t k 0 < 256) where
   text : octetsBy letters 64 4 16 (slice i (length t) t) ≡ fromHex (without blank (drop i t))
-  text = ap (λ x. x >>= fromDigits 4) (each-blank (slice i (length t) t) (octets-part t i (length t) o)) ∙ sym (hex-digits (without blank (slice i (length t) t))) ∙ ap (λ s. fromHex (without blank (drop i s))) (take-length t)
+  text = ap (λ x. x >>= fromDigits 4) (each-blank letters blank-left 16 (digitValue 16) letters16 (slice i (length t) t) (octets-part t i (length t) o)) ∙ sym (hex-digits (without blank (slice i (length t) t))) ∙ ap (λ s. fromHex (without blank (drop i s))) (take-length t)
 
   all : joinedBares fromHex (tokens (drop i t)) ≡ joinedText fromHex (without blank (drop i t))
   all = joined-is fromHex (λ x. there (digitValue 16 x)) plain-digit bad-digit (drop i t)
@@ -105,11 +67,7 @@ module _ (t : List ℕ) (i : ℕ) (o : (k : ℕ) → getD t k 0 < 256) where
 
   module _ (o₀ o₁ : List ℕ) (n m : ℕ) (h : Values o₀ o₁ n (Upto m) (octetsBy letters 64 4 16 (slice i (length t) t))) where
     pub hex-missing : m ≤ n → joinedBares fromHex (tokens (drop i t)) ≡ noToken
-    hex-missing l = all ∙ some-hex (without blank (drop i t)) (sym text ∙ h .1 ∙ ap some (empty (h .0) (h .2 .count)))
-      where
-        empty : (xs : List ℕ) → m ≡ n + length xs → xs ≡ []
-        empty [] c = refl
-        empty (x ∷ xs) c = absurd (omega arith)
+    hex-missing l = all ∙ some-hex (without blank (drop i t)) (sym text ∙ h .1 ∙ ap some (nothing-stored (h .0) n m (h .2 .count) l))
 
     pub hex-got : n < m → Gets o₀ o₁ n (UptoAll m) (joinedBares fromHex (tokens (drop i t)))
     hex-got l = (h .0, all ∙ text-got fromHex (without blank (drop i t)) (h .0) refl (sym text ∙ h .1) (omega (arith, h .2 .count)), h .2)

@@ -198,3 +198,17 @@ module _ (f : List ℕ → Option (List ℕ)) (good : ℕ → Bool) (plain : (x 
       by [] (x ∷ xs) n e = cc
       by (t ∷ ts) [] n e = cc
       by (t ∷ ts) (x ∷ xs) n e = ap (λ o. gotOr o []) (of (eachOf bareOf (t ∷ ts)) ∙ ap (λ o. o >>= notEmpty) e)
+
+-- a text that a reader of no octets makes none of
+pub text-fault : (f : List ℕ → Option (List ℕ)) (xs : List ℕ) → f [] ≡ some [] → f xs ≡ none → joinedText f xs ≡ badToken
+text-fault f [] z e = cc
+text-fault f (x ∷ xs) z e = rw e
+
+pub text-got : (f : List ℕ → Option (List ℕ)) (xs ys : List ℕ) → f [] ≡ some [] → f xs ≡ some ys → 0 < length ys → joinedText f xs ≡ got ys []
+text-got f xs [] z e h = absurd (omega arith)
+text-got f [] (y ∷ ys) z e h = cc
+text-got f (x ∷ xs) (y ∷ ys) z e h = rw e
+
+pub nothing-stored : (xs : List ℕ) (n m : ℕ) → m ≡ n + length xs → m ≤ n → xs ≡ []
+nothing-stored [] n m c l = refl
+nothing-stored (x ∷ xs) n m c l = absurd (omega arith)

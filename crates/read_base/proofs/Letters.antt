@@ -10,7 +10,7 @@ use lib.ListN.{length, getD, set, take, drop}
 use lib.Seq.{slice}
 use borrow.Author.Tests.{le-leb, lt-leb, eqb-true, ltb-true}
 use Rattle.format.specs.Lists.{_>>=_, provided, consBoth, eachOf}
-use Rattle.format.specs.Octets.{Octets, digit, letter, lowered}
+use Rattle.format.specs.Octets.{Octets, blank, digit, letter, lowered}
 use Rattle.format.specs.Digits.{digitValue, number}
 use Rattle.format.specs.Text.{counted}
 use Rattle.format.specs.Base.{fromDigits}
@@ -46,6 +46,39 @@ same-is (some x) (some y) h = ap some (eqb-true x y h)
 
 pub all-same : (f g : ℕ → Option ℕ) → allBelow (λ x. same (f x) (g x)) 256 ≡ true → (x : ℕ) → x < 256 → f x ≡ g x
 all-same f g h x l = same-is (f x) (g x) (at-each (λ x. same (f x) (g x)) 256 h x l)
+
+abbrev pub there : Option ℕ → Bool
+there none = false
+there (some x) = true
+
+pub no-digit : (o : Option ℕ) → there o ≡ false → o ≡ none
+no-digit none h = refl
+no-digit (some x) h = cc
+
+abbrev pub sameBool : Bool → Bool → Bool
+sameBool true b = b
+sameBool false b = not b
+
+pub same-bool : (a b : Bool) → sameBool a b ≡ true → a ≡ b
+same-bool true true h = refl
+same-bool true false h = cc
+same-bool false true h = cc
+same-bool false false h = refl
+
+-- an alphabet in which 64 stands for a blank
+module _ (a : List ℕ) (left : (x : ℕ) → x < 256 → leftOut a 64 x ≡ blank x) where
+  pub without-blanks : (s : List ℕ) → Octets s → without (leftOut a 64) s ≡ without blank s
+  without-blanks [] o = refl
+  without-blanks (x ∷ s) o = rw (left x (o .0), without-blanks s (o .1))
+
+  pub each-blank : (base : ℕ) (v : ℕ → Option ℕ) → ((x : ℕ) → x < 256 → charValue a base x ≡ v x) → (s : List ℕ) → Octets s → eachOf (charValue a base) (without (leftOut a 64) s) ≡ eachOf v (without blank s)
+  each-blank base v d [] o = refl
+  each-blank base v d (x ∷ s) o = rw (left x (o .0)) (by (blank x) (d x (o .0)) (each-blank base v d s (o .1)))
+    where
+      by : (b : Bool) → charValue a base x ≡ v x → eachOf (charValue a base) (without (leftOut a 64) s) ≡ eachOf v (without blank s)
+          → eachOf (charValue a base) (cond b (without (leftOut a 64) s) (x ∷ without (leftOut a 64) s)) ≡ eachOf v (cond b (without blank s) (x ∷ without blank s))
+      by true e ih = ih
+      by false e ih = rw (e, ih)
 
 pub letters16 : (x : ℕ) → x < 256 → charValue letters 16 x ≡ digitValue 16 x
 unfolding letters

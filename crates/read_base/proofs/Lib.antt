@@ -3,3 +3,4 @@ pub mod Groups
 pub mod Letters
 pub mod Joined
 pub mod HexRest
+pub mod Base64Rest

@@ -11,7 +11,7 @@ use Rattle.format.specs.Lists.{_>>=_, provided, eachOf, span}
 use Rattle.format.specs.Octets.{Below, blank}
 use Rattle.format.specs.Digits.{number, digitValue}
 use Rattle.format.specs.Text.{counted}
-use Rattle.format.specs.Base.{fromDigits}
+use Rattle.format.specs.Base.{fromDigits, base64Value}
 use Rattle.writing.specs.Writing.{Wrote}
 
 -- a digit below the base
@@ -100,6 +100,13 @@ letterNumber x = cond (blank x) 64 (orElse (digitValue 32 x) 99)
 
 unfoldable pub letters : List ℕ
 letters = numbered letterNumber 0 256
+
+-- RFC 4648's base 64 alphabet
+abbrev pub base64Number : ℕ → ℕ
+base64Number x = cond (blank x) 64 (orElse (base64Value x) 99)
+
+unfoldable pub base64Numbers : List ℕ
+base64Numbers = numbered base64Number 0 256
 
 abbrev pub countedBy : ℕ → ℕ → List ℕ → Option (List ℕ)
 countedBy w base s = octetsBy letters 100 w base s >>= counted 1

@@ -35,7 +35,7 @@ fn number_of(a: &[u8], b: u8) -> usize
 }
 
 // The first place from i on and before e whose octet is not left out.
-fn kept_from(t: &[u8], i: usize, e: usize, a: &[u8], skip: usize) -> usize
+pub fn kept_from(t: &[u8], i: usize, e: usize, a: &[u8], skip: usize) -> usize
     requires { ⌜ (i ≤ e) × (e ≤ length (now t)) × (256 ≤ length (now a)) ⌝ }
     ensures { λ r. ⌜ r ≡ keptFrom (now (a .entry)) skip (now (t .entry)) i e ⌝ }
 {
