@@ -1,0 +1,99 @@
+-- What the code's answers for a field and for a run of fields mean, by the definitions of document 01.
+use Prim.Native.Nat.{ℕ, _<_, _≤_}
+use mathlib.Core.Path.{_≡_}
+use mathlib.Core.Bool.{Bool, true, false}
+use mathlib.Core.List.{List}
+use mathlib.Core.Option.{Option, none}
+use lib.ListN.{length, drop}
+use Rattle.format.specs.Lists.{_>>=_, flat}
+use Rattle.format.specs.Field.{Kind, int, rrtype, bitmap, a4, aa, aaaa, name, str, strs, raw, b32, b64, hex, hexc, eui, time}
+use Rattle.format.specs.Number.{readInteger}
+use Rattle.format.specs.Token.{Token, tokens}
+use Rattle.format.specs.Rrtype.{readType}
+use Rattle.format.specs.Address.{readA, readAA, readAAAA}
+use Rattle.format.specs.Text.{readString, readRaw}
+use Rattle.format.specs.Name.{readName}
+use Rattle.format.specs.Base.{readBase32}
+use Rattle.format.specs.Hex.{readCountedHex}
+use Rattle.format.specs.Eui.{readEui}
+use Rattle.format.specs.Time.{readTime}
+use Rattle.format.specs.Run.{Got, noToken, badToken, got, bareOf, Parts, refused, parts, maxRdata}
+use Rattle.writing.specs.Writing.{Wrote}
+use Rattle.writing.specs.declared.Value.{Value}
+use Rattle.writing.specs.declared.Value.the-variants.{Fault as NoValue, Upto as ValueUpto}
+use Rattle.read_base.specs.declared.rest.Got.{Got as Rest}
+use Rattle.read_base.specs.declared.rest.Got.the-variants.{Missing as NoToken, Fault as BadToken, Upto as RestUpto}
+use Rattle.reading.specs.declared.Field.{Field}
+use Rattle.reading.specs.declared.Field.the-variants.{Missing, Fault, Upto}
+use Rattle.reading.specs.declared.Run.{Run}
+use Rattle.reading.specs.declared.Run.the-variants.{Refused, Done}
+
+-- the value of the one token that a field takes; the fields that take all the tokens have none
+abbrev pub tokenValue : Kind → List ℕ → Token → Option (List ℕ)
+tokenValue (int w l) o t = bareOf t >>= readInteger w l
+tokenValue rrtype o t = bareOf t >>= readType
+tokenValue bitmap o t = none
+tokenValue a4 o t = bareOf t >>= readA
+tokenValue aa o t = bareOf t >>= readAA
+tokenValue aaaa o t = bareOf t >>= readAAAA
+tokenValue (name m) o t = bareOf t >>= readName o
+tokenValue str o t = readString t
+tokenValue strs o t = none
+tokenValue raw o t = readRaw t
+tokenValue b32 o t = bareOf t >>= readBase32
+tokenValue b64 o t = none
+tokenValue hex o t = none
+tokenValue hexc o t = bareOf t >>= readCountedHex
+tokenValue (eui w) o t = bareOf t >>= readEui w
+tokenValue time o t = bareOf t >>= readTime
+
+-- "other tails all that are left"
+abbrev pub takesOne : Kind → Bool
+takesOne (int w l) = true
+takesOne rrtype = true
+takesOne bitmap = false
+takesOne a4 = true
+takesOne aa = true
+takesOne aaaa = true
+takesOne (name m) = true
+takesOne str = true
+takesOne strs = false
+takesOne raw = true
+takesOne b32 = true
+takesOne b64 = false
+takesOne hex = false
+takesOne hexc = true
+takesOne (eui w) = true
+takesOne time = true
+
+-- a reader's answer, after which the tokens from j on are left
+abbrev pub placedAt : Value → ℕ → Field
+placedAt NoValue j = Fault
+placedAt (ValueUpto m) j = Upto m j
+
+abbrev pub gotAt : Rest → ℕ → Field
+gotAt NoToken j = Missing
+gotAt BadToken j = Fault
+gotAt (RestUpto m) j = Upto m j
+
+-- a field's octets stand in the buffer from a place on, and the tokens from j on are left; or none was there, or a rule is broken
+abbrev pub Gives : List ℕ → List ℕ → ℕ → List ℕ → Field → Got → Type 0
+Gives before after place t Missing g = g ≡ noToken
+Gives before after place t Fault g = g ≡ badToken
+Gives before after place t (Upto r j) g = (xs : List ℕ) × (g ≡ got xs (tokens (drop j t))) × Wrote before after place r xs × (j ≤ length t)
+
+-- a token is gone; or none was there, and nothing is stored
+abbrev pub Onward : List ℕ → List ℕ → ℕ → Field → Type 0
+Onward before after i Missing = after ≡ before
+Onward before after i Fault = Unit {0}
+Onward before after i (Upto r j) = i < j
+
+-- the octets of a run's fields stand in the buffer, and the count is theirs, up to 65,535; a higher one says that they are more
+pub record Stands (before after : List ℕ) (count : ℕ) (xs : List ℕ) : Type 0 where
+  pub whole : count ≤ maxRdata → Wrote before after 0 count xs
+  pub over : maxRdata < count → maxRdata < length xs
+
+-- they do; or a refusal's number and place
+abbrev pub Reads : List ℕ → List ℕ → Run → Parts → Type 0
+Reads before after (Refused n i) p = p ≡ refused n i
+Reads before after (Done m) p = (ps : List (List ℕ)) × (p ≡ parts ps) × Stands before after m (flat ps)
