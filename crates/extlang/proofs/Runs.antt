@@ -119,7 +119,7 @@ module _ (s : List ℕ) (o : Outline) (q : Outlined s o) where
     pub count-most : o .count ≤ 64
     count-most = omega (arith, sound .most-fields, many s o (q .judges))
 
-    kinds-length : length (kinds (descriptionOf s o .fields)) ≡ o .count
+    pub kinds-length : length (kinds (descriptionOf s o .fields)) ≡ o .count
     kinds-length = ap length all-kinds ∙ kinds-many s (o .fields) 0 (o .count)
 
     pub print-no-run : (first many : ℕ) (xs : List ℕ) → length xs ≤ 65535 → false ≡ leb 1 first && leb (first - 1 + many) (o .count) → printing s first many xs ≡ refusal 6 0
@@ -133,7 +133,7 @@ module _ (s : List ℕ) (o : Outline) (q : Outlined s o) where
       in-count : first - 1 + many ≤ o .count
       in-count = leb-true (first - 1 + many) (o .count) (and-right (leb 1 first) (leb (first - 1 + many) (o .count)) (sym r))
 
-      run-kinds : run first many (kinds (descriptionOf s o .fields)) ≡ kindsFrom s (o .fields) (first - 1) many
+      pub run-kinds : run first many (kinds (descriptionOf s o .fields)) ≡ kindsFrom s (o .fields) (first - 1) many
       run-kinds = ap (λ ks. take many (drop (first - 1) ks)) all-kinds ∙ kinds-run s (o .fields) (first - 1) many (o .count) in-count
 
       pub print-runs : (xs : List ℕ) → length xs ≤ 65535 → printing s first many xs ≡ runText (kindsFrom s (o .fields) (first - 1) many) xs

@@ -6,15 +6,20 @@ ghost use mathlib.Core.List.{List};
 ghost use lib.ListN.{length};
 ghost use lib.Dec.{leb};
 ghost use Rattle.format.specs.Octets.{Octets};
+ghost use Rattle.format.specs.Name.{isWireName};
 ghost use Rattle.format.specs.Entries;
 ghost use Rattle.format.specs.Entries.{done};
 ghost use Rattle.format.specs.Run.{textOf};
+ghost use Rattle.stanza.specs.Stanza.{Outlined};
 ghost use Rattle.run.specs.Run.{kindsFrom, UsableRun};
 ghost use Rattle.printing.specs.Printing.{Accepted};
-ghost use Rattle.extlang.specs.Entries.{Replies, Leaves, Packs, withRoom, runText};
+ghost use Rattle.extlang.specs.Entries.{Replies, Leaves, Packs, withRoom, runText, runOctets, ReadsIn};
+use reading::Run;
 use run::Checked;
 use stanza::FieldDesc;
+use stanza::Outline;
 use types::Form;
+use wire::Take;
 
 // An answer: 0 and the count, or a refusal's number and place.
 pub struct Reply {
@@ -173,6 +178,156 @@ pub fn print(s: &[u8], first: usize, many: usize, p: &[u8], out: &mut [u8], at: 
     }
 }
 
+// The octets of a text that the run reads, from a place of the buffer on, where there is room: read a second time.
+fn read_again(
+    s: &[u8],
+    fields: [FieldDesc; 64],
+    first: usize,
+    many: usize,
+    origin: &[u8],
+    t: &[u8],
+    out: &mut [u8],
+    at: usize,
+) -> Reply
+    requires { ⌜ UsableRun (now s) fields first many × (isWireName (now origin) ≡ true) × (length (now t) ≤ 1048576) × ReadsIn (kindsFrom (now s) fields first many) (now origin) (now t) (length (now out) - at) ⌝ }
+    ensures { λ r. ⌜ Leaves r (now (out .exit)) (withRoom (now (out .entry)) at (runOctets (kindsFrom (now (s .entry)) fields first many) (now (origin .entry)) (now (t .entry)))) ⌝ }
+{
+    let a = least(at, out.len());
+    let r = reading::read_run(&mut out[a..], fields, first, many, s, origin, t);
+    match r {
+        Run::Refused(number, place) => Reply {
+            number: number,
+            place: place,
+        },
+        Run::Done(m) => Reply {
+            number: 0,
+            place: m as u32,
+        },
+    }
+}
+
+// A text under a run of a judged stanza. A short result is read into an array first, so that nothing lent changes before it
+// is known to be whole; of a long one only the count is kept, and it is read again.
+fn read_run(
+    s: &[u8],
+    fields: [FieldDesc; 64],
+    first: usize,
+    many: usize,
+    origin: &[u8],
+    t: &[u8],
+    out: &mut [u8],
+    at: usize,
+) -> Reply
+    requires { ⌜ UsableRun (now s) fields first many × (isWireName (now origin) ≡ true) × (length (now t) ≤ 1048576) ⌝ }
+    ensures { λ r. ⌜ Leaves r (now (out .exit)) (withRoom (now (out .entry)) at (runOctets (kindsFrom (now (s .entry)) fields first many) (now (origin .entry)) (now (t .entry)))) ⌝ }
+{
+    let mut short = [0u8; 512];
+    let r = reading::read_run(&mut short, fields, first, many, s, origin, t);
+    match r {
+        Run::Refused(number, place) => Reply {
+            number: number,
+            place: place,
+        },
+        Run::Done(m) => {
+            if 65535 < m {
+                return Reply {
+                    number: 11,
+                    place: 0,
+                };
+            }
+            let n = out.len();
+            let a = least(at, n);
+            if n - a < m {
+                return Reply {
+                    number: 12,
+                    place: m as u32,
+                };
+            }
+            if 512 < m {
+                return read_again(s, fields, first, many, origin, t, out, at);
+            }
+            let w = writing::put_all(&mut out[a..], 0, &short[0..m]);
+            Reply {
+                number: 0,
+                place: w as u32,
+            }
+        }
+    }
+}
+
+// Whether octets are one whole wire name.
+fn is_name(p: &[u8]) -> bool
+    ensures { λ r. ⌜ r ≡ isWireName (now (p .entry)) ⌝ }
+{
+    let t = wire::name(p, 0, p.len(), false);
+    match t {
+        Take::Short => false,
+        Take::Bad => false,
+        Take::Took(w) => w == p.len(),
+    }
+}
+
+// A text under a judged stanza.
+pub fn read_judged(
+    s: &[u8],
+    o: Outline,
+    first: usize,
+    many: usize,
+    origin: &[u8],
+    t: &[u8],
+    out: &mut [u8],
+    at: usize,
+) -> Reply
+    requires { ⌜ Outlined (now s) o × (length (now t) ≤ 1048576) ⌝ }
+    ensures { λ r. ⌜ Leaves r (now (out .exit)) (Entries.read (now (s .entry)) first many (now (origin .entry)) (now (t .entry)) (now (out .entry)) at) ⌝ }
+{
+    let n = o.number;
+    if 0 < n {
+        return Reply {
+            number: n as u32,
+            place: o.line as u32,
+        };
+    }
+    if is_run(first, many, o.count) {
+        if is_name(origin) {
+            let fields = o.fields;
+            return read_run(s, fields, first - 1, many, origin, t, out, at);
+        }
+        return Reply {
+            number: 7,
+            place: 0,
+        };
+    }
+    Reply {
+        number: 6,
+        place: 0,
+    }
+}
+
+// Read a text under so many fields of a description, from number first on, with names that lack their final dot under the
+// origin: 0 and the count of the RDATA's octets, which stand in out from at on; or a refusal's number and place, and out as
+// it was.
+pub fn read(
+    s: &[u8],
+    first: usize,
+    many: usize,
+    origin: &[u8],
+    t: &[u8],
+    out: &mut [u8],
+    at: usize,
+) -> Reply
+    ensures { λ r. ⌜ Leaves r (now (out .exit)) (Entries.read (now (s .entry)) first many (now (origin .entry)) (now (t .entry)) (now (out .entry)) at) ⌝ }
+{
+    if 1048576 < t.len() {
+        return Reply {
+            number: 1,
+            place: 0,
+        };
+    }
+    let o = stanza::judged_outline(s);
+    read_judged(s, o, first, many, origin, t, out, at)
+}
+
 // An answer in 64 bits: the number in the upper 32, the place or the count in the lower.
 fn packed(r: Reply) -> u64
     ensures { λ n. ⌜ n ≡ r .number * 4294967296 + r .place ⌝ }
@@ -200,4 +355,27 @@ pub extern "C" fn extlang_print(
     ensures { λ r. ⌜ Packs r (now (out .exit)) (Entries.print (now (s .entry)) first many (now (p .entry)) (now (out .entry)) at) ⌝ }
 {
     packed(print(s, first as usize, many as usize, p, out, at as usize))
+}
+
+#[no_mangle]
+pub extern "C" fn extlang_read(
+    s: &[u8],
+    first: u64,
+    many: u64,
+    origin: &[u8],
+    t: &[u8],
+    out: &mut [u8],
+    at: u64,
+) -> u64
+    ensures { λ r. ⌜ Packs r (now (out .exit)) (Entries.read (now (s .entry)) first many (now (origin .entry)) (now (t .entry)) (now (out .entry)) at) ⌝ }
+{
+    packed(read(
+        s,
+        first as usize,
+        many as usize,
+        origin,
+        t,
+        out,
+        at as usize,
+    ))
 }
