@@ -1,8 +1,8 @@
-//! How printing grows with the RDATA: one field, twice the octets in each row.
+//! How the cost grows with the RDATA: one field, twice the octets in each row.
 
-use crate::compare::{by_record, times};
-use crate::printing;
+use crate::compare::{times, Direction};
 use crate::records::Record;
+use crate::table::by_record;
 
 const RDATA_LIMIT: usize = 65_535;
 
@@ -25,6 +25,12 @@ fn windows(count: usize) -> Vec<u8> {
     (256 - count / 34..256).flat_map(window).collect()
 }
 
+/// The RDATA and its text.
+fn record(kind: &'static str, stanza: &'static str, rdata: Vec<u8>) -> Record {
+    let text = independent::print(stanza.as_bytes(), 1, 1, &rdata, u64::MAX).octets;
+    Record::new(kind, stanza, text, rdata)
+}
+
 /// All that has 1, 2, 4 .. times the octets, and last the most octets.
 fn records(
     kind: &'static str,
@@ -35,28 +41,27 @@ fn records(
 ) -> Vec<Record> {
     let counts =
         std::iter::successors(Some(first), |count| Some(count * 2)).take_while(|count| *count < most);
-    counts.chain([most]).map(|count| Record::new(kind, stanza, rdata(count))).collect()
+    counts.chain([most]).map(|count| record(kind, stanza, rdata(count))).collect()
 }
 
-fn rows(records: &[Record], out: &mut [u8]) -> Result<(), String> {
-    records.iter().try_for_each(|record| printing::check(record, out))?;
-    let programs = &printing::programs()[..2];
-    let times = times(programs, &by_record(records), out);
-    for (record, times) in records.iter().zip(times) {
-        let text = (programs[0].convert)(record, out).unwrap_or(0);
-        let octets = record.rdata.len();
-        print!("{:6}{octets:8}{text:9}{:15.0}", record.kind, times[0]);
-        times.iter().for_each(|time| print!("{:13.2}", time / octets as f64));
+fn rows(direction: &Direction, records: &[Record], out: &mut [u8]) -> Result<(), String> {
+    records.iter().try_for_each(|record| direction.check(record, out))?;
+    let columns = times(&direction.programs(), &by_record(records), out);
+    for (row, record) in records.iter().enumerate() {
+        let octets = (direction.octets)(record).len();
+        print!("{:6}{:8}{:9}", record.kind, record.rdata.len(), record.text.len());
+        print!("{:15.0}", columns[0].times[row]);
+        columns.iter().for_each(|column| print!("{:13.2}", column.times[row] / octets as f64));
         println!();
     }
     Ok(())
 }
 
-pub fn run(out: &mut [u8]) -> Result<(), String> {
-    println!("\nPrinting one field: ns in all, and ns per octet of the RDATA");
-    println!("{:>14}{:>9}{:>15}{:>13}{:>13}", "octets", "text", "extlang, ns", "an octet", "independent");
-    rows(&records("S[M]", "T:1\n S[M]\n", 1024, RDATA_LIMIT, strings), out)?;
-    rows(&records("B64", "T:1\n B64\n", 1024, RDATA_LIMIT, filling), out)?;
-    rows(&records("X", "T:1\n X\n", 1024, RDATA_LIMIT, filling), out)?;
-    rows(&records("R[L]", "T:1\n R[L]\n", 34, 256 * 34, windows), out)
+pub fn run(direction: &Direction, out: &mut [u8]) -> Result<(), String> {
+    println!("\n{} one field: ns in all, and ns per octet that is converted", direction.name);
+    println!("{:>14}{:>9}{:>15}{:>13}{:>13}", "RDATA", "text", "extlang, ns", "an octet", "independent");
+    rows(direction, &records("S[M]", "T:1\n S[M]\n", 1024, RDATA_LIMIT, strings), out)?;
+    rows(direction, &records("B64", "T:1\n B64\n", 1024, RDATA_LIMIT, filling), out)?;
+    rows(direction, &records("X", "T:1\n X\n", 1024, RDATA_LIMIT, filling), out)?;
+    rows(direction, &records("R[L]", "T:1\n R[L]\n", 34, 256 * 34, windows), out)
 }

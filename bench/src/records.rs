@@ -2,8 +2,7 @@
 
 use std::collections::HashMap;
 
-#[cfg(knot)]
-use crate::knot;
+use crate::peers::{peers, Kept, Peer};
 
 /// The published descriptions.
 pub const STANZAS: &str = include_str!("../../independent/tests/data/stanzas.txt");
@@ -17,46 +16,53 @@ pub struct Record {
     pub stanza: &'static [u8],
     /// How many fields the stanza has.
     pub fields: u64,
+    pub text: Vec<u8>,
     pub rdata: Vec<u8>,
-    #[cfg(knot)]
-    pub knot: knot::Record,
+    /// As each of the peers keeps it, in their order.
+    pub kept: Vec<Kept>,
 }
 
 impl Record {
-    /// The stanza must be a good one.
-    pub fn new(kind: &'static str, stanza: &'static str, rdata: Vec<u8>) -> Self {
+    /// The stanza must be a good one. The peers keep nothing of it.
+    pub fn new(kind: &'static str, stanza: &'static str, text: Vec<u8>, rdata: Vec<u8>) -> Self {
         let (number, fields) = independent::judge(stanza.as_bytes());
         assert_eq!(number, 0, "the stanza is refused: {stanza}");
-        Record {
-            kind,
-            stanza: stanza.as_bytes(),
-            fields,
-            #[cfg(knot)]
-            knot: knot::Record::new(type_number(stanza), &rdata),
-            rdata,
-        }
+        Record { kind, stanza: stanza.as_bytes(), fields, text, rdata, kept: Vec::new() }
+    }
+
+    fn keep(mut self, number: u16) -> Self {
+        let keep = |peer: &Peer| peer.keep(self.kind, number, &self.rdata, &self.text);
+        self.kept = peers().iter().map(keep).collect();
+        self
     }
 }
 
 /// From a header, as `A:1:I a host address`.
-#[cfg(knot)]
 fn type_number(stanza: &str) -> u16 {
     let word = stanza.split([':', ' ', '\n']).nth(1);
     word.and_then(|word| word.parse().ok()).expect("the header has a type number")
 }
 
-/// The records of the corpus, the short ones and the long ones.
-pub fn corpus() -> (Vec<Record>, Vec<Record>) {
-    let stanzas: HashMap<&str, &str> =
-        STANZAS.split("\n\n").map(|stanza| (stanza.split(':').next().unwrap_or(""), stanza)).collect();
-    let (mut short, mut long) = (Vec::new(), Vec::new());
-    for line in CORPUS.lines() {
-        let columns: Vec<&str> = line.split('\t').collect();
-        let [kind, text, wire] = columns[..] else { panic!("three columns: {line}") };
-        let list = if text.len() > LONG { &mut long } else { &mut short };
-        list.push(Record::new(kind, stanzas[kind], octets(wire)));
+pub struct Corpus {
+    pub short: Vec<Record>,
+    pub long: Vec<Record>,
+}
+
+impl Corpus {
+    pub fn new() -> Self {
+        let name = |stanza: &'static str| stanza.split(':').next().unwrap_or("");
+        let stanzas: HashMap<&str, &str> =
+            STANZAS.split("\n\n").map(|stanza| (name(stanza), stanza)).collect();
+        let mut corpus = Corpus { short: Vec::new(), long: Vec::new() };
+        for line in CORPUS.lines() {
+            let columns: Vec<&str> = line.split('\t').collect();
+            let [kind, text, wire] = columns[..] else { panic!("three columns: {line}") };
+            let list = if text.len() > LONG { &mut corpus.long } else { &mut corpus.short };
+            let record = Record::new(kind, stanzas[kind], text.as_bytes().to_vec(), octets(wire));
+            list.push(record.keep(type_number(stanzas[kind])));
+        }
+        corpus
     }
-    (short, long)
 }
 
 fn octets(hex: &str) -> Vec<u8> {

@@ -5,6 +5,20 @@ use std::time::Duration;
 
 pub const ROUNDS: usize = 5;
 
+/// Lets the C library keep all memory that was ever taken. Else what a program
+/// pays for large blocks depends on what others hold above them on the heap: ldns
+/// took 8 microseconds or 0.8 for the same line.
+pub fn keep_memory() {
+    extern "C" {
+        fn mallopt(option: c_int, value: c_int) -> c_int;
+    }
+    const TRIM_THRESHOLD: c_int = -1;
+    const MMAP_THRESHOLD: c_int = -3;
+    // SAFETY: the C library only notes the two numbers.
+    let kept = unsafe { mallopt(TRIM_THRESHOLD, c_int::MAX) + mallopt(MMAP_THRESHOLD, 32 << 20) };
+    assert_eq!(kept, 2, "the C library takes both options");
+}
+
 /// Nanoseconds of one pass, for each of so many programs: the median of its
 /// rounds. All have their turn in each round, so that a busy machine slows all.
 pub fn in_turns(programs: usize, round: Duration, mut pass: impl FnMut(usize)) -> Vec<f64> {
