@@ -1,7 +1,8 @@
 // Answers request lines, one line each:
 //
-//     J STANZA                         -> NUMBER PLACE
-//     P STANZA FIRST LENGTH RDATA ROOM -> NUMBER PLACE TEXT
+//     J STANZA                               -> NUMBER PLACE
+//     P STANZA FIRST LENGTH RDATA ROOM       -> NUMBER PLACE TEXT
+//     R STANZA FIRST LENGTH ORIGIN TEXT ROOM -> NUMBER PLACE RDATA
 //
 // PLACE is the count where NUMBER is 0, and the last word is '-' on a refusal. Octets are in hex of
 // either case, '-' for none, and numbers decimal, of at most 64 bits; one space parts two words. A line
@@ -26,7 +27,7 @@ const ROOM: usize = 65536;
 
 const ANSWER: usize = 128;
 
-// The longest text that is printed.
+// The longest result.
 const TEXT: usize = 1048576;
 
 // How much of the room is taken. Once a write has failed, nothing more is written.
@@ -39,6 +40,13 @@ struct Output {
 struct Word {
     good: bool,
     count: usize,
+}
+
+// Where the octets stand that a word spelled.
+struct Spelled {
+    good: bool,
+    from: usize,
+    to: usize,
 }
 
 // A word that spells a number.
@@ -418,6 +426,21 @@ fn put_text(
     put_result(out, output, reply, &text[0..n])
 }
 
+// The octets that a word of the line spells, in its place.
+fn octets_of(values: &[u8; 256], line: &mut [u8], word: Span) -> Spelled
+    requires { ⌜ (word .from ≤ word .to) × (word .to ≤ length (now line)) ⌝ }
+    ensures { λ r. ⌜ (r .from ≤ r .to) × (r .to ≤ length (now (line .entry))) ⌝ }
+{
+    let a = word.from;
+    let b = word.to;
+    let s = octets(values, &mut line[a..b]);
+    Spelled {
+        good: s.good,
+        from: a,
+        to: a + s.count,
+    }
+}
+
 // Puts the answer to the request to print the RDATA that a word of the line spells.
 fn put_printed(
     values: &[u8; 256],
@@ -432,20 +455,18 @@ fn put_printed(
     requires { ⌜ (asked .stanza .from ≤ asked .stanza .to) × (asked .stanza .to ≤ length (now line)) × (rdata .from ≤ rdata .to) × (rdata .to ≤ length (now line)) × (output .taken + 128 ≤ length (now out)) ⌝ }
     ensures { λ r. ⌜ r .taken ≤ length (now (out .entry)) ⌝ }
 {
-    let a = asked.stanza.from;
-    let b = asked.stanza.to;
-    let c = rdata.from;
-    let d = rdata.to;
-    let s = octets(values, &mut line[a..b]);
-    let p = octets(values, &mut line[c..d]);
+    let s = octets_of(values, line, asked.stanza);
+    let p = octets_of(values, line, rdata);
     if s.good & p.good {
-        let e = a + s.count;
-        let f = c + p.count;
+        let a = s.from;
+        let b = s.to;
+        let c = p.from;
+        let d = p.to;
         return put_text(
-            &line[a..e],
+            &line[a..b],
             asked.first,
             asked.many,
-            &line[c..f],
+            &line[c..d],
             room,
             text,
             out,
@@ -474,6 +495,109 @@ fn answer_print(
     let room = number(&line[a..b]);
     if asked.good & room.good & (b == line.len()) {
         return put_printed(values, line, asked, rdata, room.value, text, out, output);
+    }
+    unknown(out, output)
+}
+
+// Puts what reading answers.
+fn put_rdata(
+    s: &[u8],
+    first: u64,
+    many: u64,
+    origin: &[u8],
+    t: &[u8],
+    room: u64,
+    text: &mut [u8],
+    out: &mut [u8],
+    output: Output,
+) -> Output
+    requires { ⌜ output .taken + 128 ≤ length (now out) ⌝ }
+    ensures { λ r. ⌜ r .taken ≤ length (now (out .entry)) ⌝ }
+{
+    let most = least(room, text.len());
+    let reply = extlang::read(
+        s,
+        first as usize,
+        many as usize,
+        origin,
+        t,
+        &mut text[0..most],
+        0,
+    );
+    let n = least(reply.place as u64, text.len());
+    put_result(out, output, reply, &text[0..n])
+}
+
+// Puts the answer to the request to read the text that a word of the line spells, under the origin that another does.
+fn put_read(
+    values: &[u8; 256],
+    line: &mut [u8],
+    asked: Asked,
+    origin: Span,
+    words: Span,
+    room: u64,
+    text: &mut [u8],
+    out: &mut [u8],
+    output: Output,
+) -> Output
+    requires { ⌜ (asked .stanza .from ≤ asked .stanza .to) × (asked .stanza .to ≤ length (now line)) × (origin .from ≤ origin .to) × (origin .to ≤ length (now line)) × (words .from ≤ words .to) × (words .to ≤ length (now line)) × (output .taken + 128 ≤ length (now out)) ⌝ }
+    ensures { λ r. ⌜ r .taken ≤ length (now (out .entry)) ⌝ }
+{
+    let s = octets_of(values, line, asked.stanza);
+    let o = octets_of(values, line, origin);
+    let t = octets_of(values, line, words);
+    if s.good & o.good & t.good {
+        let a = s.from;
+        let b = s.to;
+        let c = o.from;
+        let d = o.to;
+        let e = t.from;
+        let f = t.to;
+        return put_rdata(
+            &line[a..b],
+            asked.first,
+            asked.many,
+            &line[c..d],
+            &line[e..f],
+            room,
+            text,
+            out,
+            output,
+        );
+    }
+    unknown(out, output)
+}
+
+// Puts the answer to a request to read.
+fn answer_read(
+    values: &[u8; 256],
+    line: &mut [u8],
+    text: &mut [u8],
+    out: &mut [u8],
+    output: Output,
+) -> Output
+    requires { ⌜ (1 ≤ length (now line)) × (output .taken + 128 ≤ length (now out)) ⌝ }
+    ensures { λ r. ⌜ r .taken ≤ length (now (out .entry)) ⌝ }
+{
+    let asked = asked_run(line);
+    let origin = next_word(line, asked.to);
+    let words = next_word(line, origin.to);
+    let last = next_word(line, words.to);
+    let a = last.from;
+    let b = last.to;
+    let room = number(&line[a..b]);
+    if asked.good & room.good & (b == line.len()) {
+        return put_read(
+            values,
+            line,
+            asked,
+            origin,
+            words,
+            room.value,
+            text,
+            out,
+            output,
+        );
     }
     unknown(out, output)
 }
@@ -517,6 +641,9 @@ fn answer_line(
     }
     if line[0] == b'P' {
         return answer_print(values, line, text, out, output);
+    }
+    if line[0] == b'R' {
+        return answer_read(values, line, text, out, output);
     }
     unknown(out, output)
 }
