@@ -84,6 +84,43 @@ uint64_t extlang_print(const uint8_t *stanza, size_t stanza_len,
                        const uint8_t *rdata, size_t rdata_len,
                        uint8_t *out, size_t out_len, uint64_t at);
 
+/*
+ * Reads master-file text as RDATA under a run of a description's fields: `length`
+ * of them, from number `first` on, counted from 1. The origin is a name in wire
+ * form; it is put after names of the text that lack their final dot, and stands
+ * where the text has @. Any octets may be handed in as the stanza, the origin and
+ * the text.
+ *
+ * The RDATA goes to out from the octet `at` on, counted from 0. Its room is what
+ * out has from there: none, where that place is past the end. Out must not
+ * overlap the stanza, the origin or the text, and may hold anything.
+ *
+ * Number 0: done; the lower half counts the RDATA's octets, at most 65,535. No
+ *           other octet of out has changed.
+ * Number 1: the stanza has more than 8,192 octets, or the text more than
+ *           1,048,576; the place is 0.
+ * Number 2, 3, 4, 5: the stanza is refused, with the place that extlang_judge
+ *           gives.
+ * Number 6: first is 0, or the run goes past the stanza's last field; the place
+ *           is 0.
+ * Number 7: the origin is not one whole wire name; the place is 0.
+ * Number 8: no token is left for a field that needs one.
+ * Number 9: a token has a fault inside, or its value breaks its field's rule.
+ * Number 10: something but blanks is left after the last field; the place is the
+ *           run's length plus 1.
+ * Number 11: the RDATA would have more than 65,535 octets; the place is 0.
+ * Number 12: the RDATA is longer than its room; the place is the count of octets
+ *           that it needs.
+ *
+ * At 8 and 9 the place is the number of the field in the run, counted from 1.
+ * Where the number is not 0, no octet of out has changed.
+ */
+uint64_t extlang_read(const uint8_t *stanza, size_t stanza_len,
+                      uint64_t first, uint64_t length,
+                      const uint8_t *origin, size_t origin_len,
+                      const uint8_t *text, size_t text_len,
+                      uint8_t *out, size_t out_len, uint64_t at);
+
 #ifdef __cplusplus
 }
 #endif
