@@ -1,0 +1,5 @@
+pub mod Places
+pub mod Origins
+pub mod Forms
+pub mod Answers
+pub mod Records

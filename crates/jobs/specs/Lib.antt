@@ -1,0 +1,4 @@
+pub mod Lines
+pub mod Origin
+pub mod Form
+pub mod Answer

@@ -1,0 +1,5 @@
+// A job: its form, and the lines that answer its records.
+pub mod answer;
+pub mod form;
+pub mod lines;
+pub mod origin;
