@@ -206,8 +206,56 @@ fn read_again(
     }
 }
 
-// A text under a run of a judged stanza. A short result is read into an array first, so that nothing lent changes before it
-// is known to be whole; of a long one only the count is kept, and it is read again.
+// A text under a run of a judged stanza, by way of a short buffer: nothing lent changes before the result is known to be
+// whole. Of a result that is longer only the count is kept, and it is read again.
+fn read_through(
+    short: &mut [u8],
+    s: &[u8],
+    fields: [FieldDesc; 64],
+    first: usize,
+    many: usize,
+    origin: &[u8],
+    t: &[u8],
+    out: &mut [u8],
+    at: usize,
+) -> Reply
+    requires { ⌜ UsableRun (now s) fields first many × (isWireName (now origin) ≡ true) × (length (now t) ≤ 1048576) ⌝ }
+    ensures { λ r. ⌜ Leaves r (now (out .exit)) (withRoom (now (out .entry)) at (runOctets (kindsFrom (now (s .entry)) fields first many) (now (origin .entry)) (now (t .entry)))) ⌝ }
+{
+    let r = reading::read_run(short, fields, first, many, s, origin, t);
+    match r {
+        Run::Refused(number, place) => Reply {
+            number: number,
+            place: place,
+        },
+        Run::Done(m) => {
+            if 65535 < m {
+                return Reply {
+                    number: 11,
+                    place: 0,
+                };
+            }
+            let n = out.len();
+            let from = least(at, n);
+            if n - from < m {
+                return Reply {
+                    number: 12,
+                    place: m as u32,
+                };
+            }
+            if short.len() < m {
+                return read_again(s, fields, first, many, origin, t, out, at);
+            }
+            let w = writing::put_all(&mut out[from..], 0, &short[0..m]);
+            Reply {
+                number: 0,
+                place: w as u32,
+            }
+        }
+    }
+}
+
+// A text under a run of a judged stanza.
 fn read_run(
     s: &[u8],
     fields: [FieldDesc; 64],
@@ -222,37 +270,7 @@ fn read_run(
     ensures { λ r. ⌜ Leaves r (now (out .exit)) (withRoom (now (out .entry)) at (runOctets (kindsFrom (now (s .entry)) fields first many) (now (origin .entry)) (now (t .entry)))) ⌝ }
 {
     let mut short = [0u8; 512];
-    let r = reading::read_run(&mut short, fields, first, many, s, origin, t);
-    match r {
-        Run::Refused(number, place) => Reply {
-            number: number,
-            place: place,
-        },
-        Run::Done(m) => {
-            if 65535 < m {
-                return Reply {
-                    number: 11,
-                    place: 0,
-                };
-            }
-            let n = out.len();
-            let a = least(at, n);
-            if n - a < m {
-                return Reply {
-                    number: 12,
-                    place: m as u32,
-                };
-            }
-            if 512 < m {
-                return read_again(s, fields, first, many, origin, t, out, at);
-            }
-            let w = writing::put_all(&mut out[a..], 0, &short[0..m]);
-            Reply {
-                number: 0,
-                place: w as u32,
-            }
-        }
-    }
+    read_through(&mut short, s, fields, first, many, origin, t, out, at)
 }
 
 // Whether octets are one whole wire name.
