@@ -1,6 +1,4 @@
 // Writers of one field's text, a module for each value form. A field is the octets from i to e of the RDATA p.
-pub mod address;
-pub mod eui;
 pub mod integer;
 pub mod name;
 pub mod rrtype;

@@ -6,11 +6,11 @@ use Rattle.format.specs.Eui.{euiText}
 use Rattle.format.specs.Digits.{digits, lowerDigit}
 use Rattle.octets.proofs.Slices.{next, none}
 use Rattle.writing.proofs.Laws.{Left, left-all, left-none, wrote-none, wrote-text}
 use Rattle.print.proofs.Parted.{later, wrote-parted, went-on}
 use native.Mathlib.Omega.{arith}
 use borrow.Author.Needs.{needs}
-use Rattle.print.proofs.eui.field.Statement.{statement}
-use Rattle.print.proofs.eui.field.Tie as tie
+use Rattle.print_address.proofs.eui.field.Statement.{statement}
+use Rattle.print_address.proofs.eui.field.Tie as tie
 
 -- an octet's two digits
 abbrev pair : ℕ → List ℕ

@@ -6,12 +6,12 @@ use Rattle.format.specs.Address.{colons, groupText}
 use Rattle.format.specs.Address as address
 use Rattle.octets.proofs.Slices.{none}
 use Rattle.writing.proofs.Laws.{Left, left-all, left-none, wrote-none, wrote-text}
-use Rattle.print.proofs.Groups.{next-group, group-short}
+use Rattle.print_address.proofs.Groups.{next-group, group-short}
 use Rattle.print.proofs.Parted.{later, wrote-parted, went-on}
 use native.Mathlib.Omega.{arith}
 use borrow.Author.Needs.{needs}
-use Rattle.print.proofs.address.groups.Statement.{statement}
-use Rattle.print.proofs.address.groups.Tie as tie
+use Rattle.print_address.proofs.address.groups.Statement.{statement}
+use Rattle.print_address.proofs.address.groups.Tie as tie
 
 -- the text of octets, and of those that are left
 abbrev text : List ℕ → List ℕ

@@ -1,11 +1,11 @@
-use Rattle.print.proofs.Groups.{one-digit, two-digits, three-digits, four-digits}
+use Rattle.print_address.proofs.Groups.{one-digit, two-digits, three-digits, four-digits}
 use Rattle.writing.proofs.Laws.{wrote-text, wrote-append}
 use Prim.Native.Nat.{ℕ}
 use mathlib.Core.Path.{ap, _∙_}
 use mathlib.Core.List.{List, [], _∷_}
 use borrow.Author.Needs.{needs}
-use Rattle.print.proofs.address.group.Statement.{statement}
-use Rattle.print.proofs.address.group.Tie as tie
+use Rattle.print_address.proofs.address.group.Statement.{statement}
+use Rattle.print_address.proofs.address.group.Tie as tie
 
 -- a text of one octet
 abbrev one : ℕ → List ℕ

@@ -1,7 +1,7 @@
-use Rattle.print.proofs.Zeros.{zero-before, other-before}
+use Rattle.print_address.proofs.Zeros.{zero-before, other-before}
 use borrow.Author.Needs.{needs}
-use Rattle.print.proofs.address.zeros.Statement.{statement}
-use Rattle.print.proofs.address.zeros.Tie as tie
+use Rattle.print_address.proofs.address.zeros.Statement.{statement}
+use Rattle.print_address.proofs.address.zeros.Tie as tie
 
 add-result : tie.Need-add-result
 add-result c = search needs

@@ -11,8 +11,8 @@ use borrow.Author.Tests.{lt-ltb, le-ltb, leb-true, leb-false, eq-eqb, ne-eqb}
 use Rattle.format.specs.Address.{groups, groupText, colons, zerosAt, longestZeros, beforeRun, afterRun, aaaaText}
 use Rattle.format.proofs.Field.{pieces-bound}
 use Rattle.octets.proofs.Slices.{none}
-use Rattle.print.specs.Zeros.{Longest}
-use Rattle.print.proofs.Groups.{next-group, group-short}
+use Rattle.print_address.specs.Zeros.{Longest}
+use Rattle.print_address.proofs.Groups.{next-group, group-short}
 
 -- the groups after k groups
 after-groups : (p : List ℕ) (i e k : ℕ) → i + 2 * k ≤ e → e ≤ length p → drop k (groups (slice i e p)) ≡ groups (slice (i + 2 * k) e p)

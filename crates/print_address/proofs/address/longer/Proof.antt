@@ -1,8 +1,8 @@
 use borrow.Author.Tests.{le-leb, lt-leb}
 use borrow.Author.Needs.{needs}
 use native.Mathlib.Omega.{arith}
-use Rattle.print.proofs.address.longer.Statement.{statement}
-use Rattle.print.proofs.address.longer.Tie as tie
+use Rattle.print_address.proofs.address.longer.Statement.{statement}
+use Rattle.print_address.proofs.address.longer.Tie as tie
 
 returns : tie.Need-returns
 returns c = (rw (le-leb (c .before .before .args .run .count) (c .before .before .args .z) (omega arith)), search needs)

@@ -1,9 +1,9 @@
 use Rattle.writing.proofs.Laws.{wrote-append, wrote-text}
-use Rattle.print.proofs.Zeros.{whole-text, parted-text, colons-short}
+use Rattle.print_address.proofs.Zeros.{whole-text, parted-text, colons-short}
 use native.Mathlib.Omega.{arith}
 use borrow.Author.Needs.{needs}
-use Rattle.print.proofs.address.aaaa.Statement.{statement}
-use Rattle.print.proofs.address.aaaa.Tie as tie
+use Rattle.print_address.proofs.address.aaaa.Statement.{statement}
+use Rattle.print_address.proofs.address.aaaa.Tie as tie
 
 longest-requires : tie.Need-longest-requires
 longest-requires c κs = search needs

@@ -2,12 +2,12 @@ use Prim.Native.Nat.{_+_, _*_, _-_, _%_, _≤_}
 use mathlib.Core.Path.{_≡_, sym, ap, _∙_}
 use lib.Seq.{slice}
 use Rattle.format.specs.Address.{groups, zerosAt}
-use Rattle.print.specs.Zeros.{Longest}
-use Rattle.print.proofs.Zeros.{no-zeros, run-none, first-group, run-next}
+use Rattle.print_address.specs.Zeros.{Longest}
+use Rattle.print_address.proofs.Zeros.{no-zeros, run-none, first-group, run-next}
 use native.Mathlib.Omega.{arith}
 use borrow.Author.Needs.{needs}
-use Rattle.print.proofs.address.longest.Statement.{statement}
-use Rattle.print.proofs.address.longest.Tie as tie
+use Rattle.print_address.proofs.address.longest.Statement.{statement}
+use Rattle.print_address.proofs.address.longest.Tie as tie
 
 abbrev Inv-loop : tie.InvT-loop
 Inv-loop p i e run₀ z₀ j₀ run z j = (i ≤ j) × (j ≤ e) × ((j - i) % 2 ≡ 0) × (j + 2 * z ≤ e) × (z ≡ zerosAt (groups (slice j e p))) × Longest p j e (run .at) (run .count)

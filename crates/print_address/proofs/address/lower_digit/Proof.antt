@@ -1,7 +1,7 @@
 use borrow.Author.Tests.{lt-ltb, le-ltb}
 use borrow.Author.Needs.{needs}
-use Rattle.print.proofs.address.lower_digit.Statement.{statement}
-use Rattle.print.proofs.address.lower_digit.Tie as tie
+use Rattle.print_address.proofs.address.lower_digit.Statement.{statement}
+use Rattle.print_address.proofs.address.lower_digit.Tie as tie
 
 cast-result : tie.Need-cast-result
 cast-result c = search needs

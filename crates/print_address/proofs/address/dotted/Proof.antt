@@ -8,11 +8,11 @@ use Rattle.format.specs.Address.{dottedText}
 use Rattle.format.specs.Number.{decimal}
 use Rattle.octets.proofs.Slices.{next, none}
 use Rattle.writing.proofs.Laws.{Left, left-all, left-none, wrote-none, wrote-text}
 use Rattle.print.proofs.Parted.{later, wrote-parted, went-on}
 use native.Mathlib.Omega.{arith}
 use borrow.Author.Needs.{needs}
-use Rattle.print.proofs.address.dotted.Statement.{statement}
-use Rattle.print.proofs.address.dotted.Tie as tie
+use Rattle.print_address.proofs.address.dotted.Statement.{statement}
+use Rattle.print_address.proofs.address.dotted.Tie as tie
 
 abbrev Inv-loop : tie.InvT-loop
 Inv-loop out₀ n p i e m₀ j₀ out m j = (i < j) × (j ≤ e) × (m ≤ n + 11 * (j - i)) × Left out₀ m₀ (later (46 ∷ []) decimal (slice (i + 1) e p)) out m (later (46 ∷ []) decimal (slice j e p))

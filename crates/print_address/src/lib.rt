@@ -1,0 +1,3 @@
+// Writers of addresses and EUIs.
+pub mod address;
+pub mod eui;
