@@ -1,13 +1,14 @@
 -- The qualifiers between a and b in a stanza, and what is asked of them.
-use Prim.Native.Nat.{ℕ}
+use Prim.Native.Nat.{ℕ, _+_, _-_, _*_, _%_}
 use Prim.Native.Char.{code}
 use mathlib.Core.Bool.{Bool, true, false, not, cond}
 use mathlib.Core.List.{List, [], _∷_, map}
 use mathlib.Core.Option.{Option, none, some}
 use lib.Dec.{eqb, ltb}
+use lib.ListN.{length, getD}
 use lib.Seq.{slice}
 use Rattle.format.specs.Lists.{anyOf, eachOf, twice, span}
-use Rattle.format.specs.Octets.{ascii, nameOctet, sameOctets, sameWord, splitOn}
+use Rattle.format.specs.Octets.{ascii, lowered, nameOctet, sameOctets, sameWord, splitOn}
 use Rattle.format.specs.Field.{Part, Symbol}
 use Rattle.format.specs.Lines.{placed}
 use Rattle.format.specs.Grammar.{Qualifier, word, symbol, qualifier}
@@ -70,6 +71,14 @@ nameIn p = span nameOctet (p .octets) .front
 abbrev pub sameBy : Bool → List ℕ → List ℕ → Bool
 sameBy true x y = sameWord x y
 sameBy false x y = sameOctets x y
+
+-- an octet without the case of letters, or as it is
+abbrev pub folded : Bool → ℕ → ℕ
+folded ignoring x = cond ignoring (lowered x) x
+
+-- a number that names which are the same share: of their length, and of their first and last octets
+abbrev pub bucketOf : Bool → List ℕ → ℕ
+bucketOf ignoring t = ((length t % 32 + folded ignoring (getD t 0 0)) * 8 + folded ignoring (getD t (length t - 1) 0)) % 256
 
 -- some two qualifiers have the same name
 abbrev pub twiceIn : Bool → List ℕ → ℕ → ℕ → Bool

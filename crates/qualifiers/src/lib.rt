@@ -1,5 +1,5 @@
 // The qualifiers of a field line: their grammar, and what is asked of them.
-ghost use Prim.Native.Nat.{_≤_};
+ghost use Prim.Native.Nat.{_≤_, _<_};
 ghost use lib.ListN.{length};
 ghost use lib.Dec.{leb};
 ghost use lib.Seq.{slice};
@@ -12,7 +12,7 @@ ghost use Rattle.format.specs.Octets.{lowered};
 ghost use Rattle.format.specs.Grammar.{word, symbol, startsWithLetter, isName, qualifier};
 ghost use Rattle.format.specs.Types.{knownWord, hasWord};
 ghost use Rattle.octets.specs.Octets.{partIn};
-ghost use Rattle.qualifiers.specs.Qualifiers.{foundIn, wordsFor, holdsOf, anyIn, sameBy, twiceIn, piecesIn, nameIn};
+ghost use Rattle.qualifiers.specs.Qualifiers.{foundIn, wordsFor, holdsOf, anyIn, sameBy, bucketOf, twiceIn, piecesIn, nameIn};
 
 // A qualifier: none by the grammar; a word; or a symbol, with the end of its name and its number.
 pub enum Found {
@@ -222,8 +222,20 @@ fn holds(t: Test, s: &[u8], a: usize, z: usize) -> bool
     }
 }
 
-// Whether a test holds of some qualifier between a and b.
+// Whether a test holds of some qualifier between a and b. Most often there is one, of one letter, which is tested at once.
 pub fn any(t: Test, s: &[u8], a: usize, b: usize) -> bool
+    requires { ⌜ (a ≤ b) × (b ≤ length (now s)) ⌝ }
+    ensures { λ r. ⌜ r ≡ anyIn t (now (s .entry)) a b ⌝ }
+{
+    if b - a == 1 {
+        if octets::is_in(octets::Class::Letter, s[a]) {
+            return holds_letter(t, s[a]);
+        }
+    }
+    any_of(t, s, a, b)
+}
+
+fn any_of(t: Test, s: &[u8], a: usize, b: usize) -> bool
     requires { ⌜ (a ≤ b) × (b ≤ length (now s)) ⌝ }
     ensures { λ r. ⌜ r ≡ anyIn t (now (s .entry)) a b ⌝ }
 {
@@ -320,8 +332,60 @@ fn later(ignoring: bool, s: &[u8], a: usize, n: usize, h: usize, b: usize) -> bo
     }
 }
 
-// Whether some two qualifiers between a and b have the same name.
+// A number of the name from a to n, which names that are the same share.
+fn bucket(ignoring: bool, s: &[u8], a: usize, n: usize) -> usize
+    requires { ⌜ (a ≤ n) × (n ≤ length (now s)) ⌝ }
+    ensures { λ r. ⌜ r ≡ bucketOf ignoring (slice a n (now (s .entry))) ⌝ }
+{
+    if a < n {
+        let x = wide(fold(ignoring, s[a]));
+        let y = wide(fold(ignoring, s[n - 1]));
+        return (((n - a) % 32 + x) * 8 + y) % 256;
+    }
+    0
+}
+
+fn wide(b: u8) -> usize
+    ensures { λ r. ⌜ (r ≡ b) × (b < 256) ⌝ }
+{
+    b as usize
+}
+
+// Whether the names between a and b have numbers of their own, so that none is there twice.
+fn apart(ignoring: bool, s: &[u8], a: usize, b: usize) -> bool
+    requires { ⌜ (a ≤ b) × (b ≤ length (now s)) ⌝ }
+    ensures { λ r. ⌜ (r ≡ true → twiceIn ignoring (now (s .entry)) a b ≡ false) ⌝ }
+{
+    let mut met = [0u8; 256];
+    let mut i = a;
+    loop {
+        let z = octets::skip(s, i, b, octets::Class::NotComma);
+        let n = octets::skip(s, i, z, octets::Class::NameOctet);
+        let k = bucket(ignoring, s, i, n);
+        if met[k] != 0 {
+            return false;
+        }
+        if z == b {
+            return true;
+        }
+        met[k] = 1;
+        i = z + 1;
+    }
+}
+
+// Whether some two qualifiers between a and b have the same name. Each is compared with all after it only where that may be.
 pub fn twice(ignoring: bool, s: &[u8], a: usize, b: usize) -> bool
+    requires { ⌜ (a ≤ b) × (b ≤ length (now s)) ⌝ }
+    ensures { λ r. ⌜ r ≡ twiceIn ignoring (now (s .entry)) a b ⌝ }
+{
+    if apart(ignoring, s, a, b) {
+        return false;
+    }
+    each_later(ignoring, s, a, b)
+}
+
+// Whether some qualifier between a and b has the name of a later one.
+fn each_later(ignoring: bool, s: &[u8], a: usize, b: usize) -> bool
     requires { ⌜ (a ≤ b) × (b ≤ length (now s)) ⌝ }
     ensures { λ r. ⌜ r ≡ twiceIn ignoring (now (s .entry)) a b ⌝ }
 {
