@@ -162,3 +162,8 @@ module _ (k s : List ℕ) (a b : ℕ) (o : Option Takes) (t : o ≡ takesOf type
 
   pub qualified-in : (a ≡ b → ⊥) → meantIn s a b m ≡ qualifiedIn o s a b → meantIn s a b m ≡ meaningIn k s a b
   qualified-in e h = rw (ne-eqb a b e, ← t) h
+
+-- one letter that a type takes
+module _ (s : List ℕ) (a b x y : ℕ) (h : x ≡ y) (e : slice a b s ≡ x ∷ []) where
+  pub letter-alone : slice a b s ≡ y ∷ []
+  letter-alone = e ∙ ap (λ v. v ∷ []) h

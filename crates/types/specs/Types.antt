@@ -1,13 +1,15 @@
 -- The kinds of fields and the types in code, and what they mean by the definitions of document 01.
 use Prim.Native.Nat.{ℕ}
+use mathlib.Core.Path.{_≡_}
 use mathlib.Core.Bool.{Bool, true, false, cond}
 use mathlib.Core.List.{List, [], _∷_}
 use mathlib.Core.Option.{Option, none, some}
+use lib.Seq.{slice}
 use Rattle.format.specs.Lists.{_>>=_, eachOf, anyOf, null}
 use Rattle.format.specs.Octets.{ascii}
 use Rattle.format.specs.Field.{Symbol, NameMarks, Kind, int, rrtype, bitmap, a4, aa, aaaa, name, str, strs, raw, b32, b64, hex, hexc, eui, time}
 use Rattle.format.specs.Grammar.{Qualifier, qualifier}
-use Rattle.format.specs.Types.{Takes, symbols, words, noWords, nameKind, stringKind, unknownWord, symbolOf, Meaning, unknown, forbidden, means, orForbidden, meaningOf, meaning}
+use Rattle.format.specs.Types.{Takes, symbols, words, noWords, nameKind, stringKind, unknownWord, symbolOf, allowed, Meaning, unknown, forbidden, means, orForbidden, meaningOf, meaning}
 use Rattle.qualifiers.specs.Qualifiers.{piecesIn, qualifiersIn, anyIn}
 use Rattle.qualifiers.specs.declared.Words.{Words}
 use Rattle.qualifiers.specs.declared.Words.the-variants.{Nothing, OnR, OnN, OnS, OnX}
@@ -16,6 +18,8 @@ use Rattle.types.specs.declared.Form.{Form}
 use Rattle.types.specs.declared.Form.the-variants.{Int, Rrtype, Bitmap, Dotted, Aa, Aaaa, Name, Str, Strs, Raw, Base32, Base64, Hex, Hexc, Eui, Time}
 use Rattle.types.specs.declared.FieldType.{FieldType}
 use Rattle.types.specs.declared.FieldType.the-variants.{NoType, Int1, Int2, Int4, Plain, TypeR, TypeN, TypeS, TypeX}
+use Rattle.types.specs.declared.ByLetter.{ByLetter}
+use Rattle.types.specs.declared.ByLetter.the-variants.{Other, Makes}
 use Rattle.types.specs.declared.Meant.{Meant}
 use Rattle.types.specs.declared.Meant.the-variants.{Malformed, Unknown, Forbidden, Means}
 
@@ -117,3 +121,8 @@ madeOf s a b OnR = Means Bitmap
 madeOf s a b OnN = Means (nameForm s a b)
 madeOf s a b OnS = cond (anyIn (IsWord 77) s a b) (cond (anyIn (IsWord 88) s a b) Forbidden (Means Strs)) (cond (anyIn (IsWord 88) s a b) (Means Raw) (Means Str))
 madeOf s a b OnX = Means Hexc
+
+-- what one letter x makes: a kind of field is what it means wherever it stands alone
+abbrev pub MadeBy : Words → ℕ → ByLetter → Type 0
+MadeBy w x Other = Unit {0}
+MadeBy w x (Makes f) = (s : List ℕ) (a b : ℕ) → slice a b s ≡ x ∷ [] → meantIn s a b (Means f) ≡ meaningBy (allowed (listed w)) s a b

@@ -3,11 +3,12 @@ ghost use Prim.Native.Nat.{ℕ, _≤_, _<_, _^_};
 ghost use lib.ListN.{length, drop};
 ghost use lib.Seq.{slice};
 ghost use mathlib.Core.Path.{_≡_};
-ghost use mathlib.Core.List.{List, []};
+ghost use mathlib.Core.List.{List, [], _∷_};
 ghost use mathlib.Core.Option.{none, some};
 ghost use Rattle.format.specs.Octets.{sameOctets};
 ghost use Rattle.format.specs.Types.{typeRows, takesOf, allowed, symbols, meaningOf};
-ghost use Rattle.types.specs.Types.{takenBy, meantIn, meaningBy, qualifiedIn, meaningIn, listed, nameForm, madeOf};
+ghost use Rattle.types.specs.Types.{takenBy, meantIn, meaningBy, qualifiedIn, meaningIn, listed, nameForm, madeOf, MadeBy};
+ghost use Rattle.qualifiers.specs.declared.Words.the-variants.{OnN, OnS};
 use qualifiers::Test;
 use qualifiers::Words;
 
@@ -52,6 +53,12 @@ pub enum Meant {
     Means(Form),
 }
 
+// What one letter makes of a type: a kind of field, or what is told otherwise.
+enum ByLetter {
+    Other,
+    Makes(Form),
+}
+
 // Whether the text from a to e is the word w.
 pub fn is_word(s: &[u8], a: usize, e: usize, w: &[u8]) -> bool
     requires { ⌜ (a ≤ e) × (e ≤ length (now s)) ⌝ }
@@ -71,8 +78,44 @@ pub fn is_word(s: &[u8], a: usize, e: usize, w: &[u8]) -> bool
     false
 }
 
-// The type from a to e.
+// The type from a to e. Those of one letter are told at once.
 pub fn type_of(s: &[u8], a: usize, e: usize) -> FieldType
+    requires { ⌜ (a ≤ e) × (e ≤ length (now s)) ⌝ }
+    ensures { λ r. ⌜ takenBy r ≡ takesOf typeRows (slice a e (now (s .entry))) ⌝ }
+{
+    if e - a == 1 {
+        return letter_type(s[a]);
+    }
+    word_type(s, a, e)
+}
+
+// The type of one letter.
+fn letter_type(x: u8) -> FieldType
+    ensures { λ r. ⌜ takenBy r ≡ takesOf typeRows (x ∷ []) ⌝ }
+{
+    if x == 78 {
+        return FieldType::TypeN;
+    }
+    if x == 83 {
+        return FieldType::TypeS;
+    }
+    if x == 65 {
+        return FieldType::Plain(Form::Dotted);
+    }
+    if x == 88 {
+        return FieldType::TypeX;
+    }
+    if x == 82 {
+        return FieldType::TypeR;
+    }
+    if x == 84 {
+        return FieldType::Plain(Form::Time);
+    }
+    FieldType::NoType
+}
+
+// The type from a to e, by the table.
+fn word_type(s: &[u8], a: usize, e: usize) -> FieldType
     requires { ⌜ (a ≤ e) × (e ≤ length (now s)) ⌝ }
     ensures { λ r. ⌜ takenBy r ≡ takesOf typeRows (slice a e (now (s .entry))) ⌝ }
 {
@@ -239,8 +282,81 @@ fn made(s: &[u8], a: usize, b: usize, w: Words) -> Meant
     }
 }
 
-// A type that takes words, with the qualifiers from a to b.
+// What one letter makes of a name.
+fn name_by_letter(x: u8) -> ByLetter
+    ensures { λ r. ⌜ MadeBy OnN x r ⌝ }
+{
+    if x == 67 {
+        return ByLetter::Makes(Form::Name(true, false, false, false));
+    }
+    if x == 65 {
+        return ByLetter::Makes(Form::Name(false, true, false, false));
+    }
+    if x == 76 {
+        return ByLetter::Makes(Form::Name(false, false, true, false));
+    }
+    if x == 79 {
+        return ByLetter::Makes(Form::Name(false, false, false, true));
+    }
+    ByLetter::Other
+}
+
+// What one letter makes of a string.
+fn string_by_letter(x: u8) -> ByLetter
+    ensures { λ r. ⌜ MadeBy OnS x r ⌝ }
+{
+    if x == 77 {
+        return ByLetter::Makes(Form::Strs);
+    }
+    if x == 88 {
+        return ByLetter::Makes(Form::Raw);
+    }
+    ByLetter::Other
+}
+
+// What one letter makes of a type that takes words.
+fn kind_by_letter(w: Words, x: u8) -> ByLetter
+    ensures { λ r. ⌜ MadeBy w x r ⌝ }
+{
+    match w {
+        Words::Nothing => ByLetter::Other,
+        Words::OnR => {
+            if x == 76 {
+                return ByLetter::Makes(Form::Bitmap);
+            }
+            ByLetter::Other
+        }
+        Words::OnN => name_by_letter(x),
+        Words::OnS => string_by_letter(x),
+        Words::OnX => {
+            if x == 67 {
+                return ByLetter::Makes(Form::Hexc);
+            }
+            ByLetter::Other
+        }
+    }
+}
+
+// A type that takes words, with the qualifiers from a to b. Most often there is one, of one letter.
 fn words_meant(s: &[u8], a: usize, b: usize, w: Words) -> Meant
+    requires { ⌜ (a < b) × (b ≤ length (now s)) ⌝ }
+    ensures { λ r. ⌜ meantIn (now (s .entry)) a b r ≡ meaningBy (allowed (listed w)) (now (s .entry)) a b ⌝ }
+{
+    if b - a == 1 {
+        let m = kind_by_letter(w, s[a]);
+        match m {
+            ByLetter::Other => {
+                return listed_meant(s, a, b, w);
+            }
+            ByLetter::Makes(f) => {
+                return Meant::Means(f);
+            }
+        }
+    }
+    listed_meant(s, a, b, w)
+}
+
+fn listed_meant(s: &[u8], a: usize, b: usize, w: Words) -> Meant
     requires { ⌜ (a < b) × (b ≤ length (now s)) ⌝ }
     ensures { λ r. ⌜ meantIn (now (s .entry)) a b r ≡ meaningBy (allowed (listed w)) (now (s .entry)) a b ⌝ }
 {
