@@ -163,7 +163,7 @@ pub fn is_tail(f: Form) -> bool
         Form::Dotted => false,
         Form::Aa => false,
         Form::Aaaa => false,
-        Form::Name(c, a, l, o) => o,
+        Form::Name(m) => 8 <= m,
         Form::Str => false,
         Form::Strs => true,
         Form::Raw => true,

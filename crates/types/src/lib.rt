@@ -7,12 +7,13 @@ ghost use mathlib.Core.List.{List, [], _∷_};
 ghost use mathlib.Core.Option.{none, some};
 ghost use Rattle.format.specs.Octets.{sameOctets};
 ghost use Rattle.format.specs.Types.{typeRows, takesOf, allowed, symbols, meaningOf};
-ghost use Rattle.types.specs.Types.{takenBy, meantIn, meaningBy, qualifiedIn, meaningIn, listed, nameForm, madeOf, MadeBy};
+ghost use Rattle.types.specs.Types.{takenBy, meantIn, meaningBy, qualifiedIn, meaningIn, listed, markOf, marksOf, nameForm, madeOf, MadeBy};
 ghost use Rattle.qualifiers.specs.declared.Words.the-variants.{OnN, OnS};
 use qualifiers::Test;
 use qualifiers::Words;
 
-// A kind of field: the octets of an integer or an EUI; the marks C, A, L, O of a name.
+// A kind of field: the octets of an integer or an EUI; the marks C, A, L, O of a name, as 1, 2, 4, 8 in one octet, so that an array
+// of fields has no gaps and is cleared at once.
 pub enum Form {
     Int(u8),
     Rrtype,
@@ -20,7 +21,7 @@ pub enum Form {
     Dotted,
     Aa,
     Aaaa,
-    Name(bool, bool, bool, bool),
+    Name(u8),
     Str,
     Strs,
     Raw,
@@ -244,6 +245,22 @@ fn symbols_meant(s: &[u8], a: usize, b: usize, w: u8) -> Meant
     Meant::Means(Form::Int(w))
 }
 
+// A mark's number, where it is given.
+fn mark(given: bool, k: u8) -> u8
+    ensures { λ r. ⌜ r ≡ markOf given k ⌝ }
+{
+    if given { k } else { 0 }
+}
+
+// The marks of a name in one octet.
+fn marks(c: bool, m: bool, l: bool, o: bool) -> u8
+    ensures { λ r. ⌜ r ≡ marksOf c m l o ⌝ }
+{
+    let low = mark(c, 1) | mark(m, 2);
+    let high = mark(l, 4) | mark(o, 8);
+    low | high
+}
+
 // The form of a name with the qualifiers from a to b.
 fn name_form(s: &[u8], a: usize, b: usize) -> Form
     requires { ⌜ (a ≤ b) × (b ≤ length (now s)) ⌝ }
@@ -253,7 +270,7 @@ fn name_form(s: &[u8], a: usize, b: usize) -> Form
     let m = qualifiers::any(Test::IsWord(65), s, a, b);
     let l = qualifiers::any(Test::IsWord(76), s, a, b);
     let o = qualifiers::any(Test::IsWord(79), s, a, b);
-    Form::Name(c, m, l, o)
+    Form::Name(marks(c, m, l, o))
 }
 
 // What the words of a type make, each given once, and one at least.
@@ -287,16 +304,16 @@ fn name_by_letter(x: u8) -> ByLetter
     ensures { λ r. ⌜ MadeBy OnN x r ⌝ }
 {
     if x == 67 {
-        return ByLetter::Makes(Form::Name(true, false, false, false));
+        return ByLetter::Makes(Form::Name(1));
     }
     if x == 65 {
-        return ByLetter::Makes(Form::Name(false, true, false, false));
+        return ByLetter::Makes(Form::Name(2));
     }
     if x == 76 {
-        return ByLetter::Makes(Form::Name(false, false, true, false));
+        return ByLetter::Makes(Form::Name(4));
     }
     if x == 79 {
-        return ByLetter::Makes(Form::Name(false, false, false, true));
+        return ByLetter::Makes(Form::Name(8));
     }
     ByLetter::Other
 }
@@ -380,7 +397,7 @@ fn plain_meant(t: FieldType) -> Meant
         FieldType::Int4 => Meant::Means(Form::Int(4)),
         FieldType::Plain(f) => Meant::Means(f),
         FieldType::TypeR => Meant::Means(Form::Rrtype),
-        FieldType::TypeN => Meant::Means(Form::Name(false, false, false, false)),
+        FieldType::TypeN => Meant::Means(Form::Name(0)),
         FieldType::TypeS => Meant::Means(Form::Str),
         FieldType::TypeX => Meant::Means(Form::Hex),
     }
