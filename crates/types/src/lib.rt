@@ -236,6 +236,9 @@ fn symbols_meant(s: &[u8], a: usize, b: usize, w: u8) -> Meant
     ensures { λ r. ⌜ meantIn (now (s .entry)) a b r ≡ meaningBy (allowed (symbols w)) (now (s .entry)) a b ⌝ }
 {
     let m = limit(w);
+    if qualifiers::plain_symbols(m, s, a, b) {
+        return Meant::Means(Form::Int(w));
+    }
     if qualifiers::any(Test::NotSymbol(m), s, a, b) {
         return refused(s, a, b);
     }
