@@ -69,24 +69,6 @@ module _ (f : ℕ → Bool) where
       by true q ih = rw (q, ih)
       by false q ih = refl
 
-  pub all-long : (t : List ℕ) → length (span f t .front) ≡ length t → allOf f t ≡ true
-  all-long [] h = refl
-  all-long (x ∷ t) h = by (f x) refl h (all-long t)
-    where
-      by : (b : Bool) → f x ≡ b → length (spanning b x t (span f t) .front) ≡ suc (length t)
-          → (length (span f t .front) ≡ length t → allOf f t ≡ true) → f x && allOf f t ≡ true
-      by true q h ih = rw (q, ih (omega arith))
-      by false q h ih = absurd (omega arith)
-
-  pub all-short : (t : List ℕ) → (length (span f t .front) ≡ length t → ⊥) → allOf f t ≡ false
-  all-short [] h = absurd (h refl)
-  all-short (x ∷ t) h = by (f x) refl h (all-short t)
-    where
-      by : (b : Bool) → f x ≡ b → (length (spanning b x t (span f t) .front) ≡ suc (length t) → ⊥)
-          → ((length (span f t .front) ≡ length t → ⊥) → allOf f t ≡ false) → f x && allOf f t ≡ false
-      by true q h ih = rw (q, ih (λ g. h (ap suc g)))
-      by false q h ih = rw q
-
   pub front-part : (s : List ℕ) (i e : ℕ) → i ≤ e → e ≤ length s → slice i (frontEnd f s i e) s ≡ span f (slice i e s) .front
   front-part s i e h l =
       let n : ℕ = length (span f (slice i e s) .front) in
@@ -139,14 +121,11 @@ overlong s i e z q k =
 
 -- free text
 module _ (s : List ℕ) (i e : ℕ) (h : i < e) (l : e ≤ length s) where
-  pub text-on : blank (getD s i 0) ≡ true → e ≡ frontEnd (inRange 0x20 0xFE) s (i + 1) e → some (partIn s (i + 1) e) ≡ freeTextAt e (slice i e s)
-  text-on b q =
-      let n : length (span (inRange 0x20 0xFE) (slice (i + 1) e s) .front) ≡ length (slice (i + 1) e s) = omega (arith, length-slice (i + 1) e s l) in
-      rw (next s i e h l, b, all-long (inRange 0x20 0xFE) (slice (i + 1) e s) n, place s (i + 1) e (omega arith) l)
+  pub text-on : blank (getD s i 0) ≡ true → allOf (inRange 0x20 0xFE) (slice (i + 1) e s) ≡ true → some (partIn s (i + 1) e) ≡ freeTextAt e (slice i e s)
+  text-on b q = rw (next s i e h l, b, q, place s (i + 1) e (omega arith) l)
 
-  pub text-broken : blank (getD s i 0) ≡ true → (e ≡ frontEnd (inRange 0x20 0xFE) s (i + 1) e → ⊥) → none ≡ freeTextAt e (slice i e s)
-  text-broken b q =
-      rw (next s i e h l, b, all-short (inRange 0x20 0xFE) (slice (i + 1) e s) (λ n. q (omega (arith, length-slice (i + 1) e s l))))
+  pub text-broken : blank (getD s i 0) ≡ true → allOf (inRange 0x20 0xFE) (slice (i + 1) e s) ≡ false → none ≡ freeTextAt e (slice i e s)
+  text-broken b q = rw (next s i e h l, b, q)
 
   pub text-tight : blank (getD s i 0) ≡ false → none ≡ freeTextAt e (slice i e s)
   text-tight b = rw (next s i e h l, b)

@@ -105,7 +105,7 @@ fn free_text(s: &[u8], i: usize, end: usize) -> Place
 {
     if i < end {
         if octets::is_in(Class::Blank, s[i]) {
-            if octets::skip(s, i + 1, end, Class::FreeText) == end {
+            if octets::all_free(s, i + 1, end) {
                 return Place::At(i + 1);
             }
         }

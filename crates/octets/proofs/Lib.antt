@@ -1,3 +1,5 @@
 pub mod Slices
 pub mod Numbers
+pub mod Blocks
+pub mod Letters
 pub mod Lines

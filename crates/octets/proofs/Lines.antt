@@ -11,7 +11,7 @@ use Rattle.format.specs.Lists.{Spanned, spanning, span, consFirst, parting, spl
 use Rattle.format.specs.Octets.{splitOn}
 use Rattle.format.specs.Field.{Part}
 use Rattle.format.specs.Lines.{placed, withoutEmptyLast, linesOf}
-use Rattle.octets.specs.Octets.{inClass, partIn}
+use Rattle.octets.specs.Octets.{inClass, lineEnd, partIn}
 use Rattle.octets.specs.declared.Class.the-variants.{NotNewline}
 use Rattle.octets.proofs.Slices.{frontEnd, front-rest, front-within, span-rest, span-front}
 
@@ -64,10 +64,6 @@ part-front (x ∷ s) (suc at) n = let q : suc at + n ≡ suc (at + n) = omega ar
 -- the lines from a place on
 abbrev pub linesFrom : List ℕ → ℕ → List Part
 linesFrom s at = placed at (linesOf (drop at s))
-
--- the end of the line that begins at a place
-abbrev pub lineEnd : List ℕ → ℕ → ℕ
-lineEnd s at = frontEnd (inClass NotNewline) s at (length s)
 
 to-end : (s : List ℕ) (at : ℕ) → slice at (length s) s ≡ drop at s
 to-end s at = ap (drop at) (take-length s)

@@ -1,11 +1,13 @@
 -- What the code's classes and answers mean, by the definitions of document 01.
-use Prim.Native.Nat.{ℕ}
+use Prim.Native.Nat.{ℕ, _+_}
 use Prim.Native.Char.{code}
 use mathlib.Core.Bool.{Bool, not}
 use mathlib.Core.List.{List, [], _∷_}
 use mathlib.Core.Option.{Option, none, some}
 use lib.Dec.{eqb}
+use lib.ListN.{length}
 use lib.Seq.{slice}
+use Rattle.format.specs.Lists.{span}
 use Rattle.format.specs.Octets.{blank, digit, letter, alphanumeric, nameOctet, inRange}
 use Rattle.format.specs.Field.{Part}
 use Rattle.octets.specs.declared.Class.{Class}
@@ -23,6 +25,10 @@ inClass NameOctet x = nameOctet x
 inClass NotBracket x = not (eqb x (code "]"))
 inClass NotComma x = not (eqb x (code ","))
 inClass FreeText x = inRange 0x20 0xFE x
+
+-- the end of the line from i on
+abbrev pub lineEnd : List ℕ → ℕ → ℕ
+lineEnd s i = i + length (span (inClass NotNewline) (slice i (length s) s) .front)
 
 -- the part of a stanza from a to e
 abbrev pub partIn : List ℕ → ℕ → ℕ → Part

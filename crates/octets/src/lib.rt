@@ -1,12 +1,15 @@
 // Octets in a slice: their classes, the longest run of one, decimal numbers, and words.
-ghost use Prim.Native.Nat.{_+_, _≤_};
+ghost use Prim.Native.Nat.{_+_, _-_, _≤_};
 ghost use lib.ListN.{length};
 ghost use lib.Seq.{slice};
+ghost use lib.Dec.{leb};
+ghost use mathlib.Core.Bool.{_&&_};
 ghost use mathlib.Core.Path.{_≡_};
-ghost use Rattle.format.specs.Lists.{span};
+ghost use Rattle.format.specs.Lists.{span, allOf};
 ghost use Rattle.format.specs.Octets.{lowered, sameWord, sameOctets};
 ghost use Rattle.format.specs.Number.{decimalOf};
-ghost use Rattle.octets.specs.Octets.{inClass, firstOr, numberOf};
+ghost use Rattle.octets.specs.Octets.{inClass, lineEnd, firstOr, numberOf};
+ghost use Rattle.octets.specs.declared.Class.the-variants.{NotNewline, FreeText};
 
 // The classes of octets in a stanza; see specs/Octets.antt.
 pub enum Class {
@@ -37,19 +40,15 @@ fn is_digit(b: u8) -> bool
     b <= 57
 }
 
+// A capital differs from its small letter by one bit, so that one range is tested.
 fn is_letter(b: u8) -> bool
     ensures { λ r. ⌜ r ≡ Rattle.format.specs.Octets.letter b ⌝ }
 {
-    if b < 65 {
+    let small = b | 32;
+    if small < 97 {
         return false;
     }
-    if b <= 90 {
-        return true;
-    }
-    if b < 97 {
-        return false;
-    }
-    b <= 122
+    small <= 122
 }
 
 // Whether an octet is of a class.
@@ -106,6 +105,142 @@ pub fn skip(s: &[u8], i: usize, e: usize, c: Class) -> usize
         }
     }
     j
+}
+
+// Whether 16 octets from i on are no LF: no way out of the loop, so that they are tested at once.
+fn sixteen_in_line(s: &[u8], i: usize) -> bool
+    requires { ⌜ i + 16 ≤ length (now s) ⌝ }
+    ensures { λ r. ⌜ r ≡ allOf (inClass NotNewline) (slice i (i + 16) (now (s .entry))) ⌝ }
+{
+    let mut all = true;
+    let mut k = 0;
+    while k < 16 {
+        all = all & is_in(Class::NotNewline, s[i + k]);
+        k = k + 1;
+    }
+    all
+}
+
+// The same of 8 octets.
+fn eight_in_line(s: &[u8], i: usize) -> bool
+    requires { ⌜ i + 8 ≤ length (now s) ⌝ }
+    ensures { λ r. ⌜ r ≡ allOf (inClass NotNewline) (slice i (i + 8) (now (s .entry))) ⌝ }
+{
+    let mut all = true;
+    let mut k = 0;
+    while k < 8 {
+        all = all & is_in(Class::NotNewline, s[i + k]);
+        k = k + 1;
+    }
+    all
+}
+
+// Whether 16 octets are left from i on, and none is a LF.
+fn line_goes_on(s: &[u8], i: usize) -> bool
+    requires { ⌜ i ≤ length (now s) ⌝ }
+    ensures { λ r. ⌜ r ≡ leb 16 (length (now (s .entry)) - i) && allOf (inClass NotNewline) (slice i (i + 16) (now (s .entry))) ⌝ }
+{
+    if s.len() - i < 16 {
+        return false;
+    }
+    sixteen_in_line(s, i)
+}
+
+// A place in the same line: 8 octets on, where no LF is among them.
+fn eight_on(s: &[u8], i: usize) -> usize
+    requires { ⌜ i ≤ length (now s) ⌝ }
+    ensures { λ r. ⌜ (i ≤ r) × (r ≤ length (now (s .entry))) × (lineEnd (now (s .entry)) r ≡ lineEnd (now (s .entry)) i) ⌝ }
+{
+    if s.len() - i < 8 {
+        return i;
+    }
+    if eight_in_line(s, i) {
+        return i + 8;
+    }
+    i
+}
+
+// The end of the line from i on.
+pub fn line_end(s: &[u8], i: usize) -> usize
+    requires { ⌜ i ≤ length (now s) ⌝ }
+    ensures { λ r. ⌜ r ≡ lineEnd (now (s .entry)) i ⌝ }
+{
+    let mut j = i;
+    while line_goes_on(s, j) {
+        j = j + 16;
+    }
+    let k = eight_on(s, j);
+    skip(s, k, s.len(), Class::NotNewline)
+}
+
+// Whether 16 octets from i on are of free text.
+fn sixteen_free(s: &[u8], i: usize) -> bool
+    requires { ⌜ i + 16 ≤ length (now s) ⌝ }
+    ensures { λ r. ⌜ r ≡ allOf (inClass FreeText) (slice i (i + 16) (now (s .entry))) ⌝ }
+{
+    let mut all = true;
+    let mut k = 0;
+    while k < 16 {
+        all = all & is_in(Class::FreeText, s[i + k]);
+        k = k + 1;
+    }
+    all
+}
+
+fn eight_free(s: &[u8], i: usize) -> bool
+    requires { ⌜ i + 8 ≤ length (now s) ⌝ }
+    ensures { λ r. ⌜ r ≡ allOf (inClass FreeText) (slice i (i + 8) (now (s .entry))) ⌝ }
+{
+    let mut all = true;
+    let mut k = 0;
+    while k < 8 {
+        all = all & is_in(Class::FreeText, s[i + k]);
+        k = k + 1;
+    }
+    all
+}
+
+// Whether 16 octets are left from i to e, and are of free text.
+fn text_goes_on(s: &[u8], i: usize, e: usize) -> bool
+    requires { ⌜ (i ≤ e) × (e ≤ length (now s)) ⌝ }
+    ensures { λ r. ⌜ r ≡ leb 16 (e - i) && allOf (inClass FreeText) (slice i (i + 16) (now (s .entry))) ⌝ }
+{
+    if e - i < 16 {
+        return false;
+    }
+    sixteen_free(s, i)
+}
+
+// Whether 16 octets or more, from i to e, are of free text. The last 16 are tested at once, though some were before.
+fn long_free(s: &[u8], i: usize, e: usize) -> bool
+    requires { ⌜ (i + 16 ≤ e) × (e ≤ length (now s)) ⌝ }
+    ensures { λ r. ⌜ r ≡ allOf (inClass FreeText) (slice i e (now (s .entry))) ⌝ }
+{
+    let mut j = i;
+    while text_goes_on(s, j, e) {
+        j = j + 16;
+    }
+    if e - j < 16 {
+        return sixteen_free(s, e - 16);
+    }
+    false
+}
+
+// Whether the octets from i to e are of free text.
+pub fn all_free(s: &[u8], i: usize, e: usize) -> bool
+    requires { ⌜ (i ≤ e) × (e ≤ length (now s)) ⌝ }
+    ensures { λ r. ⌜ r ≡ allOf (inClass FreeText) (slice i e (now (s .entry))) ⌝ }
+{
+    if 16 <= e - i {
+        return long_free(s, i, e);
+    }
+    if 8 <= e - i {
+        if eight_free(s, i) {
+            return eight_free(s, e - 8);
+        }
+        return false;
+    }
+    skip(s, i, e, Class::FreeText) == e
 }
 
 // The octet at i, or 256 where the part ends before it.

@@ -39,7 +39,7 @@ pub fn put_field(out: &mut [u8], d: FieldDesc, s: &[u8], p: &[u8], i: usize, e: 
         Form::Dotted => address::dotted(out, 0, p, i, e),
         Form::Aa => address::groups(out, 0, p, i, e),
         Form::Aaaa => address::aaaa(out, 0, p, i, e),
-        Form::Name(_, _, _, _) => name::name(out, 0, p, i, e),
+        Form::Name(_) => name::name(out, 0, p, i, e),
         Form::Str => text::string(out, 0, p, i + 1, e),
         Form::Strs => text::strings(out, 0, p, i, e),
         Form::Raw => text::string(out, 0, p, i, e),

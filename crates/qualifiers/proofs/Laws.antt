@@ -9,9 +9,9 @@ use native.Mathlib.Omega.{arith}
 use lib.ListN.{length, take, drop, getD, length-take}
 use lib.Seq.{slice, take-take, take-nil, length-slice}
 use lib.Dec.{eqb, leb, ltb, eqb·zero-suc, eqb·suc-suc}
-use borrow.Author.Tests.{eq-eqb, ne-eqb, lt-leb, le-leb, ltb-true, ltb-false}
+use borrow.Author.Tests.{eq-eqb, ne-eqb, eqb-true, lt-leb, le-leb, ltb-true, ltb-false}
 use Rattle.format.specs.Lists.{_>>=_, provided, eachOf, anyOf, allOf, twice, consFirst, parting, split, Spanned, spanning, span}
-use Rattle.format.specs.Octets.{letter, nameOctet, lowered, sameOctets, sameWord}
+use Rattle.format.specs.Octets.{letter, digit, nameOctet, lowered, sameOctets, sameWord}
 use Rattle.format.specs.Number.{decimalOf}
 use Rattle.format.specs.Field.{Part, Symbol}
 use Rattle.format.specs.Lines.{placed}
@@ -19,8 +19,8 @@ use Rattle.format.specs.Grammar.{Qualifier, word, symbol, startsWithLetter, isN
 use Rattle.format.specs.Types.{knownWord, hasWord}
 use Rattle.octets.specs.Octets.{partIn, numberOf}
 use Rattle.octets.specs.declared.Number.the-variants.{Value, Fault}
-use Rattle.octets.proofs.Slices.{next, none as nothing, rest, frontEnd, front-rest, front-within, span-front, span-length}
-use Rattle.qualifiers.specs.Qualifiers.{piecesIn, wordsFor, holdsOf, sameBy, nameIn, twiceIn}
+use Rattle.octets.proofs.Slices.{next, none as nothing, rest, frontEnd, front-on, front-end, front-rest, front-within, span-front, span-length}
+use Rattle.qualifiers.specs.Qualifiers.{piecesIn, wordsFor, holdsOf, anyIn, sameBy, nameIn, twiceIn}
 use Rattle.qualifiers.specs.declared.Test.{Test}
 use Rattle.qualifiers.specs.declared.Test.the-variants.{Malformed, Unknown, NotSymbol, NotWord, IsWord}
 use Rattle.qualifiers.specs.declared.Words.{Words}
@@ -68,7 +68,7 @@ module _ (f : ℕ → Bool) where
   all-passes s i e h l = rw (← front s i e h l) (all-front (slice i e s))
 
 -- texts that are the same
-same-next : (g : Bool) (x y : ℕ) (xs ys : List ℕ) → sameBy g (x ∷ xs) (y ∷ ys) ≡ eqb (cond g (lowered x) x) (cond g (lowered y) y) && sameBy g xs ys
+pub same-next : (g : Bool) (x y : ℕ) (xs ys : List ℕ) → sameBy g (x ∷ xs) (y ∷ ys) ≡ eqb (cond g (lowered x) x) (cond g (lowered y) y) && sameBy g xs ys
 same-next true x y xs ys = refl
 same-next false x y xs ys = refl
 
@@ -322,3 +322,30 @@ module _ (s : List ℕ) (i b z : ℕ) (h : i ≤ b) (l : b ≤ length s) (q : z 
 -- the name of a qualifier from i to z ends where the octets of names do
 pub named-in : (g : Bool) (s : List ℕ) (i z m : ℕ) → i ≤ z → z ≤ length s → m ≡ frontEnd nameOctet s i z → (t : List ℕ) (r : Bool) → r ≡ sameBy g t (slice i m s) → r ≡ sameBy g t (nameIn (partIn s i z))
 named-in g s i z m h l q t r e = e ∙ ap (sameBy g t) (ap (λ k. slice i k s) q ∙ sym (front nameOctet s i z h l))
+
+-- one letter between a and b is one word
+no-comma : (x : ℕ) → letter x ≡ true → eqb x (code ",") ≡ false
+no-comma x h = by (eqb x (code ",")) refl
+  where
+    by : (t : Bool) → eqb x (code ",") ≡ t → t ≡ false
+    by true e = let q : x ≡ code "," = eqb-true x (code ",") e in sym (rw q at h)
+    by false e = refl
+
+or-first : (u v : Bool) → u ≡ true → u || v ≡ true
+or-first u v h = rw h
+
+module _ (s : List ℕ) (a b : ℕ) (h : a ≤ b) (l : b ≤ length s) (q : b - a ≡ 1) (e : letter (getD s a 0) ≡ true) where
+  one-front : (f : ℕ → Bool) → f (getD s a 0) ≡ true → b ≡ frontEnd f s a b
+  one-front f t = let z : b ≡ a + 1 = omega arith in z ∙ front-end f s (a + 1) b (omega arith) ∙ front-on f s a b (omega arith) l t
+
+  pub any-letter : (t : Test) → holdsOf t (some (word (getD s a 0 ∷ []))) ≡ anyIn t s a b
+  any-letter t =
+      let n : b ≡ frontEnd nameOctet s a b = one-front nameOctet (or-first (letter (getD s a 0) || digit (getD s a 0)) (eqb (getD s a 0) (code "-")) (or-first (letter (getD s a 0)) (digit (getD s a 0)) e)) in
+      let c : b ≡ frontEnd notComma s a b = one-front notComma (ap not (no-comma (getD s a 0) e)) in
+      let g : begins (slice a b s) ≡ true = begins-next s a b (omega arith) l ∙ rw (e, q) in
+      ap (λ v. holdsOf t (some (word v))) (sym (letter-word s a b h l q)) ∙ ap (holdsOf t) (found-word s a b b h l n g refl) ∙ last (holdsOf t (qualifier (partIn s a b)))
+      ∙ ap (anyOf (λ p. holdsOf t (qualifier p))) (sym (last-piece s a b b h l c refl))
+    where
+      last : (v : Bool) → v ≡ v || false
+      last true = refl
+      last false = refl

@@ -1,12 +1,12 @@
 -- What a field makes of its token, by its kind.
-use Prim.Native.Nat.{ℕ, _<_, _≤_}
+use Prim.Native.Nat.{ℕ, _/_, _%_, _<_, _≤_}
 use mathlib.Core.Path.{_≡_, refl, sym, ap, subst, _∙_}
 use mathlib.Core.Bool.{Bool, true, false, cond, _&&_, _||_, true≢false}
 use mathlib.Core.List.{List, [], _∷_}
 use mathlib.Core.Option.{Option, none, some}
 use native.Mathlib.Omega.{arith}
 use lib.ListN.{length, drop, drop-of-length-le}
-use lib.Dec.{eqb}
+use lib.Dec.{eqb, leb}
 use types.Run.{OneOf, miss}
 use denote.Enum.Declared.{tagOf}
 use borrow.Author.Tests.{eqb-true}
@@ -57,7 +57,7 @@ only-strings Bitmap g h l o x = refl
 only-strings Dotted g h l o x = refl
 only-strings Aa g h l o x = refl
 only-strings Aaaa g h l o x = refl
-only-strings (Name c a i b) g h l o x = refl
+only-strings (Name m) g h l o x = refl
 only-strings Str g h l o x = absurd (miss (except 7) 7 tt g)
 only-strings Strs g h l o x = refl
 only-strings Raw g h l o x = absurd (miss (except 9) 9 tt h)
@@ -119,7 +119,7 @@ none-else Bitmap g l h o = absurd (true≢false (sym h))
 none-else Dotted g l h o = refl
 none-else Aa g l h o = refl
 none-else Aaaa g l h o = refl
-none-else (Name c a i b) g l h o = absurd (miss (except 6) 6 tt g)
+none-else (Name m) g l h o = absurd (miss (except 6) 6 tt g)
 none-else Str g l h o = refl
 none-else Strs g l h o = absurd (true≢false (sym h))
 none-else Raw g l h o = refl
@@ -130,10 +130,13 @@ none-else Hexc g l h o = refl
 none-else (Eui w) g l h o = refl
 none-else Time g l h o = refl
 
-pub none-name : (c a i b : Bool) (l : List Symbol) (o : List ℕ) → readField (kindOf l (Name c a i b)) o [] ≡ cond b (got [] []) noToken
+pub none-name : (m : ℕ) (l : List Symbol) (o : List ℕ) → readField (kindOf l (Name m)) o [] ≡ cond (leb 8 m) (got [] []) noToken
 unfolding readField
-none-name c a i true l o = refl
-none-name c a i false l o = refl
+none-name m l o = by (leb 8 m)
+  where
+    by : (b : Bool) → readField (name (record { compressed = eqb (m % 2) 1; mailbox = eqb (m / 2 % 2) 1; lowerCase = eqb (m / 4 % 2) 1; optional = b })) o [] ≡ cond b (got [] []) noToken
+    by true = refl
+    by false = refl
 
 -- the octets of a token, after which the tokens from j on are left
 pub gives : (before after t : List ℕ) (n : ℕ) (v : Value) (p : Option (List ℕ)) (j : ℕ) → Values before after n v p → j ≤ length t → Gives before after n t (placedAt v j) (gotOr p (tokens (drop j t)))
@@ -179,7 +182,7 @@ one-form Bitmap p q r s l = absurd (miss (except 2) 2 tt p)
 one-form Dotted p q r s l = refl
 one-form Aa p q r s l = refl
 one-form Aaaa p q r s l = refl
-one-form (Name c a i b) p q r s l = refl
+one-form (Name m) p q r s l = refl
 one-form Str p q r s l = refl
 one-form Strs p q r s l = absurd (miss (except 8) 8 tt q)
 one-form Raw p q r s l = refl

@@ -52,8 +52,8 @@ fn before(v: Value, j: usize) -> Field
 fn none_left(f: Form, n: usize, i: usize) -> Field
     ensures { λ r. ⌜ ((b t : List ℕ) (l : List Symbol) (o : List ℕ) → i ≤ length t → tokens (drop i t) ≡ [] → takesOne (kindOf l f) ≡ true → Gives b b n t r (readField (kindOf l f) o [])) ⌝ }
 {
-    if let Form::Name(_, _, _, optional) = f {
-        if optional {
+    if let Form::Name(m) = f {
+        if 8 <= m {
             return Field::Upto(n, i);
         }
     }

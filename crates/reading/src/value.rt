@@ -48,7 +48,7 @@ pub fn of_bare(
         Form::Dotted => address::dotted(out, n, t, a, e),
         Form::Aa => address::four_groups(out, n, t, a, e),
         Form::Aaaa => address::aaaa(out, n, t, a, e),
-        Form::Name(_, _, _, _) => name::name(out, n, t, a, e, origin),
+        Form::Name(_) => name::name(out, n, t, a, e, origin),
         Form::Str => text::string(out, n, t, a, e, false),
         Form::Strs => Value::Fault,
         Form::Raw => text::raw(out, n, t, a, e, false),

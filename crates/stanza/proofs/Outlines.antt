@@ -18,10 +18,10 @@ use Rattle.format.specs.Types.{Meaning, unknown, forbidden, means, meaning}
 use Rattle.format.specs.Field.{Part, Field, tail}
 use Rattle.format.specs.Lines.{lines}
 use Rattle.format.specs.Judge.{Description, Progress, beforeHeader, afterHeader, Verdict, faulty, goesOn, afterTail, sameName, withField, ofMeaning, ofFieldLine, ofHeader, contentLine, ignored, lineVerdict, Judged, rejected, described, atEnd, afterLine, judgedFrom, judged}
-use Rattle.octets.specs.Octets.{inClass, partIn}
+use Rattle.octets.specs.Octets.{inClass, lineEnd, partIn}
 use Rattle.octets.specs.declared.Class.the-variants.{NotNewline}
 use Rattle.octets.proofs.Slices.{front-within}
-use Rattle.octets.proofs.Lines.{linesFrom, lineEnd, next-line, no-line}
+use Rattle.octets.proofs.Lines.{linesFrom, next-line, no-line}
 use Rattle.types.specs.declared.Form.{Form}
 use Rattle.types.specs.Types.{kindIn}
 use Rattle.stanza.specs.declared.FieldDesc.{FieldDesc}

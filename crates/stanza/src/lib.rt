@@ -163,7 +163,7 @@ pub fn is_tail(f: Form) -> bool
         Form::Dotted => false,
         Form::Aa => false,
         Form::Aaaa => false,
-        Form::Name(c, a, l, o) => o,
+        Form::Name(m) => 8 <= m,
         Form::Str => false,
         Form::Strs => true,
         Form::Raw => true,
@@ -326,7 +326,7 @@ pub fn judged_outline(s: &[u8]) -> Outline
     let mut at = 0;
     let mut line: u16 = 1;
     while at < s.len() {
-        let e = octets::skip(s, at, s.len(), Class::NotNewline);
+        let e = octets::line_end(s, at);
         let step = line_step(s, at, e, have, last, &names, &ends, n);
         match step {
             Step::Skip => {

@@ -11,7 +11,7 @@ use lib.Seq.{slice}
 use Rattle.format.specs.Lists.{_>>=_, consBoth, eachOf, anyOf, allOf, twice, provided, null, parting}
 use Rattle.format.specs.Lines.{placed}
 use Rattle.format.specs.Octets.{ascii, sameOctets, splitOn}
-use Rattle.format.specs.Field.{Part, Kind, Symbol, rrtype, bitmap, str, strs, raw, hex, hexc}
+use Rattle.format.specs.Field.{Part, Kind, Symbol, name, rrtype, bitmap, str, strs, raw, hex, hexc}
 use Rattle.format.specs.Grammar.{Qualifier, qualifier}
 use Rattle.format.specs.Types.{Takes, symbols, words, noWords, hasWord, nameKind, stringKind, unknownWord, symbolOf, wordOf, sameSymbol, allowed, Meaning, unknown, forbidden, means, orForbidden, meaningOf, typeRows, takesOf}
 use Rattle.qualifiers.specs.Qualifiers.{piecesIn, qualifiersIn, anyIn, twiceIn, wordsFor}
@@ -23,7 +23,7 @@ use Rattle.types.specs.declared.Form.{Form}
 use Rattle.types.specs.declared.Form.the-variants.{Int, Rrtype, Bitmap, Dotted, Aa, Aaaa, Name, Str, Strs, Raw, Base32, Base64, Hex, Hexc, Eui, Time}
 use Rattle.types.specs.declared.Meant.{Meant}
 use Rattle.types.specs.declared.Meant.the-variants.{Forbidden, Means}
-use Rattle.types.specs.Types.{kindOf, kindIn, meantIn, meaningBy, qualifiedIn, meaningIn, listed, madeOf}
+use Rattle.types.specs.Types.{kindOf, kindIn, meantIn, meaningBy, qualifiedIn, meaningIn, listed, marksOf, madeOf}
 
 -- qualifiers that break the grammar, that are not known, and that are known and not allowed
 module _ (f : List Qualifier → Option Kind) (s : List ℕ) (a b : ℕ) where
@@ -79,10 +79,29 @@ no-word : (given : List (List ℕ)) → allOf (hasWord []) given ≡ true → nu
 no-word [] h n = true≢false n
 no-word (w ∷ ws) h n = true≢false (sym h)
 
+-- a name's marks
+kind-marks : (l : List Symbol) (c a i o : Bool) → kindOf l (Name (marksOf c a i o)) ≡ name (record { compressed = c; mailbox = a; lowerCase = i; optional = o })
+kind-marks l true true true true = refl
+kind-marks l true true true false = refl
+kind-marks l true true false true = refl
+kind-marks l true true false false = refl
+kind-marks l true false true true = refl
+kind-marks l true false true false = refl
+kind-marks l true false false true = refl
+kind-marks l true false false false = refl
+kind-marks l false true true true = refl
+kind-marks l false true true false = refl
+kind-marks l false true false true = refl
+kind-marks l false true false false = refl
+kind-marks l false false true true = refl
+kind-marks l false false true false = refl
+kind-marks l false false false true = refl
+kind-marks l false false false false = refl
+
 pub words-once : (t : Words) (s : List ℕ) (a b : ℕ) → anyIn (NotWord t) s a b ≡ false → twiceIn false s a b ≡ false → meantIn s a b (madeOf s a b t) ≡ meaningBy (allowed (listed t)) s a b
 words-once Nothing s a b h k = let g = words-given Nothing s a b h in absurd (no-word (g .given) (g .taken) (g .some-given))
 words-once OnR s a b h k = let g = words-given OnR s a b h in rw (g .found, g .known, g .all, g .taken, g .once, k, g .some-given)
-words-once OnN s a b h k = let g = words-given OnN s a b h in rw (g .found, g .known, g .all, g .taken, g .once, k, g .has 67, g .has 65, g .has 76, g .has 79)
+words-once OnN s a b h k = let g = words-given OnN s a b h in rw (g .found, g .known, g .all, g .taken, g .once, k, g .has 67, g .has 65, g .has 76, g .has 79) (ap (λ k. some (means k)) (kind-marks [] (anyIn (IsWord 67) s a b) (anyIn (IsWord 65) s a b) (anyIn (IsWord 76) s a b) (anyIn (IsWord 79) s a b)))
 words-once OnS s a b h k = let g = words-given OnS s a b h in rw (g .found, g .known, g .all, g .taken, g .once, k, g .has 77, g .has 88) (by (anyIn (IsWord 77) s a b) (anyIn (IsWord 88) s a b))
   where
     by : (m x : Bool) → meantIn s a b (cond m (cond x Forbidden (Means Strs)) (cond x (Means Raw) (Means Str)))
@@ -137,7 +156,7 @@ plain-kind s a Bitmap = refl
 plain-kind s a Dotted = refl
 plain-kind s a Aa = refl
 plain-kind s a Aaaa = refl
-plain-kind s a (Name c d i o) = refl
+plain-kind s a (Name m) = refl
 plain-kind s a Str = refl
 plain-kind s a Strs = refl
 plain-kind s a Raw = refl
@@ -162,3 +181,8 @@ module _ (k s : List ℕ) (a b : ℕ) (o : Option Takes) (t : o ≡ takesOf type
 
   pub qualified-in : (a ≡ b → ⊥) → meantIn s a b m ≡ qualifiedIn o s a b → meantIn s a b m ≡ meaningIn k s a b
   qualified-in e h = rw (ne-eqb a b e, ← t) h
+
+-- one letter that a type takes
+module _ (s : List ℕ) (a b x y : ℕ) (h : x ≡ y) (e : slice a b s ≡ x ∷ []) where
+  pub letter-alone : slice a b s ≡ y ∷ []
+  letter-alone = e ∙ ap (λ v. v ∷ []) h

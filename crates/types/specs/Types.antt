@@ -1,13 +1,17 @@
 -- The kinds of fields and the types in code, and what they mean by the definitions of document 01.
-use Prim.Native.Nat.{ℕ}
+use Prim.Native.Nat.{ℕ, _/_, _%_}
+use mathlib.Core.Path.{_≡_}
 use mathlib.Core.Bool.{Bool, true, false, cond}
 use mathlib.Core.List.{List, [], _∷_}
 use mathlib.Core.Option.{Option, none, some}
+use lib.Seq.{slice}
+use lib.Dec.{eqb, leb}
+use lib.Bits.{bitOr}
 use Rattle.format.specs.Lists.{_>>=_, eachOf, anyOf, null}
 use Rattle.format.specs.Octets.{ascii}
 use Rattle.format.specs.Field.{Symbol, NameMarks, Kind, int, rrtype, bitmap, a4, aa, aaaa, name, str, strs, raw, b32, b64, hex, hexc, eui, time}
 use Rattle.format.specs.Grammar.{Qualifier, qualifier}
-use Rattle.format.specs.Types.{Takes, symbols, words, noWords, nameKind, stringKind, unknownWord, symbolOf, Meaning, unknown, forbidden, means, orForbidden, meaningOf, meaning}
+use Rattle.format.specs.Types.{Takes, symbols, words, noWords, nameKind, stringKind, unknownWord, symbolOf, allowed, Meaning, unknown, forbidden, means, orForbidden, meaningOf, meaning}
 use Rattle.qualifiers.specs.Qualifiers.{piecesIn, qualifiersIn, anyIn}
 use Rattle.qualifiers.specs.declared.Words.{Words}
 use Rattle.qualifiers.specs.declared.Words.the-variants.{Nothing, OnR, OnN, OnS, OnX}
@@ -16,6 +20,8 @@ use Rattle.types.specs.declared.Form.{Form}
 use Rattle.types.specs.declared.Form.the-variants.{Int, Rrtype, Bitmap, Dotted, Aa, Aaaa, Name, Str, Strs, Raw, Base32, Base64, Hex, Hexc, Eui, Time}
 use Rattle.types.specs.declared.FieldType.{FieldType}
 use Rattle.types.specs.declared.FieldType.the-variants.{NoType, Int1, Int2, Int4, Plain, TypeR, TypeN, TypeS, TypeX}
+use Rattle.types.specs.declared.ByLetter.{ByLetter}
+use Rattle.types.specs.declared.ByLetter.the-variants.{Other, Makes}
 use Rattle.types.specs.declared.Meant.{Meant}
 use Rattle.types.specs.declared.Meant.the-variants.{Malformed, Unknown, Forbidden, Means}
 
@@ -27,7 +33,7 @@ kindOf l Bitmap = bitmap
 kindOf l Dotted = a4
 kindOf l Aa = aa
 kindOf l Aaaa = aaaa
-kindOf l (Name c a i o) = name (record { compressed = c; mailbox = a; lowerCase = i; optional = o })
+kindOf l (Name m) = name (record { compressed = eqb (m % 2) 1; mailbox = eqb (m / 2 % 2) 1; lowerCase = eqb (m / 4 % 2) 1; optional = leb 8 m })
 kindOf l Str = str
 kindOf l Strs = strs
 kindOf l Raw = raw
@@ -58,7 +64,7 @@ intWidth Bitmap = 0
 intWidth Dotted = 0
 intWidth Aa = 0
 intWidth Aaaa = 0
-intWidth (Name c a i o) = 0
+intWidth (Name m) = 0
 intWidth Str = 0
 intWidth Strs = 0
 intWidth Raw = 0
@@ -107,9 +113,16 @@ listed OnN = words (ascii "C" ∷ ascii "A" ∷ ascii "L" ∷ ascii "O" ∷ []) 
 listed OnS = words (ascii "M" ∷ ascii "X" ∷ []) stringKind
 listed OnX = words (ascii "C" ∷ []) (λ given. some (cond (null given) hex hexc))
 
+-- the marks of a name in one octet
+abbrev pub markOf : Bool → ℕ → ℕ
+markOf given k = cond given k 0
+
+abbrev pub marksOf : Bool → Bool → Bool → Bool → ℕ
+marksOf c a i o = bitOr (bitOr (markOf c 1) (markOf a 2)) (bitOr (markOf i 4) (markOf o 8))
+
 -- what their words make, each given once, and one at least
 abbrev pub nameForm : List ℕ → ℕ → ℕ → Form
-nameForm s a b = Name (anyIn (IsWord 67) s a b) (anyIn (IsWord 65) s a b) (anyIn (IsWord 76) s a b) (anyIn (IsWord 79) s a b)
+nameForm s a b = Name (marksOf (anyIn (IsWord 67) s a b) (anyIn (IsWord 65) s a b) (anyIn (IsWord 76) s a b) (anyIn (IsWord 79) s a b))
 
 abbrev pub madeOf : List ℕ → ℕ → ℕ → Words → Meant
 madeOf s a b Nothing = Forbidden
@@ -117,3 +130,8 @@ madeOf s a b OnR = Means Bitmap
 madeOf s a b OnN = Means (nameForm s a b)
 madeOf s a b OnS = cond (anyIn (IsWord 77) s a b) (cond (anyIn (IsWord 88) s a b) Forbidden (Means Strs)) (cond (anyIn (IsWord 88) s a b) (Means Raw) (Means Str))
 madeOf s a b OnX = Means Hexc
+
+-- what one letter x makes: a kind of field is what it means wherever it stands alone
+abbrev pub MadeBy : Words → ℕ → ByLetter → Type 0
+MadeBy w x Other = Unit {0}
+MadeBy w x (Makes f) = (s : List ℕ) (a b : ℕ) → slice a b s ≡ x ∷ [] → meantIn s a b (Means f) ≡ meaningBy (allowed (listed w)) s a b

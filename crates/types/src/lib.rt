@@ -3,15 +3,17 @@ ghost use Prim.Native.Nat.{ℕ, _≤_, _<_, _^_};
 ghost use lib.ListN.{length, drop};
 ghost use lib.Seq.{slice};
 ghost use mathlib.Core.Path.{_≡_};
-ghost use mathlib.Core.List.{List, []};
+ghost use mathlib.Core.List.{List, [], _∷_};
 ghost use mathlib.Core.Option.{none, some};
 ghost use Rattle.format.specs.Octets.{sameOctets};
 ghost use Rattle.format.specs.Types.{typeRows, takesOf, allowed, symbols, meaningOf};
-ghost use Rattle.types.specs.Types.{takenBy, meantIn, meaningBy, qualifiedIn, meaningIn, listed, nameForm, madeOf};
+ghost use Rattle.types.specs.Types.{takenBy, meantIn, meaningBy, qualifiedIn, meaningIn, listed, markOf, marksOf, nameForm, madeOf, MadeBy};
+ghost use Rattle.qualifiers.specs.declared.Words.the-variants.{OnN, OnS};
 use qualifiers::Test;
 use qualifiers::Words;
 
-// A kind of field: the octets of an integer or an EUI; the marks C, A, L, O of a name.
+// A kind of field: the octets of an integer or an EUI; the marks C, A, L, O of a name, as 1, 2, 4, 8 in one octet, so that an array
+// of fields has no gaps and is cleared at once.
 pub enum Form {
     Int(u8),
     Rrtype,
@@ -19,7 +21,7 @@ pub enum Form {
     Dotted,
     Aa,
     Aaaa,
-    Name(bool, bool, bool, bool),
+    Name(u8),
     Str,
     Strs,
     Raw,
@@ -52,6 +54,12 @@ pub enum Meant {
     Means(Form),
 }
 
+// What one letter makes of a type: a kind of field, or what is told otherwise.
+enum ByLetter {
+    Other,
+    Makes(Form),
+}
+
 // Whether the text from a to e is the word w.
 pub fn is_word(s: &[u8], a: usize, e: usize, w: &[u8]) -> bool
     requires { ⌜ (a ≤ e) × (e ≤ length (now s)) ⌝ }
@@ -71,8 +79,44 @@ pub fn is_word(s: &[u8], a: usize, e: usize, w: &[u8]) -> bool
     false
 }
 
-// The type from a to e.
+// The type from a to e. Those of one letter are told at once.
 pub fn type_of(s: &[u8], a: usize, e: usize) -> FieldType
+    requires { ⌜ (a ≤ e) × (e ≤ length (now s)) ⌝ }
+    ensures { λ r. ⌜ takenBy r ≡ takesOf typeRows (slice a e (now (s .entry))) ⌝ }
+{
+    if e - a == 1 {
+        return letter_type(s[a]);
+    }
+    word_type(s, a, e)
+}
+
+// The type of one letter.
+fn letter_type(x: u8) -> FieldType
+    ensures { λ r. ⌜ takenBy r ≡ takesOf typeRows (x ∷ []) ⌝ }
+{
+    if x == 78 {
+        return FieldType::TypeN;
+    }
+    if x == 83 {
+        return FieldType::TypeS;
+    }
+    if x == 65 {
+        return FieldType::Plain(Form::Dotted);
+    }
+    if x == 88 {
+        return FieldType::TypeX;
+    }
+    if x == 82 {
+        return FieldType::TypeR;
+    }
+    if x == 84 {
+        return FieldType::Plain(Form::Time);
+    }
+    FieldType::NoType
+}
+
+// The type from a to e, by the table.
+fn word_type(s: &[u8], a: usize, e: usize) -> FieldType
     requires { ⌜ (a ≤ e) × (e ≤ length (now s)) ⌝ }
     ensures { λ r. ⌜ takenBy r ≡ takesOf typeRows (slice a e (now (s .entry))) ⌝ }
 {
@@ -192,6 +236,9 @@ fn symbols_meant(s: &[u8], a: usize, b: usize, w: u8) -> Meant
     ensures { λ r. ⌜ meantIn (now (s .entry)) a b r ≡ meaningBy (allowed (symbols w)) (now (s .entry)) a b ⌝ }
 {
     let m = limit(w);
+    if qualifiers::plain_symbols(m, s, a, b) {
+        return Meant::Means(Form::Int(w));
+    }
     if qualifiers::any(Test::NotSymbol(m), s, a, b) {
         return refused(s, a, b);
     }
@@ -199,6 +246,22 @@ fn symbols_meant(s: &[u8], a: usize, b: usize, w: u8) -> Meant
         return Meant::Forbidden;
     }
     Meant::Means(Form::Int(w))
+}
+
+// A mark's number, where it is given.
+fn mark(given: bool, k: u8) -> u8
+    ensures { λ r. ⌜ r ≡ markOf given k ⌝ }
+{
+    if given { k } else { 0 }
+}
+
+// The marks of a name in one octet.
+fn marks(c: bool, m: bool, l: bool, o: bool) -> u8
+    ensures { λ r. ⌜ r ≡ marksOf c m l o ⌝ }
+{
+    let low = mark(c, 1) | mark(m, 2);
+    let high = mark(l, 4) | mark(o, 8);
+    low | high
 }
 
 // The form of a name with the qualifiers from a to b.
@@ -210,7 +273,7 @@ fn name_form(s: &[u8], a: usize, b: usize) -> Form
     let m = qualifiers::any(Test::IsWord(65), s, a, b);
     let l = qualifiers::any(Test::IsWord(76), s, a, b);
     let o = qualifiers::any(Test::IsWord(79), s, a, b);
-    Form::Name(c, m, l, o)
+    Form::Name(marks(c, m, l, o))
 }
 
 // What the words of a type make, each given once, and one at least.
@@ -239,8 +302,81 @@ fn made(s: &[u8], a: usize, b: usize, w: Words) -> Meant
     }
 }
 
-// A type that takes words, with the qualifiers from a to b.
+// What one letter makes of a name.
+fn name_by_letter(x: u8) -> ByLetter
+    ensures { λ r. ⌜ MadeBy OnN x r ⌝ }
+{
+    if x == 67 {
+        return ByLetter::Makes(Form::Name(1));
+    }
+    if x == 65 {
+        return ByLetter::Makes(Form::Name(2));
+    }
+    if x == 76 {
+        return ByLetter::Makes(Form::Name(4));
+    }
+    if x == 79 {
+        return ByLetter::Makes(Form::Name(8));
+    }
+    ByLetter::Other
+}
+
+// What one letter makes of a string.
+fn string_by_letter(x: u8) -> ByLetter
+    ensures { λ r. ⌜ MadeBy OnS x r ⌝ }
+{
+    if x == 77 {
+        return ByLetter::Makes(Form::Strs);
+    }
+    if x == 88 {
+        return ByLetter::Makes(Form::Raw);
+    }
+    ByLetter::Other
+}
+
+// What one letter makes of a type that takes words.
+fn kind_by_letter(w: Words, x: u8) -> ByLetter
+    ensures { λ r. ⌜ MadeBy w x r ⌝ }
+{
+    match w {
+        Words::Nothing => ByLetter::Other,
+        Words::OnR => {
+            if x == 76 {
+                return ByLetter::Makes(Form::Bitmap);
+            }
+            ByLetter::Other
+        }
+        Words::OnN => name_by_letter(x),
+        Words::OnS => string_by_letter(x),
+        Words::OnX => {
+            if x == 67 {
+                return ByLetter::Makes(Form::Hexc);
+            }
+            ByLetter::Other
+        }
+    }
+}
+
+// A type that takes words, with the qualifiers from a to b. Most often there is one, of one letter.
 fn words_meant(s: &[u8], a: usize, b: usize, w: Words) -> Meant
+    requires { ⌜ (a < b) × (b ≤ length (now s)) ⌝ }
+    ensures { λ r. ⌜ meantIn (now (s .entry)) a b r ≡ meaningBy (allowed (listed w)) (now (s .entry)) a b ⌝ }
+{
+    if b - a == 1 {
+        let m = kind_by_letter(w, s[a]);
+        match m {
+            ByLetter::Other => {
+                return listed_meant(s, a, b, w);
+            }
+            ByLetter::Makes(f) => {
+                return Meant::Means(f);
+            }
+        }
+    }
+    listed_meant(s, a, b, w)
+}
+
+fn listed_meant(s: &[u8], a: usize, b: usize, w: Words) -> Meant
     requires { ⌜ (a < b) × (b ≤ length (now s)) ⌝ }
     ensures { λ r. ⌜ meantIn (now (s .entry)) a b r ≡ meaningBy (allowed (listed w)) (now (s .entry)) a b ⌝ }
 {
@@ -264,7 +400,7 @@ fn plain_meant(t: FieldType) -> Meant
         FieldType::Int4 => Meant::Means(Form::Int(4)),
         FieldType::Plain(f) => Meant::Means(f),
         FieldType::TypeR => Meant::Means(Form::Rrtype),
-        FieldType::TypeN => Meant::Means(Form::Name(false, false, false, false)),
+        FieldType::TypeN => Meant::Means(Form::Name(0)),
         FieldType::TypeS => Meant::Means(Form::Str),
         FieldType::TypeX => Meant::Means(Form::Hex),
     }

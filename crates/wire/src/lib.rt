@@ -168,7 +168,7 @@ pub fn take_field(f: Form, s: &[u8], i: usize, e: usize) -> Take
         Form::Dotted => octets(i, e, 4),
         Form::Aa => octets(i, e, 8),
         Form::Aaaa => octets(i, e, 16),
-        Form::Name(_, _, _, o) => name(s, i, e, o),
+        Form::Name(m) => name(s, i, e, 8 <= m),
         Form::Str => counted(s, i, e, 0),
         Form::Strs => strings(s, i, e),
         Form::Raw => rest(i, e),

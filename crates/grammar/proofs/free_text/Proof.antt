@@ -1,6 +1,6 @@
-use native.Mathlib.Omega.{arith}
 use mathlib.Core.Path.{sym, _∙_}
 use Rattle.grammar.proofs.Laws.{text-on, text-broken, text-tight, text-none}
+use native.Mathlib.Omega.{arith}
 use borrow.Author.Needs.{needs}
 use Rattle.grammar.proofs.free_text.Statement.{statement}
 use Rattle.grammar.proofs.free_text.Tie as tie
@@ -11,20 +11,20 @@ shared-slice-read-is-in c = search needs
 is-in-requires : tie.Need-is-in-requires
 is-in-requires c κs = search needs
 
-add-skip : tie.Need-add-skip
-add-skip c = search needs
+add-all-free : tie.Need-add-all-free
+add-all-free c = search needs
 
-skip-requires : tie.Need-skip-requires
-skip-requires c κs = search needs
+all-free-requires : tie.Need-all-free-requires
+all-free-requires c κs = search needs
 
-add-t13 : tie.Need-add-t13
-add-t13 c = search needs
+add-t11 : tie.Need-add-t11
+add-t11 c = search needs
 
 returns : tie.Need-returns
-returns c = (text-on _ _ _ (c .before .before .before .before .before .if1 .taken) (c .before .before .before .before .before .before .before .pre .1) (sym (c .before .before .before .is-in .ensures) ∙ c .before .before .if2 .taken) (sym (c .if3 .taken) ∙ c .before .skip .ensures), (omega arith, omega (arith, c .before .before .before .before .before .if1 .taken)))
+returns c = (text-on _ _ _ (c .before .before .before .before .before .if1 .taken) (c .before .before .before .before .before .before .before .pre .1) (sym (c .before .before .before .is-in .ensures) ∙ c .before .before .if2 .taken) (sym (c .before .all-free .ensures) ∙ c .if3 .taken), (omega arith, omega (arith, c .before .before .before .before .before .if1 .taken)))
 
 returns-2 : tie.Need-returns-2
-returns-2 c = (text-broken _ _ _ (c .before .before .before .before .before .if1 .taken) (c .before .before .before .before .before .before .before .pre .1) (sym (c .before .before .before .is-in .ensures) ∙ c .before .before .if2 .taken) (λ q. c .if3 .left (c .before .skip .ensures ∙ sym q)), tt)
+returns-2 c = (text-broken _ _ _ (c .before .before .before .before .before .if1 .taken) (c .before .before .before .before .before .before .before .pre .1) (sym (c .before .before .before .is-in .ensures) ∙ c .before .before .if2 .taken) (sym (c .before .all-free .ensures) ∙ c .if3 .left), tt)
 
 returns-3 : tie.Need-returns-3
 returns-3 c = (text-tight _ _ _ (c .before .before .before .if1 .taken) (c .before .before .before .before .before .pre .1) (sym (c .before .is-in .ensures) ∙ c .if2 .left), tt)
@@ -38,9 +38,9 @@ free-text-spec =
     (tie.spec
     shared-slice-read-is-in
     is-in-requires
-    add-skip
-    skip-requires
-    add-t13
+    add-all-free
+    all-free-requires
+    add-t11
     returns
     returns-2
     returns-3

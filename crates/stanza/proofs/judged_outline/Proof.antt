@@ -12,7 +12,7 @@ use Rattle.stanza.proofs.judged_outline.Statement.{statement}
 use Rattle.stanza.proofs.judged_outline.Tie as tie
 use Rattle.stanza.proofs.judged_outline.Reads as reads
 use Rattle.stanza.proofs.judged_outline.Lts as lts
-use Rattle.octets.proofs.skip.Reads as skip-reads
+use Rattle.octets.proofs.line_end.Reads as line-end-reads
 use Rattle.stanza.proofs.line_step.Reads as line-step-reads
 use Rattle.stanza.proofs.tail_after.Reads as tail-after-reads
 
@@ -31,8 +31,8 @@ loop-holds : tie.Need-loop-holds Inv-loop μ-loop
 loop-holds c = (search needs, search needs, search needs, kept-start _ _ _ _ _ (search needs) (search needs) (search needs))
 
 -- src/lib.rt:329:13
-skip-requires : tie.Need-skip-requires Inv-loop μ-loop
-skip-requires c κs = search needs
+line-end-requires : tie.Need-line-end-requires Inv-loop μ-loop
+line-end-requires c κs = search needs
 
 -- src/lib.rt:330:52
 slice-aggregate-line-step : tie.Need-slice-aggregate-line-step Inv-loop μ-loop
@@ -44,7 +44,7 @@ slice-aggregate-line-step-2 c = search needs
 
 -- src/lib.rt:330:13
 line-step-requires : tie.Need-line-step-requires Inv-loop μ-loop
-line-step-requires c κs = (line-within (c .before .before .before .before .before .before .before .args .s .now) (c .before .before .before .before .loop .at) (c .before .before .skip .result) (c .before .before .before .loop-test .taken) (c .before .before .skip .ensures) .0, line-within (c .before .before .before .before .before .before .before .args .s .now) (c .before .before .before .before .loop .at) (c .before .before .skip .result) (c .before .before .before .loop-test .taken) (c .before .before .skip .ensures) .1, c .before .before .before .before .before .if1 .left, omega (arith, c .before .before .before .before .loop .inv .1, c .before .before .before .before .loop .inv .3 .all-names), omega (arith, c .before .before .before .before .loop .inv .1, c .before .before .before .before .loop .inv .3 .all-ends))
+line-step-requires c κs = (line-within (c .before .before .before .before .before .before .before .args .s .now) (c .before .before .before .before .loop .at) (c .before .before .line-end .result) (c .before .before .before .loop-test .taken) (c .before .before .line-end .ensures) .0, line-within (c .before .before .before .before .before .before .before .args .s .now) (c .before .before .before .before .loop .at) (c .before .before .line-end .result) (c .before .before .before .loop-test .taken) (c .before .before .line-end .ensures) .1, c .before .before .before .before .before .if1 .left, omega (arith, c .before .before .before .before .loop .inv .1, c .before .before .before .before .loop .inv .3 .all-names), omega (arith, c .before .before .before .before .loop .inv .1, c .before .before .before .before .loop .inv .3 .all-ends))
 
 -- src/lib.rt:333:22
 enum-told : tie.Need-enum-told Inv-loop μ-loop
@@ -52,7 +52,7 @@ enum-told c = search needs
 
 -- src/lib.rt:333:22
 add-at : tie.Need-add-at Inv-loop μ-loop
-add-at c = omega (arith, line-within (c .before .before .before .before .before .before .before .before .before .before .args .s .now) (c .before .before .before .before .before .before .before .loop .at) (c .before .before .before .before .before .skip .result) (c .before .before .before .before .before .before .loop-test .taken) (c .before .before .before .before .before .skip .ensures))
+add-at c = omega (arith, line-within (c .before .before .before .before .before .before .before .before .before .before .args .s .now) (c .before .before .before .before .before .before .before .loop .at) (c .before .before .before .before .before .line-end .result) (c .before .before .before .before .before .before .loop-test .taken) (c .before .before .before .before .before .line-end .ensures))
 
 -- src/lib.rt:334:24
 add-line : tie.Need-add-line Inv-loop μ-loop
@@ -64,7 +64,7 @@ loop-less c = search needs
 
 -- src/lib.rt:328:5
 loop-again : tie.Need-loop-again Inv-loop μ-loop
-loop-again c = (omega (arith, line-within (c .before .before .before .before .before .before .before .before .before .before .args .s .now) (c .before .before .before .before .before .before .before .loop .at) (c .before .before .before .before .before .skip .result) (c .before .before .before .before .before .before .loop-test .taken) (c .before .before .before .before .before .skip .ensures)), c .before .before .before .before .before .before .before .loop .inv .1, omega (arith, line-within (c .before .before .before .before .before .before .before .before .before .before .args .s .now) (c .before .before .before .before .before .before .before .loop .at) (c .before .before .before .before .before .skip .result) (c .before .before .before .before .before .before .loop-test .taken) (c .before .before .before .before .before .skip .ensures), c .before .before .before .before .before .before .before .loop .inv .2), turn-skip (c .before .before .before .before .before .before .before .loop .inv .3) (c .before .before .before .before .before .before .loop-test .taken) (c .before .before .before .before .before .skip .result) (c .before .before .before .before .before .skip .ensures) (c .before .before .line-step .result) (c .before .before .line-step .ensures .0) (c .before .before .line-step .ensures .1) (c .enum-told .given .1))
+loop-again c = (omega (arith, line-within (c .before .before .before .before .before .before .before .before .before .before .args .s .now) (c .before .before .before .before .before .before .before .loop .at) (c .before .before .before .before .before .line-end .result) (c .before .before .before .before .before .before .loop-test .taken) (c .before .before .before .before .before .line-end .ensures)), c .before .before .before .before .before .before .before .loop .inv .1, omega (arith, line-within (c .before .before .before .before .before .before .before .before .before .before .args .s .now) (c .before .before .before .before .before .before .before .loop .at) (c .before .before .before .before .before .line-end .result) (c .before .before .before .before .before .before .loop-test .taken) (c .before .before .before .before .before .line-end .ensures), c .before .before .before .before .before .before .before .loop .inv .2), turn-skip (c .before .before .before .before .before .before .before .loop .inv .3) (c .before .before .before .before .before .before .loop-test .taken) (c .before .before .before .before .before .line-end .result) (c .before .before .before .before .before .line-end .ensures) (c .before .before .line-step .result) (c .before .before .line-step .ensures .0) (c .before .before .line-step .ensures .1) (c .enum-told .given .1))
 
 -- src/lib.rt:336:26
 enum-known-step : tie.Need-enum-known-step Inv-loop μ-loop
@@ -72,7 +72,7 @@ enum-known-step c = search needs
 
 -- src/lib.rt:337:17
 returns-2 : tie.Need-returns-2 Inv-loop μ-loop
-returns-2 c = let z = turn-refuse (c .before .before .before .before .before .before .before .before .loop .inv .3) (c .before .before .before .before .before .before .before .loop-test .taken) (c .before .before .before .before .before .before .skip .result) (c .before .before .before .before .before .before .skip .ensures) (c .before .before .before .line-step .result) (c .before .before .before .line-step .ensures .0) (c .before .before .before .line-step .ensures .1) (c .before .step .given .1) in refused-outlined (c .before .before .before .before .before .before .before .before .before .before .before .args .s .now) _ _ _ (refl, refl) (z .0) (z .1 ∙ sym (judged-lines (c .before .before .before .before .before .before .before .before .before .before .before .args .s .now) (c .before .before .before .before .before .before .before .before .before .if1 .left)))
+returns-2 c = let z = turn-refuse (c .before .before .before .before .before .before .before .before .loop .inv .3) (c .before .before .before .before .before .before .before .loop-test .taken) (c .before .before .before .before .before .before .line-end .result) (c .before .before .before .before .before .before .line-end .ensures) (c .before .before .before .line-step .result) (c .before .before .before .line-step .ensures .0) (c .before .before .before .line-step .ensures .1) (c .before .step .given .1) in refused-outlined (c .before .before .before .before .before .before .before .before .before .before .before .args .s .now) _ _ _ (refl, refl) (z .0) (z .1 ∙ sym (judged-lines (c .before .before .before .before .before .before .before .before .before .before .before .args .s .now) (c .before .before .before .before .before .before .before .before .before .if1 .left)))
 
 -- src/lib.rt:347:24
 enum-known-step-2 : tie.Need-enum-known-step-2 Inv-loop μ-loop
@@ -80,7 +80,7 @@ enum-known-step-2 c = search needs
 
 -- src/lib.rt:350:22
 add-at-2 : tie.Need-add-at-2 Inv-loop μ-loop
-add-at-2 c = omega (arith, line-within (c .before .before .before .before .before .before .before .before .before .before .before .args .s .now) (c .before .before .before .before .before .before .before .before .loop .at) (c .before .before .before .before .before .before .skip .result) (c .before .before .before .before .before .before .before .loop-test .taken) (c .before .before .before .before .before .before .skip .ensures))
+add-at-2 c = omega (arith, line-within (c .before .before .before .before .before .before .before .before .before .before .before .args .s .now) (c .before .before .before .before .before .before .before .before .loop .at) (c .before .before .before .before .before .before .line-end .result) (c .before .before .before .before .before .before .before .loop-test .taken) (c .before .before .before .before .before .before .line-end .ensures))
 
 -- src/lib.rt:351:24
 add-line-2 : tie.Need-add-line-2 Inv-loop μ-loop
@@ -92,7 +92,7 @@ loop-less-2 c = search needs
 
 -- src/lib.rt:328:5
 loop-again-2 : tie.Need-loop-again-2 Inv-loop μ-loop
-loop-again-2 c = (omega (arith, line-within (c .before .before .before .before .before .before .before .before .before .before .before .args .s .now) (c .before .before .before .before .before .before .before .before .loop .at) (c .before .before .before .before .before .before .skip .result) (c .before .before .before .before .before .before .before .loop-test .taken) (c .before .before .before .before .before .before .skip .ensures)), c .before .before .before .before .before .before .before .before .loop .inv .1, omega (arith, line-within (c .before .before .before .before .before .before .before .before .before .before .before .args .s .now) (c .before .before .before .before .before .before .before .before .loop .at) (c .before .before .before .before .before .before .skip .result) (c .before .before .before .before .before .before .before .loop-test .taken) (c .before .before .before .before .before .before .skip .ensures), c .before .before .before .before .before .before .before .before .loop .inv .2), turn-head (c .before .before .before .before .before .before .before .before .loop .inv .3) (c .before .before .before .before .before .before .before .loop-test .taken) (c .before .before .before .before .before .before .skip .result) (c .before .before .before .before .before .before .skip .ensures) (c .before .before .before .line-step .result) (c .before .before .before .line-step .ensures .0) (c .before .before .before .line-step .ensures .1) (c .before .step2 .given .1))
+loop-again-2 c = (omega (arith, line-within (c .before .before .before .before .before .before .before .before .before .before .before .args .s .now) (c .before .before .before .before .before .before .before .before .loop .at) (c .before .before .before .before .before .before .line-end .result) (c .before .before .before .before .before .before .before .loop-test .taken) (c .before .before .before .before .before .before .line-end .ensures)), c .before .before .before .before .before .before .before .before .loop .inv .1, omega (arith, line-within (c .before .before .before .before .before .before .before .before .before .before .before .args .s .now) (c .before .before .before .before .before .before .before .before .loop .at) (c .before .before .before .before .before .before .line-end .result) (c .before .before .before .before .before .before .before .loop-test .taken) (c .before .before .before .before .before .before .line-end .ensures), c .before .before .before .before .before .before .before .before .loop .inv .2), turn-head (c .before .before .before .before .before .before .before .before .loop .inv .3) (c .before .before .before .before .before .before .before .loop-test .taken) (c .before .before .before .before .before .before .line-end .result) (c .before .before .before .before .before .before .line-end .ensures) (c .before .before .before .line-step .result) (c .before .before .before .line-step .ensures .0) (c .before .before .before .line-step .ensures .1) (c .before .step2 .given .1))
 
 -- src/lib.rt:353:23
 enum-known-step-3 : tie.Need-enum-known-step-3 Inv-loop μ-loop
@@ -104,7 +104,7 @@ mul-fields c = search needs
 
 -- src/lib.rt:356:17
 array-set-from-fields : tie.Need-array-set-from-fields Inv-loop μ-loop
-array-set-from-fields c = add-room (c .before .before .before .before .before .before .before .before .before .loop .inv .3) (c .before .before .before .before .before .before .before .before .loop-test .taken) (c .before .before .before .before .before .before .before .skip .result) (c .before .before .before .before .before .before .before .skip .ensures) (c .before .before .before .before .line-step .result) (c .before .before .before .before .line-step .ensures .0) (c .before .before .before .before .line-step .ensures .1) (c .before .before .step3 .given .1)
+array-set-from-fields c = add-room (c .before .before .before .before .before .before .before .before .before .loop .inv .3) (c .before .before .before .before .before .before .before .before .loop-test .taken) (c .before .before .before .before .before .before .before .line-end .result) (c .before .before .before .before .before .before .before .line-end .ensures) (c .before .before .before .before .line-step .result) (c .before .before .before .before .line-step .ensures .0) (c .before .before .before .before .line-step .ensures .1) (c .before .before .step3 .given .1)
 
 -- src/lib.rt:357:17
 mul-names : tie.Need-mul-names Inv-loop μ-loop
@@ -112,7 +112,7 @@ mul-names c = search needs
 
 -- src/lib.rt:357:17
 array-write-names : tie.Need-array-write-names Inv-loop μ-loop
-array-write-names c = add-room (c .before .before .before .before .before .before .before .before .before .loop .inv .3) (c .before .before .before .before .before .before .before .before .loop-test .taken) (c .before .before .before .before .before .before .before .skip .result) (c .before .before .before .before .before .before .before .skip .ensures) (c .before .before .before .before .line-step .result) (c .before .before .before .before .line-step .ensures .0) (c .before .before .before .before .line-step .ensures .1) (c .before .before .step3 .given .1)
+array-write-names c = add-room (c .before .before .before .before .before .before .before .before .before .loop .inv .3) (c .before .before .before .before .before .before .before .before .loop-test .taken) (c .before .before .before .before .before .before .before .line-end .result) (c .before .before .before .before .before .before .before .line-end .ensures) (c .before .before .before .before .line-step .result) (c .before .before .before .before .line-step .ensures .0) (c .before .before .before .before .line-step .ensures .1) (c .before .before .step3 .given .1)
 
 -- src/lib.rt:358:17
 mul-ends : tie.Need-mul-ends Inv-loop μ-loop
@@ -120,7 +120,7 @@ mul-ends c = search needs
 
 -- src/lib.rt:358:17
 array-write-ends : tie.Need-array-write-ends Inv-loop μ-loop
-array-write-ends c = add-room (c .before .before .before .before .before .before .before .before .before .loop .inv .3) (c .before .before .before .before .before .before .before .before .loop-test .taken) (c .before .before .before .before .before .before .before .skip .result) (c .before .before .before .before .before .before .before .skip .ensures) (c .before .before .before .before .line-step .result) (c .before .before .before .before .line-step .ensures .0) (c .before .before .before .before .line-step .ensures .1) (c .before .before .step3 .given .1)
+array-write-ends c = add-room (c .before .before .before .before .before .before .before .before .before .loop .inv .3) (c .before .before .before .before .before .before .before .before .loop-test .taken) (c .before .before .before .before .before .before .before .line-end .result) (c .before .before .before .before .before .before .before .line-end .ensures) (c .before .before .before .before .line-step .result) (c .before .before .before .before .line-step .ensures .0) (c .before .before .before .before .line-step .ensures .1) (c .before .before .step3 .given .1)
 
 -- src/lib.rt:359:17
 tail-after-requires : tie.Need-tail-after-requires Inv-loop μ-loop
@@ -132,7 +132,7 @@ add-n c = search needs
 
 -- src/lib.rt:361:22
 add-at-3 : tie.Need-add-at-3 Inv-loop μ-loop
-add-at-3 c = omega (arith, line-within (c .before .before .before .before .before .before .before .before .before .before .before .before .before .args .s .now) (c .before .before .before .before .before .before .before .before .before .before .loop .at) (c .before .before .before .before .before .before .before .before .skip .result) (c .before .before .before .before .before .before .before .before .before .loop-test .taken) (c .before .before .before .before .before .before .before .before .skip .ensures))
+add-at-3 c = omega (arith, line-within (c .before .before .before .before .before .before .before .before .before .before .before .before .before .args .s .now) (c .before .before .before .before .before .before .before .before .before .before .loop .at) (c .before .before .before .before .before .before .before .before .line-end .result) (c .before .before .before .before .before .before .before .before .before .loop-test .taken) (c .before .before .before .before .before .before .before .before .line-end .ensures))
 
 -- src/lib.rt:362:24
 add-line-3 : tie.Need-add-line-3 Inv-loop μ-loop
@@ -144,7 +144,7 @@ loop-less-3 c = search needs
 
 -- src/lib.rt:328:5
 loop-again-3 : tie.Need-loop-again-3 Inv-loop μ-loop
-loop-again-3 c = (omega (arith, line-within (c .before .before .before .before .before .before .before .before .before .before .before .before .before .args .s .now) (c .before .before .before .before .before .before .before .before .before .before .loop .at) (c .before .before .before .before .before .before .before .before .skip .result) (c .before .before .before .before .before .before .before .before .before .loop-test .taken) (c .before .before .before .before .before .before .before .before .skip .ensures)), omega (arith, add-room (c .before .before .before .before .before .before .before .before .before .before .loop .inv .3) (c .before .before .before .before .before .before .before .before .before .loop-test .taken) (c .before .before .before .before .before .before .before .before .skip .result) (c .before .before .before .before .before .before .before .before .skip .ensures) (c .before .before .before .before .before .line-step .result) (c .before .before .before .before .before .line-step .ensures .0) (c .before .before .before .before .before .line-step .ensures .1) (c .before .before .before .step3 .given .1)), omega (arith, line-within (c .before .before .before .before .before .before .before .before .before .before .before .before .before .args .s .now) (c .before .before .before .before .before .before .before .before .before .before .loop .at) (c .before .before .before .before .before .before .before .before .skip .result) (c .before .before .before .before .before .before .before .before .before .loop-test .taken) (c .before .before .before .before .before .before .before .before .skip .ensures), c .before .before .before .before .before .before .before .before .before .before .loop .inv .2), turn-add (c .before .before .before .before .before .before .before .before .before .before .loop .inv .3) (c .before .before .before .before .before .before .before .before .before .loop-test .taken) (c .before .before .before .before .before .before .before .before .skip .result) (c .before .before .before .before .before .before .before .before .skip .ensures) (c .before .before .before .before .before .line-step .result) (c .before .before .before .before .before .line-step .ensures .0) (c .before .before .before .before .before .line-step .ensures .1) (c .before .before .before .step3 .given .1) _ (c .tail-after .ensures _))
+loop-again-3 c = (omega (arith, line-within (c .before .before .before .before .before .before .before .before .before .before .before .before .before .args .s .now) (c .before .before .before .before .before .before .before .before .before .before .loop .at) (c .before .before .before .before .before .before .before .before .line-end .result) (c .before .before .before .before .before .before .before .before .before .loop-test .taken) (c .before .before .before .before .before .before .before .before .line-end .ensures)), omega (arith, add-room (c .before .before .before .before .before .before .before .before .before .before .loop .inv .3) (c .before .before .before .before .before .before .before .before .before .loop-test .taken) (c .before .before .before .before .before .before .before .before .line-end .result) (c .before .before .before .before .before .before .before .before .line-end .ensures) (c .before .before .before .before .before .line-step .result) (c .before .before .before .before .before .line-step .ensures .0) (c .before .before .before .before .before .line-step .ensures .1) (c .before .before .before .step3 .given .1)), omega (arith, line-within (c .before .before .before .before .before .before .before .before .before .before .before .before .before .args .s .now) (c .before .before .before .before .before .before .before .before .before .before .loop .at) (c .before .before .before .before .before .before .before .before .line-end .result) (c .before .before .before .before .before .before .before .before .before .loop-test .taken) (c .before .before .before .before .before .before .before .before .line-end .ensures), c .before .before .before .before .before .before .before .before .before .before .loop .inv .2), turn-add (c .before .before .before .before .before .before .before .before .before .before .loop .inv .3) (c .before .before .before .before .before .before .before .before .before .loop-test .taken) (c .before .before .before .before .before .before .before .before .line-end .result) (c .before .before .before .before .before .before .before .before .line-end .ensures) (c .before .before .before .before .before .line-step .result) (c .before .before .before .before .before .line-step .ensures .0) (c .before .before .before .before .before .line-step .ensures .1) (c .before .before .before .step3 .given .1) _ (c .tail-after .ensures _))
 
 -- src/lib.rt:367:9
 returns-3 : tie.Need-returns-3 Inv-loop μ-loop
@@ -162,7 +162,7 @@ judged-outline-spec =
     μ-loop
     returns
     loop-holds
-    skip-requires
+    line-end-requires
     slice-aggregate-line-step
     slice-aggregate-line-step-2
     line-step-requires
