@@ -206,8 +206,102 @@ fn read_again(
     }
 }
 
-// A text under a run of a judged stanza. A short result is read into an array first, so that nothing lent changes before it
-// is known to be whole; of a long one only the count is kept, and it is read again.
+// A text under a run of a judged stanza. It is read into an array first, so that nothing lent changes before the result is
+// known to be whole; of one that is longer than the array only the count is kept, and it is read again. Every bitmap fits.
+fn read_long(
+    s: &[u8],
+    fields: [FieldDesc; 64],
+    first: usize,
+    many: usize,
+    origin: &[u8],
+    t: &[u8],
+    out: &mut [u8],
+    at: usize,
+) -> Reply
+    requires { ⌜ UsableRun (now s) fields first many × (isWireName (now origin) ≡ true) × (length (now t) ≤ 1048576) ⌝ }
+    ensures { λ r. ⌜ Leaves r (now (out .exit)) (withRoom (now (out .entry)) at (runOctets (kindsFrom (now (s .entry)) fields first many) (now (origin .entry)) (now (t .entry)))) ⌝ }
+{
+    let mut array = [0u8; 12288];
+    let r = reading::read_run(&mut array, fields, first, many, s, origin, t);
+    match r {
+        Run::Refused(number, place) => Reply {
+            number: number,
+            place: place,
+        },
+        Run::Done(m) => {
+            if 65535 < m {
+                return Reply {
+                    number: 11,
+                    place: 0,
+                };
+            }
+            let a = least(at, out.len());
+            if out.len() - a < m {
+                return Reply {
+                    number: 12,
+                    place: m as u32,
+                };
+            }
+            if 12288 < m {
+                return read_again(s, fields, first, many, origin, t, out, at);
+            }
+            let w = writing::put_all(&mut out[a..], 0, &array[0..m]);
+            Reply {
+                number: 0,
+                place: w as u32,
+            }
+        }
+    }
+}
+
+// The same with a shorter array, which is sooner cleared.
+fn read_short(
+    s: &[u8],
+    fields: [FieldDesc; 64],
+    first: usize,
+    many: usize,
+    origin: &[u8],
+    t: &[u8],
+    out: &mut [u8],
+    at: usize,
+) -> Reply
+    requires { ⌜ UsableRun (now s) fields first many × (isWireName (now origin) ≡ true) × (length (now t) ≤ 1048576) ⌝ }
+    ensures { λ r. ⌜ Leaves r (now (out .exit)) (withRoom (now (out .entry)) at (runOctets (kindsFrom (now (s .entry)) fields first many) (now (origin .entry)) (now (t .entry)))) ⌝ }
+{
+    let mut array = [0u8; 1024];
+    let r = reading::read_run(&mut array, fields, first, many, s, origin, t);
+    match r {
+        Run::Refused(number, place) => Reply {
+            number: number,
+            place: place,
+        },
+        Run::Done(m) => {
+            if 65535 < m {
+                return Reply {
+                    number: 11,
+                    place: 0,
+                };
+            }
+            if 1024 < m {
+                return read_long(s, fields, first, many, origin, t, out, at);
+            }
+            let a = least(at, out.len());
+            if out.len() - a < m {
+                return Reply {
+                    number: 12,
+                    place: m as u32,
+                };
+            }
+            let w = writing::put_all(&mut out[a..], 0, &array[0..m]);
+            Reply {
+                number: 0,
+                place: w as u32,
+            }
+        }
+    }
+}
+
+// The same by the text's length, which tells most often which array will do.
 fn read_run(
     s: &[u8],
     fields: [FieldDesc; 64],
@@ -221,38 +315,10 @@ fn read_run(
     requires { ⌜ UsableRun (now s) fields first many × (isWireName (now origin) ≡ true) × (length (now t) ≤ 1048576) ⌝ }
     ensures { λ r. ⌜ Leaves r (now (out .exit)) (withRoom (now (out .entry)) at (runOctets (kindsFrom (now (s .entry)) fields first many) (now (origin .entry)) (now (t .entry)))) ⌝ }
 {
-    let mut short = [0u8; 512];
-    let r = reading::read_run(&mut short, fields, first, many, s, origin, t);
-    match r {
-        Run::Refused(number, place) => Reply {
-            number: number,
-            place: place,
-        },
-        Run::Done(m) => {
-            if 65535 < m {
-                return Reply {
-                    number: 11,
-                    place: 0,
-                };
-            }
-            let n = out.len();
-            let a = least(at, n);
-            if n - a < m {
-                return Reply {
-                    number: 12,
-                    place: m as u32,
-                };
-            }
-            if 512 < m {
-                return read_again(s, fields, first, many, origin, t, out, at);
-            }
-            let w = writing::put_all(&mut out[a..], 0, &short[0..m]);
-            Reply {
-                number: 0,
-                place: w as u32,
-            }
-        }
+    if t.len() <= 1024 {
+        return read_short(s, fields, first, many, origin, t, out, at);
     }
+    read_long(s, fields, first, many, origin, t, out, at)
 }
 
 // Whether octets are one whole wire name.

@@ -8,10 +8,10 @@ use Rattle.extlang.proofs.Rooms.{leaves-done, leaves-measured, leaves-r
 use Rattle.extlang.proofs.Readings.{octets-refused, octets-over, octets-done, front-of}
 use native.Mathlib.Omega.{arith}
 use borrow.Author.Needs.{needs}
-use Rattle.extlang.proofs.read_run.Statement.{statement}
-use Rattle.extlang.proofs.read_run.Tie as tie
-use Rattle.extlang.proofs.read_run.Reads as reads
-use Rattle.extlang.proofs.read_run.Lts as lts
+use Rattle.extlang.proofs.read_long.Statement.{statement}
+use Rattle.extlang.proofs.read_long.Tie as tie
+use Rattle.extlang.proofs.read_long.Reads as reads
+use Rattle.extlang.proofs.read_long.Lts as lts
 use Rattle.extlang.proofs.least.Reads as least-reads
 use Rattle.extlang.proofs.read_again.Reads as read-again-reads
 use Rattle.reading.proofs.read_run.Reads as read-run-reads
@@ -94,8 +94,8 @@ put-all-requires : tie.Need-put-all-requires
 put-all-requires c κs = search needs
 
 -- src/lib.rt:252:24
-cast-t33 : tie.Need-cast-t33
-cast-t33 c = search needs
+cast-t32 : tie.Need-cast-t32
+cast-t32 c = search needs
 
 -- src/lib.rt:211:1
 returns-4 : tie.Need-returns-4
@@ -109,8 +109,8 @@ same-length-2 c = search needs
 returns-5 : tie.Need-returns-5
 returns-5 c = let g = rw (c .before .before .before .before .before .before .before .before .before .before .before .r2 .given .1) at (c .before .before .before .before .before .before .before .before .before .before .before .before .before .before .read-run .ensures) in let v = g .2 .whole (omega (arith, c .before .before .before .before .before .before .before .before .before .if1 .left)) in let f = front-of _ _ _ (flat (g .0)) v (omega (arith, c .before .before .before .before .before .before .if3 .left)) in rw (octets-done (kindsFrom (c .before .before .before .before .before .before .before .before .before .before .before .before .before .before .before .before .before .before .before .before .args .s .now) (c .before .before .before .before .before .before .before .before .before .before .before .before .before .before .before .before .before .before .before .before .args .fields) (c .before .before .before .before .before .before .before .before .before .before .before .before .before .before .before .before .before .before .before .before .args .first) (c .before .before .before .before .before .before .before .before .before .before .before .before .before .before .before .before .before .before .before .before .args .many)) (c .before .before .before .before .before .before .before .before .before .before .before .before .before .before .before .before .before .before .before .before .args .origin .now) (c .before .before .before .before .before .before .before .before .before .before .before .before .before .before .before .before .before .before .before .before .args .t .now) _ (g .1) (omega (arith, v .count, c .before .before .before .before .before .before .before .before .before .if1 .left))) (leaves-done _ _ _ (c .before .before .before .before .before .before .before .before .before .before .before .before .before .before .before .before .before .before .before .before .args .at) _ _ (flat (g .0)) _ refl (c .before .before .before .before .before .before .before .before .least .ensures) (omega (arith, v .count, c .before .before .before .before .before .before .before .if2 .left, c .before .before .before .before .before .before .before .before .least .ensures)) (wrote-text _ _ f (c .before .before .put-all .ensures)) refl refl)
 
-pub read-run-spec : {M : Type 1} → statement M
-read-run-spec =
+pub read-long-spec : {M : Type 1} → statement M
+read-long-spec =
     tie.close
     (tie.spec
     slice-aggregate-read-run
@@ -132,7 +132,7 @@ read-run-spec =
     part-put-all-start-2
     part-put-all-end-2
     put-all-requires
-    cast-t33
+    cast-t32
     returns-4
     same-length-2
     returns-5)
