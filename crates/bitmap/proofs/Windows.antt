@@ -2,6 +2,8 @@
 use Prim.Native.Nat.{ℕ, zero, suc, _+_, _-_, _*_, _/_, _%_, _^_, _≤_, _<_}
 use mathlib.Core.Path.{_≡_, refl, sym, ap, _∙_}
 use mathlib.Core.Bool.{Bool, true, false, cond, _||_}
+use Rattle.format.specs.Lists.{allOf}
+use Rattle.format.proofs.Lists.{and-left, and-right}
 use mathlib.Core.List.{List, [], _∷_, _++_}
 use native.Mathlib.Omega.{arith}
 use native.Mathlib.Numerals.{add-one}
@@ -15,7 +17,7 @@ use Rattle.format.specs.Digits.{digits, number}
 use Rattle.format.specs.Bitmap.{bitsOf, octetsFrom, windowOctets, beforeZeros, withoutLastZeros, blockOf, blocksFrom, blocks}
 use Rattle.format.proofs.Finite.{allBelow, at-each}
 use Rattle.format.proofs.Digits.{digits-number, number-bound}
-use Rattle.bitmap.specs.Windows.{Holds}
+use Rattle.bitmap.specs.Windows.{zeroOctet, Holds}
 
 -- an octet with one bit more
 with-bit : (x k : ℕ) → x < 256 → k < 8 → bitOr x (128 / 2 ^ k) ≡ number 2 (set (digits 2 8 x) k 1)
@@ -158,6 +160,16 @@ module _ (r : List ℕ) where
       let z : getD r n 0 ≡ 0 → ⊥ = rw q at e in
       let t : take (suc n) r ≡ take n r ++ getD r n 0 ∷ [] = take-suc r n 0 (omega arith) in
       sym (ap length (ap withoutLastZeros t ∙ last-some (take n r) (getD r n 0) z ∙ sym t) ∙ length-take-le (suc n) r l)
+
+-- a window of zeros has no octet before them
+pub all-zeros : (r : List ℕ) → allOf zeroOctet r ≡ true → withoutLastZeros r ≡ []
+all-zeros [] h = refl
+all-zeros (x ∷ xs) h =
+    let z : x ≡ 0 = eqb-true x 0 (and-left (zeroOctet x) (allOf zeroOctet xs) h) in
+    rw (all-zeros xs (and-right (zeroOctet x) (allOf zeroOctet xs) h), z)
+
+pub empty-block : (w : ℕ) (r : List ℕ) → allOf zeroOctet r ≡ true → [] ≡ blockOf w (withoutLastZeros r)
+empty-block w r h = rw (all-zeros r h)
 
 -- a window without its last zeros is the front of it
 front : (xs : List ℕ) → take (length (withoutLastZeros xs)) xs ≡ withoutLastZeros xs

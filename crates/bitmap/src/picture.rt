@@ -3,9 +3,10 @@ ghost use Prim.Native.Nat.{ℕ, _^_, _<_, _≤_};
 ghost use mathlib.Core.Path.{_≡_};
 ghost use mathlib.Core.List.{List, [], _∷_, _++_};
 ghost use lib.ListN.{length};
+ghost use Rattle.format.specs.Lists.{allOf};
 ghost use Rattle.format.specs.Bitmap.{withoutLastZeros, blockOf, blocks};
 ghost use Rattle.writing.specs.Writing.{Wrote};
-ghost use Rattle.bitmap.specs.Windows.{Holds};
+ghost use Rattle.bitmap.specs.Windows.{zeroOctet, Holds};
 use writing::put_all;
 use writing::put_octet;
 
@@ -46,11 +47,27 @@ fn count(r: &[u8]) -> usize
     n
 }
 
+// Whether a window holds no type: no way out of the loop, so that many octets are tested at once.
+fn is_empty(r: &[u8]) -> bool
+    ensures { λ q. ⌜ q ≡ allOf zeroOctet (now (r .entry)) ⌝ }
+{
+    let mut all = true;
+    let mut k = 0;
+    while k < r.len() {
+        all = all & (r[k] == 0);
+        k = k + 1;
+    }
+    all
+}
+
 // The block of window w, if it has one.
 fn put_block(out: &mut [u8], n: usize, w: u8, r: &[u8]) -> usize
     requires { ⌜ (n < 2 ^ 31) × (length (now r) ≤ 32) ⌝ }
     ensures { λ k. ⌜ Wrote (now (out .entry)) (now (out .exit)) n k (blockOf w (withoutLastZeros (now (r .entry)))) ⌝ }
 {
+    if is_empty(r) {
+        return n;
+    }
     let c = count(r);
     if c == 0 {
         return n;

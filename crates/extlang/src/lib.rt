@@ -255,7 +255,43 @@ fn read_through(
     }
 }
 
-// A text under a run of a judged stanza.
+// The same by way of an array that is soon cleared.
+fn read_short(
+    s: &[u8],
+    fields: [FieldDesc; 64],
+    first: usize,
+    many: usize,
+    origin: &[u8],
+    t: &[u8],
+    out: &mut [u8],
+    at: usize,
+) -> Reply
+    requires { ⌜ UsableRun (now s) fields first many × (isWireName (now origin) ≡ true) × (length (now t) ≤ 1048576) ⌝ }
+    ensures { λ r. ⌜ Leaves r (now (out .exit)) (withRoom (now (out .entry)) at (runOctets (kindsFrom (now (s .entry)) fields first many) (now (origin .entry)) (now (t .entry)))) ⌝ }
+{
+    let mut short = [0u8; 1024];
+    read_through(&mut short, s, fields, first, many, origin, t, out, at)
+}
+
+// The same by way of a longer one, which every bitmap fits.
+fn read_long(
+    s: &[u8],
+    fields: [FieldDesc; 64],
+    first: usize,
+    many: usize,
+    origin: &[u8],
+    t: &[u8],
+    out: &mut [u8],
+    at: usize,
+) -> Reply
+    requires { ⌜ UsableRun (now s) fields first many × (isWireName (now origin) ≡ true) × (length (now t) ≤ 1048576) ⌝ }
+    ensures { λ r. ⌜ Leaves r (now (out .exit)) (withRoom (now (out .entry)) at (runOctets (kindsFrom (now (s .entry)) fields first many) (now (origin .entry)) (now (t .entry)))) ⌝ }
+{
+    let mut short = [0u8; 12288];
+    read_through(&mut short, s, fields, first, many, origin, t, out, at)
+}
+
+// The same by the text's length, which most often tells which array will do.
 fn read_run(
     s: &[u8],
     fields: [FieldDesc; 64],
@@ -269,8 +305,10 @@ fn read_run(
     requires { ⌜ UsableRun (now s) fields first many × (isWireName (now origin) ≡ true) × (length (now t) ≤ 1048576) ⌝ }
     ensures { λ r. ⌜ Leaves r (now (out .exit)) (withRoom (now (out .entry)) at (runOctets (kindsFrom (now (s .entry)) fields first many) (now (origin .entry)) (now (t .entry)))) ⌝ }
 {
-    let mut short = [0u8; 512];
-    read_through(&mut short, s, fields, first, many, origin, t, out, at)
+    if t.len() <= 1024 {
+        return read_short(s, fields, first, many, origin, t, out, at);
+    }
+    read_long(s, fields, first, many, origin, t, out, at)
 }
 
 // Whether octets are one whole wire name.

@@ -1,19 +1,21 @@
 // Strings of octets.
 ghost use Prim.Native.Nat.{_+_, _-_, _^_, _<_, _≤_};
 ghost use mathlib.Core.Path.{_≡_};
+ghost use mathlib.Core.Bool.{true};
 ghost use lib.ListN.{length};
 ghost use lib.Seq.{slice};
+ghost use Rattle.format.specs.Lists.{allOf};
 ghost use Rattle.format.specs.Token.{quoted};
 ghost use Rattle.format.specs.Text.{stringValue, readString, readRaw};
 ghost use Rattle.writing.specs.Writing.{Wrote, Values};
-ghost use Rattle.read.specs.Text.{tokenOf, plainEnd};
+ghost use Rattle.read.specs.Text.{tokenOf, noEscape, plainEnd};
 use crate::escape;
 use crate::escape::Escape;
 use writing::Value;
 use writing::put;
 
-// The end of the octets from i on and before e that begin no escape.
-fn plain_end(t: &[u8], i: usize, e: usize) -> usize
+// The end of the octets from i on and before e that begin no escape, one by one.
+fn near_end(t: &[u8], i: usize, e: usize) -> usize
     requires { ⌜ (i ≤ e) × (e ≤ length (now t)) ⌝ }
     ensures { λ r. ⌜ r ≡ plainEnd (now (t .entry)) i e ⌝ }
 {
@@ -25,6 +27,57 @@ fn plain_end(t: &[u8], i: usize, e: usize) -> usize
         j = j + 1;
     }
     j
+}
+
+// Whether none of 32 octets from i on begins an escape: no way out of the loop, so that many are tested at once.
+fn none_escapes(t: &[u8], i: usize) -> bool
+    requires { ⌜ i + 32 ≤ length (now t) ⌝ }
+    ensures { λ r. ⌜ r ≡ allOf noEscape (slice i (i + 32) (now (t .entry))) ⌝ }
+{
+    let mut all = true;
+    let mut k = 0;
+    while k < 32 {
+        all = all & (t[i + k] != 92);
+        k = k + 1;
+    }
+    all
+}
+
+// Whether 32 octets are left from i on and before e, and none of them begins an escape.
+fn plain_block(t: &[u8], i: usize, e: usize) -> bool
+    requires { ⌜ (i ≤ e) × (e ≤ length (now t)) ⌝ }
+    ensures { λ r. ⌜ (r ≡ true → (i + 32 ≤ e) × (allOf noEscape (slice i (i + 32) (now (t .entry))) ≡ true)) ⌝ }
+{
+    if e - i < 32 {
+        return false;
+    }
+    none_escapes(t, i)
+}
+
+// The same end, where it is far.
+fn far_end(t: &[u8], i: usize, e: usize) -> usize
+    requires { ⌜ (i ≤ e) × (e ≤ length (now t)) ⌝ }
+    ensures { λ r. ⌜ r ≡ plainEnd (now (t .entry)) i e ⌝ }
+{
+    let mut j = i;
+    while plain_block(t, j, e) {
+        j = j + 32;
+    }
+    near_end(t, j, e)
+}
+
+// The same end: escapes often follow one another at once.
+fn plain_end(t: &[u8], i: usize, e: usize) -> usize
+    requires { ⌜ (i ≤ e) × (e ≤ length (now t)) ⌝ }
+    ensures { λ r. ⌜ r ≡ plainEnd (now (t .entry)) i e ⌝ }
+{
+    if e - i < 32 {
+        return near_end(t, i, e);
+    }
+    if t[i] == 92 {
+        return i;
+    }
+    far_end(t, i, e)
 }
 
 // The octets from i to e, where there is room for all of them.

@@ -198,6 +198,59 @@ module _ (a : List ℕ) (skip base : ℕ) (t : List ℕ) where
       stops = λ m n. record { kept = s .kept m; high = b m n };
     }
 
+-- digits with nothing between them
+module _ (a : List ℕ) (skip base : ℕ) (t : List ℕ) where
+  pub quick-none : (i : ℕ) → Taking a skip base t (i + 0) i 0 0 (i + 0)
+  quick-none i =
+      let z : i + 0 ≡ i = omega arith in
+      subst (λ m. Taking a skip base t m i 0 0 m) (sym z) (record {
+        ds = [];
+        from = omega arith;
+        within = omega arith;
+        below = tt;
+        long = refl;
+        is = refl;
+        read = rw (no-octet t i i (omega arith));
+        kept = λ m. absurd (omega arith);
+      })
+
+  quick-one : (i q v : ℕ) → Taking a skip base t (i + q) i q v (i + q) → i + q < length t → getD a (getD t (i + q) 0) 0 < base → base ≤ skip
+      → Taking a skip base t (i + (q + 1)) i (q + 1) (v * base + getD a (getD t (i + q) 0) 0) (i + (q + 1))
+  quick-one i q v s h b k =
+      let j : ℕ = i + q in
+      let x : ℕ = getD a (getD t j 0) 0 in
+      let z : i + (q + 1) ≡ j + 1 = omega arith in
+      let one : digitsBy a skip base (slice j (j + 1) t) ≡ some (x ∷ []) = rw (next t j (j + 1) (omega arith) (omega arith), no-octet t (j + 1) (j + 1) (omega arith), ne-eqb x skip (λ y. omega arith), lt-ltb x base b) in
+      subst (λ m. Taking a skip base t m i (q + 1) (v * base + x) m) (sym z) (record {
+        ds = s .ds ++ x ∷ [];
+        from = omega arith;
+        within = omega arith;
+        below = below-append base (s .ds) (x ∷ []) (s .below) (b, tt);
+        long = length-append (s .ds) (x ∷ []) ∙ ap (λ m. m + 1) (s .long);
+        is = number-last base (s .ds) x ∙ ap (λ m. m * base + x) (s .is);
+        read = digits-append a skip base t i j (j + 1) (s .ds) (x ∷ []) (omega arith) (omega arith) (omega arith) (s .read) one;
+        kept = λ m. absurd (omega arith);
+      })
+
+  pub quick-next : (i q v x : ℕ) → Taking a skip base t (i + q) i q v (i + q) → i + q < length t → x ≡ getD a (getD t (i + q) 0) 0 → x < base → base ≤ skip
+      → Taking a skip base t (i + (q + 1)) i (q + 1) (v * base + x) (i + (q + 1))
+  quick-next i q v x s h y b k = subst (λ z. Taking a skip base t (i + (q + 1)) i (q + 1) (v * base + z) (i + (q + 1))) (sym y) (quick-one i q v s h (subst (λ z. z < base) y b) k)
+
+  pub quick-taken : (i k q v e : ℕ) → Taking a skip base t (i + q) i q v (i + q) → q ≤ k → k ≤ q → i + k ≤ e → Taken a skip base t i e k (i + k) k v
+  quick-taken i k q v e s h m l =
+      let z : q ≡ k = omega arith in
+      subst (λ n. Taken a skip base t i e k (i + n) n v) z (record {
+        ds = s .ds;
+        from = omega arith;
+        within = omega arith;
+        below = s .below;
+        long = s .long;
+        few = h;
+        is = s .is;
+        read = s .read;
+        stops = λ m n. absurd (omega arith);
+      })
+
 after-after : (xs ys : List ℕ) (o : Option (List ℕ)) → after xs (after ys o) ≡ after (xs ++ ys) o
 after-after xs ys none = refl
 after-after xs ys (some zs) = ap some (sym (append-assoc xs ys zs))

@@ -1,6 +1,6 @@
 // Digits of w bits and their octets: k digits are g octets. Each digit is a character whose number an alphabet gives; a
 // character with the number `skip` is left out.
-ghost use Prim.Native.Nat.{_+_, _*_, _-_, _/_, _%_, _^_, _<_, _≤_};
+ghost use Prim.Native.Nat.{ℕ, _+_, _*_, _-_, _/_, _%_, _^_, _<_, _≤_};
 ghost use mathlib.Core.Path.{_≡_};
 ghost use lib.ListN.{length, getD};
 ghost use lib.Seq.{slice};
@@ -49,8 +49,60 @@ pub fn kept_from(t: &[u8], i: usize, e: usize, a: &[u8], skip: usize) -> usize
     j
 }
 
-// At most k digits.
-fn take_digits(t: &[u8], i: usize, e: usize, a: &[u8], skip: usize, base: usize, k: usize) -> Digits
+// k digits from i on, one after another, if they are: else a count of 0.
+fn next_digits(t: &[u8], i: usize, a: &[u8], base: usize, k: usize) -> Digits
+    requires { ⌜ (i + k ≤ length (now t)) × (base ≤ 64) × (k ≤ 8) × (256 ≤ length (now a)) ⌝ }
+    ensures { λ r. ⌜ (0 < r .count → (skip : ℕ) → base ≤ skip → (e : ℕ) → i + k ≤ e → Taken (now (a .entry)) skip base (now (t .entry)) i e k (r .at) (r .count) (r .number)) ⌝ }
+{
+    let mut v = 0;
+    let mut q = 0;
+    while q < k {
+        let x = number_of(a, t[i + q]);
+        if base <= x {
+            return Digits {
+                at: i,
+                count: 0,
+                number: 0,
+            };
+        }
+        v = v * base + x;
+        q = q + 1;
+    }
+    Digits {
+        at: i + k,
+        count: k,
+        number: v,
+    }
+}
+
+// The same for groups that are read often: with their numbers written out the loop is unrolled.
+fn quick_digits(t: &[u8], i: usize, e: usize, a: &[u8], base: usize, k: usize) -> Digits
+    requires { ⌜ (i ≤ e) × (e ≤ length (now t)) × (256 ≤ length (now a)) ⌝ }
+    ensures { λ r. ⌜ (0 < r .count → (skip : ℕ) → base ≤ skip → Taken (now (a .entry)) skip base (now (t .entry)) i e k (r .at) (r .count) (r .number)) ⌝ }
+{
+    if 4 <= e - i {
+        if base == 64 {
+            if k == 4 {
+                return next_digits(t, i, a, 64, 4);
+            }
+        }
+    }
+    if 2 <= e - i {
+        if base == 16 {
+            if k == 2 {
+                return next_digits(t, i, a, 16, 2);
+            }
+        }
+    }
+    Digits {
+        at: i,
+        count: 0,
+        number: 0,
+    }
+}
+
+// At most k digits, with what is left out between them.
+fn some_digits(t: &[u8], i: usize, e: usize, a: &[u8], skip: usize, base: usize, k: usize) -> Digits
     requires { ⌜ (i ≤ e) × (e ≤ length (now t)) × (base ≤ 64) × (k ≤ 8) × (256 ≤ length (now a)) ⌝ }
     ensures { λ r. ⌜ Taken (now (a .entry)) skip base (now (t .entry)) i e k (r .at) (r .count) (r .number) ⌝ }
 {
@@ -84,6 +136,21 @@ fn take_digits(t: &[u8], i: usize, e: usize, a: &[u8], skip: usize, base: usize,
     }
 }
 
+// At most k digits.
+fn take_digits(t: &[u8], i: usize, e: usize, a: &[u8], skip: usize, base: usize, k: usize) -> Digits
+    requires { ⌜ (i ≤ e) × (e ≤ length (now t)) × (base ≤ 64) × (k ≤ 8) × (256 ≤ length (now a)) ⌝ }
+    ensures { λ r. ⌜ Taken (now (a .entry)) skip base (now (t .entry)) i e k (r .at) (r .count) (r .number) ⌝ }
+{
+    if base <= skip {
+        let d = quick_digits(t, i, e, a, base, k);
+        let q = d.count;
+        if 0 < q {
+            return d;
+        }
+    }
+    some_digits(t, i, e, a, skip, base, k)
+}
+
 // g octets of a number, stored from the last on.
 fn put_octets(out: &mut [u8], n: usize, g: usize, v: usize) -> usize
     requires { ⌜ (n < 2 ^ 32) × (g ≤ 8) ⌝ }
@@ -97,6 +164,20 @@ fn put_octets(out: &mut [u8], n: usize, g: usize, v: usize) -> usize
         x = x / 256;
     }
     n + g
+}
+
+// The same: with the number of octets written out the loop is unrolled.
+fn put_group(out: &mut [u8], n: usize, g: usize, v: usize) -> usize
+    requires { ⌜ (n < 2 ^ 32) × (g ≤ 8) ⌝ }
+    ensures { λ r. ⌜ Wrote (now (out .entry)) (now (out .exit)) n r (digits 256 g v) ⌝ }
+{
+    if g == 3 {
+        return put_octets(out, n, 3, v);
+    }
+    if g == 1 {
+        return put_octets(out, n, 1, v);
+    }
+    put_octets(out, n, g, v)
 }
 
 // 2 ^ z
@@ -152,7 +233,7 @@ pub fn groups(
     let mut q = d.count;
     let mut v = d.number;
     while k <= q {
-        m = put_octets(out, m, g, v);
+        m = put_group(out, m, g, v);
         let f = take_digits(t, j, e, a, skip, base, k);
         j = f.at;
         q = f.count;

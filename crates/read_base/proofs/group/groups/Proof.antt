@@ -8,7 +8,7 @@ use Rattle.read_base.proofs.group.groups.Statement.{statement}
 use Rattle.read_base.proofs.group.groups.Tie as tie
 use Rattle.read_base.proofs.group.groups.Reads as reads
 use Rattle.read_base.proofs.group.groups.Lts as lts
-use Rattle.read_base.proofs.group.put_octets.Reads as put-octets-reads
+use Rattle.read_base.proofs.group.put_group.Reads as put-group-reads
 use Rattle.read_base.proofs.group.take_digits.Reads as take-digits-reads
 
 abbrev Inv-loop : tie.InvT-loop
@@ -26,8 +26,8 @@ loop-holds : tie.Need-loop-holds Inv-loop μ-loop
 loop-holds c = begun-none _ _ _ _ _ _ _ _ (c .before .before .before .before .pre .5) _ _ _ (c .before .before .before .before .pre .1) (c .before .before .before .before .pre .2) _ _ _ (c .take-digits .ensures)
 
 -- src/group.rt:163:9
-put-octets-requires : tie.Need-put-octets-requires Inv-loop μ-loop
-put-octets-requires c κs = (omega (arith, c .before .before .loop .inv .bound, c .before .before .loop .inv .within), omega (arith, c .before .before .before .before .before .before .before .pre .5 .less, c .before .before .before .before .before .before .before .pre .5 .few-digits))
+put-group-requires : tie.Need-put-group-requires Inv-loop μ-loop
+put-group-requires c κs = (omega (arith, c .before .before .loop .inv .bound, c .before .before .loop .inv .within), omega (arith, c .before .before .before .before .before .before .before .pre .5 .less, c .before .before .before .before .before .before .before .pre .5 .few-digits))
 
 -- src/group.rt:164:13
 take-digits-requires-2 : tie.Need-take-digits-requires-2 Inv-loop μ-loop
@@ -39,7 +39,7 @@ loop-less c = omega (arith, c .take-digits2 .ensures .from, c .take-digits2 .ens
 
 -- src/group.rt:162:5
 loop-again : tie.Need-loop-again Inv-loop μ-loop
-loop-again c = begun-group _ _ _ _ _ _ _ _ (c .before .before .before .before .before .before .before .before .before .before .before .pre .5) _ _ _ (c .before .before .before .before .before .before .before .before .before .before .before .pre .1) (c .before .before .before .before .before .before .before .before .before .before .before .pre .2) _ _ _ _ _ _ _ _ _ _ (c .before .before .before .before .before .before .loop .inv) (c .before .before .before .before .before .loop-test .taken) (c .before .before .before .put-octets .ensures) (c .take-digits2 .ensures)
+loop-again c = begun-group _ _ _ _ _ _ _ _ (c .before .before .before .before .before .before .before .before .before .before .before .pre .5) _ _ _ (c .before .before .before .before .before .before .before .before .before .before .before .pre .1) (c .before .before .before .before .before .before .before .before .before .before .before .pre .2) _ _ _ _ _ _ _ _ _ _ (c .before .before .before .before .before .before .loop .inv) (c .before .before .before .before .before .loop-test .taken) (c .before .before .before .put-group .ensures) (c .take-digits2 .ensures)
 
 -- src/group.rt:141:1
 same-length : tie.Need-same-length Inv-loop μ-loop
@@ -57,7 +57,7 @@ groups-spec =
     μ-loop
     take-digits-requires
     loop-holds
-    put-octets-requires
+    put-group-requires
     take-digits-requires-2
     loop-less
     loop-again
