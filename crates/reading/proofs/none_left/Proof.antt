@@ -18,11 +18,11 @@ enum-known-f c = search needs
 
 -- src/lib.rt:57:13
 returns : tie.Need-returns
-returns c = λ b t l o h e g. rw (c .before .before .f .given .1) ([], none-name (c .before .before .f .given .0) l o ∙ ap (λ x. cond x (got [] []) noToken) (le-leb _ _ (c .if1 .taken)) ∙ ap (got []) (sym e), wrote-none b _, h)
+returns c = λ b t l o h e g. rw (c .before .before .f .given .1) ([], none-name (c .before .before .f .given .0 .0) l o ∙ ap (λ x. cond x (got [] []) noToken) (le-leb _ _ (c .if1 .taken)) ∙ ap (got []) (sym e), wrote-none b _, h)
 
 -- src/lib.rt:52:1
 returns-2 : tie.Need-returns-2
-returns-2 c = λ b t l o h e g. rw (c .before .before .f .given .1) (none-name (c .before .before .f .given .0) l o ∙ ap (λ x. cond x (got [] []) noToken) (lt-leb _ _ (c .if1 .left)))
+returns-2 c = λ b t l o h e g. rw (c .before .before .f .given .1) (none-name (c .before .before .f .given .0 .0) l o ∙ ap (λ x. cond x (got [] []) noToken) (lt-leb _ _ (c .if1 .left)))
 
 -- src/lib.rt:52:1
 returns-3 : tie.Need-returns-3
