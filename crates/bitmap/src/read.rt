@@ -13,6 +13,7 @@ use crate::picture::put_blocks;
 use octets::Class;
 use octets::Number;
 use read_number::rrtype;
+use read_number::rrtype::Front;
 use tokens::Next;
 use writing::Value;
 
@@ -50,7 +51,7 @@ fn token_type(t: &[u8], i: usize) -> NextType
 }
 
 // The type at a, where it is four octets and digits, parted off: its token need not be scanned for other octets.
-fn plain_type(t: &[u8], a: usize) -> NextType
+fn last_type(t: &[u8], a: usize) -> NextType
     requires { ⌜ a ≤ length (now t) ⌝ }
     ensures { λ r. ⌜ PlainAt (now (t .entry)) a r ⌝ }
 {
@@ -62,6 +63,26 @@ fn plain_type(t: &[u8], a: usize) -> NextType
         return type_of(t, a, e);
     }
     NextType::Fault
+}
+
+// The same. What has nine octets is read in one walk.
+fn plain_type(t: &[u8], a: usize) -> NextType
+    requires { ⌜ a ≤ length (now t) ⌝ }
+    ensures { λ r. ⌜ PlainAt (now (t .entry)) a r ⌝ }
+{
+    if t.len() - a < 9 {
+        return last_type(t, a);
+    }
+    let f = rrtype::plain_front(t, a);
+    match f {
+        Front::Other => NextType::Fault,
+        Front::Found(v, e) => {
+            if tokens::parted_at(t, e) {
+                return NextType::Found(v, e);
+            }
+            NextType::Fault
+        }
+    }
 }
 
 // The next type.

@@ -66,18 +66,22 @@ fn far_end(t: &[u8], i: usize, e: usize) -> usize
     near_end(t, j, e)
 }
 
-// The same end: escapes often follow one another at once.
+// The same end: it is sought one by one first, since escapes often follow one another.
 fn plain_end(t: &[u8], i: usize, e: usize) -> usize
     requires { ⌜ (i ≤ e) × (e ≤ length (now t)) ⌝ }
     ensures { λ r. ⌜ r ≡ plainEnd (now (t .entry)) i e ⌝ }
 {
-    if e - i < 32 {
-        return near_end(t, i, e);
+    let mut j = i;
+    while j < e {
+        if t[j] == 92 {
+            return j;
+        }
+        if i + 8 <= j {
+            return far_end(t, j, e);
+        }
+        j = j + 1;
     }
-    if t[i] == 92 {
-        return i;
-    }
-    far_end(t, i, e)
+    j
 }
 
 // The octets from i to e, where there is room for all of them.

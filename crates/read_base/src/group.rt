@@ -87,10 +87,13 @@ fn quick_digits(t: &[u8], i: usize, e: usize, a: &[u8], base: usize, k: usize) -
             }
         }
     }
-    if 2 <= e - i {
-        if base == 16 {
-            if k == 2 {
-                return next_digits(t, i, a, 16, 2);
+    if 8 <= e - i {
+        if k == 8 {
+            if base == 16 {
+                return next_digits(t, i, a, 16, 8);
+            }
+            if base == 32 {
+                return next_digits(t, i, a, 32, 8);
             }
         }
     }
@@ -174,8 +177,8 @@ fn put_group(out: &mut [u8], n: usize, g: usize, v: usize) -> usize
     if g == 3 {
         return put_octets(out, n, 3, v);
     }
-    if g == 1 {
-        return put_octets(out, n, 1, v);
+    if g == 4 {
+        return put_octets(out, n, 4, v);
     }
     put_octets(out, n, g, v)
 }

@@ -22,7 +22,7 @@ pub fn hex_rest(out: &mut [u8], n: usize, t: &[u8], i: usize) -> Got
     requires { ⌜ (n < 2 ^ 30) × (i ≤ length (now t)) × (length (now t) ≤ 1048576) ⌝ }
     ensures { λ r. ⌜ Gets (now (out .entry)) (now (out .exit)) n r (joinedBares fromHex (tokens (drop i (now (t .entry))))) ⌝ }
 {
-    let v = group::lettered(out, n, t, i, t.len(), 64, 4, 16, 2, 1);
+    let v = group::lettered(out, n, t, i, t.len(), 64, 4, 16, 8, 4);
     match v {
         Value::Fault => Got::Fault,
         Value::Upto(m) => {

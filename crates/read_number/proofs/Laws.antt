@@ -20,6 +20,7 @@ use Rattle.octets.specs.declared.Number.{Number}
 use Rattle.octets.specs.declared.Number.the-variants.{Value, Fault}
 use Rattle.octets.specs.Octets.{numberOf}
 use Rattle.octets.proofs.Slices.{next, none as nothing, rest}
+use Rattle.octets.proofs.Numbers.{valueFrom, decimal-value, nothing-left}
 use Rattle.qualifiers.proofs.Laws.{part, same-length as word-length}
 use Rattle.writing.specs.Writing.{Wrote}
 use Rattle.writing.proofs.Decimal.{last-digit}
@@ -112,3 +113,11 @@ module _ (s : List ℕ) (i : ℕ) where
   too-short e l h =
       let k : length (take 4 (slice i e s)) < 4 = omega (arith, length-take 4 (slice i e s), length-slice i e s l) in
       rw (word-length true (take 4 (slice i e s)) (ascii "TYPE") (λ q. omega arith))
+
+-- digits that were read up to j
+pub digits-ended : (t : List ℕ) (i j v : ℕ) → j ≤ length t → j - i ≤ 10 → ((e : ℕ) → j ≤ e → e ≤ length t → valueFrom v (slice j e t) ≡ valueFrom 0 (slice i e t)) → i < j → decimalOf (slice i j t) ≡ some v
+digits-ended t i j v l h q k =
+    decimal-value t i j l (omega arith) h ∙ sym (q j (omega arith) l) ∙ ap (valueFrom v) (nothing t j j (omega arith)) ∙ nothing-left v
+
+pub type-front : (t : List ℕ) (i e v : ℕ) → i + 4 ≤ e → sameWord (slice i (i + 4) t) (ascii "TYPE") ≡ true → decimalOf (slice (i + 4) e t) ≡ some v → v < 65536 → typeNumber (slice i e t) ≡ some v
+type-front t i e v h w q l = sym (type-named t i e h w) ∙ rw (q, lt-ltb v 65536 l)

@@ -5,8 +5,11 @@ ghost use lib.Dec.{eqb};
 ghost use lib.ListN.{length};
 ghost use lib.Seq.{slice};
 ghost use Rattle.format.specs.Octets.{ascii, lowered, sameWord};
+ghost use Rattle.format.specs.Number.{decimalOf};
 ghost use Rattle.format.specs.Rrtype.{typeNumber, readType};
+ghost use mathlib.Core.Option.{some};
 ghost use Rattle.octets.specs.Octets.{numberOf};
+ghost use Rattle.read_number.specs.Front.{FrontAt};
 ghost use Rattle.writing.specs.Writing.{Values};
 use crate::integer::decimal_below;
 use crate::integer::value;
@@ -39,6 +42,59 @@ fn named_type(t: &[u8], i: usize) -> bool
         return false;
     }
     same_letter(t[i + 3], 69)
+}
+
+// Digits up to a place, and their number.
+struct Digits {
+    end: usize,
+    value: u64,
+}
+
+// At most five digits from i on.
+fn five_digits(t: &[u8], i: usize) -> Digits
+    requires { ⌜ i + 5 ≤ length (now t) ⌝ }
+    ensures { λ r. ⌜ (i ≤ r .end) × (r .end ≤ i + 5) × (i < r .end → decimalOf (slice i (r .end) (now (t .entry))) ≡ some (r .value)) ⌝ }
+{
+    let mut v: u64 = 0;
+    let mut j = i;
+    while j < i + 5 {
+        let b = t[j];
+        if b < 48 {
+            return Digits { end: j, value: v };
+        }
+        if 57 < b {
+            return Digits { end: j, value: v };
+        }
+        v = v * 10 + (b - 48) as u64;
+        j = j + 1;
+    }
+    Digits { end: j, value: v }
+}
+
+// A type that octets begin with: none that is plain; or its number, and where its digits end.
+pub enum Front {
+    Other,
+    Found(u64, usize),
+}
+
+// The type from i on, of at most five digits: they are read in one walk.
+pub fn plain_front(t: &[u8], i: usize) -> Front
+    requires { ⌜ i + 9 ≤ length (now t) ⌝ }
+    ensures { λ r. ⌜ FrontAt (now (t .entry)) i r ⌝ }
+{
+    if named_type(t, i) {
+        let d = five_digits(t, i + 4);
+        let e = d.end;
+        let v = d.value;
+        if e < i + 5 {
+            return Front::Other;
+        }
+        if 65535 < v {
+            return Front::Other;
+        }
+        return Front::Found(v, e);
+    }
+    Front::Other
 }
 
 // The number of a type.

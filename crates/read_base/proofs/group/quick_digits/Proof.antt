@@ -28,11 +28,15 @@ next-digits-requires-2 c κs = search needs
 
 -- src/group.rt:93:17
 returns-2 : tie.Need-returns-2
-returns-2 c = rw (c .before .before .if5 .taken, c .before .if6 .taken) (λ h skip u. c .next-digits2 .ensures h skip u (c .before .before .before .before .before .before .before .args .e) (omega arith))
+returns-2 c = rw (c .before .if6 .taken, c .before .before .if5 .taken) (λ h skip u. c .next-digits2 .ensures h skip u (c .before .before .before .before .before .before .before .args .e) (omega arith))
 
--- src/group.rt:79:1
+-- src/group.rt:96:17
+next-digits-requires-3 : tie.Need-next-digits-requires-3
+next-digits-requires-3 c κs = search needs
+
+-- src/group.rt:96:17
 returns-3 : tie.Need-returns-3
-returns-3 c = λ h skip u. absurd (omega arith)
+returns-3 c = rw (c .before .if7 .taken, c .before .before .before .if5 .taken) (λ h skip u. c .next-digits3 .ensures h skip u (c .before .before .before .before .before .before .before .before .args .e) (omega arith))
 
 -- src/group.rt:79:1
 returns-4 : tie.Need-returns-4
@@ -41,6 +45,10 @@ returns-4 c = λ h skip u. absurd (omega arith)
 -- src/group.rt:79:1
 returns-5 : tie.Need-returns-5
 returns-5 c = λ h skip u. absurd (omega arith)
+
+-- src/group.rt:79:1
+returns-6 : tie.Need-returns-6
+returns-6 c = λ h skip u. absurd (omega arith)
 
 pub quick-digits-spec : {M : Type 1} → statement M
 quick-digits-spec =
@@ -52,6 +60,8 @@ quick-digits-spec =
     sub-if4
     next-digits-requires-2
     returns-2
+    next-digits-requires-3
     returns-3
     returns-4
-    returns-5)
+    returns-5
+    returns-6)
