@@ -1,5 +1,5 @@
 -- Laws of a job that is answered in turns.
-use Prim.Native.Nat.{ℕ, _+_, _-_, _*_, _≤_, _<_}
+use Prim.Native.Nat.{ℕ, suc, _+_, _-_, _*_, _≤_, _<_}
 use mathlib.Core.Path.{_≡_, refl, sym, ap, _∙_}
 use mathlib.Core.Bool.{Bool, true, false, cond, true≢false}
 use mathlib.Core.List.{List, [], _∷_, _++_, append-assoc, append-nil}
@@ -111,6 +111,20 @@ turn-bad j b at before after n g w h = record {
   rest = rw g;
   further = λ f. absurd (true≢false (sym f));
 }
+
+-- a turn keeps the room, and each but the last goes on to a later record
+pub turn-kept : {j : List ℕ} {b : Job} {at : ℕ} {before after : List ℕ} {r : Turn} → Turns j b at before after r → length after ≡ length before
+turn-kept t = wrote-length (t .wrote)
+
+abbrev pub turnsLeft : List ℕ → ℕ → Bool → ℕ
+turnsLeft j at more = cond more (suc (length j - at)) 0
+
+pub turn-less : {j : List ℕ} {b : Job} {at : ℕ} {before after : List ℕ} {r : Turn} → Turns j b at before after r → (more : Bool) → more ≡ true → turnsLeft j (r .at) (r .more) < turnsLeft j at more
+turn-less {j} {b} {at} {before} {after} {r} t more h = rw h (by (r .more) (t .further))
+  where
+    by : (again : Bool) → (again ≡ true → (at < r .at) × (r .at < length j)) → cond again (suc (length j - r .at)) 0 < suc (length j - at)
+    by true f = omega (arith, f refl)
+    by false f = omega arith
 
 -- What all turns write, one after the other.
 pub left-first : (j : List ℕ) (b : Job) → Begins j b → leftAt j b (b .places .records) ≡ job j

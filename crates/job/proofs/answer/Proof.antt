@@ -1,10 +1,8 @@
 -- `job::answer` is safe and ends: each turn but the last goes on to a later record.
-use Prim.Native.Nat.{ℕ, suc, _-_, _<_}
-use mathlib.Core.Path.{_≡_, _∙_, refl, sym}
-use mathlib.Core.Bool.{Bool, true, false, cond}
+use mathlib.Core.Path.{_≡_, _∙_, sym}
 use native.Mathlib.Omega.{arith}
 use lib.ListN.{length}
-use Rattle.writing.proofs.Laws.{wrote-length}
+use Rattle.jobs.proofs.Turns.{turn-kept, turnsLeft, turn-less}
 use borrow.Author.Needs.{needs}
 use Rattle.job.proofs.answer.Statement.{statement}
 use Rattle.job.proofs.answer.Tie as tie
@@ -13,11 +11,7 @@ abbrev Inv-loop : tie.InvT-loop
 Inv-loop j out₀ job at₀ more₀ out at more = length out ≡ 262148
 
 abbrev μ-loop : tie.MeasureT-loop
-μ-loop j out₀ job at₀ more₀ out at more = cond more (suc (length j - at)) 0
-
-less : (n at m : ℕ) (more again : Bool) → more ≡ true → (again ≡ true → (at < m) × (m < n)) → cond again (suc (n - m)) 0 < cond more (suc (n - at)) 0
-less n at m more true h f = rw h (omega (arith, f refl))
-less n at m more false h f = rw h (omega arith)
+μ-loop j out₀ job at₀ more₀ out at more = turnsLeft j at more
 
 begin-requires : tie.Need-begin-requires Inv-loop μ-loop
 begin-requires c κs = search needs
@@ -35,19 +29,19 @@ part-write-all-start : tie.Need-part-write-all-start Inv-loop μ-loop
 part-write-all-start c = search needs
 
 part-write-all-end : tie.Need-part-write-all-end Inv-loop μ-loop
-part-write-all-end c = omega (arith, c .before .before .before .next .ensures .fits, wrote-length (c .before .before .before .next .ensures .wrote))
+part-write-all-end c = omega (arith, c .before .before .before .next .ensures .fits, turn-kept (c .before .before .before .next .ensures))
 
 write-all-requires : tie.Need-write-all-requires Inv-loop μ-loop
 write-all-requires c κs = search needs
 
 loop-less : tie.Need-loop-less Inv-loop μ-loop
-loop-less c = less _ _ _ _ _ (c .before .before .before .before .before .before .before .before .loop-test .taken) (c .before .before .before .before .before .before .next .ensures .further)
+loop-less c = turn-less (c .before .before .before .before .before .before .next .ensures) _ (c .before .before .before .before .before .before .before .before .loop-test .taken)
 
 loop-again : tie.Need-loop-again Inv-loop μ-loop
-loop-again c = wrote-length (c .before .before .before .before .before .before .next .ensures .wrote) ∙ c .before .before .before .before .before .before .before .before .before .loop .inv
+loop-again c = turn-kept (c .before .before .before .before .before .before .next .ensures) ∙ c .before .before .before .before .before .before .before .before .before .loop .inv
 
 same-length : tie.Need-same-length Inv-loop μ-loop
-same-length c = wrote-length (c .before .before .before .before .before .before .next .ensures .wrote) ∙ c .before .before .before .before .before .before .before .before .before .loop .inv ∙ sym (c .before .before .before .before .before .before .before .before .before .before .before .before .before .pre)
+same-length c = turn-kept (c .before .before .before .before .before .before .next .ensures) ∙ c .before .before .before .before .before .before .before .before .before .loop .inv ∙ sym (c .before .before .before .before .before .before .before .before .before .before .before .before .before .pre)
 
 returns : tie.Need-returns Inv-loop μ-loop
 returns c = search needs
