@@ -26,7 +26,7 @@ same-length : tie.Need-same-length Inv-loop μ-loop
 same-length c = wrote-length (c .before .before .loop .inv .0 .wrote)
 
 returns : tie.Need-returns Inv-loop μ-loop
-returns c = turn-full _ (c .before .before .before .before .before .before .before .args .job) (c .before .before .before .before .before .before .before .pre .1) (c .before .before .loop .inv .0) (c .before .loop-test .taken) (c .before .before .before .before .before .before .before .pre .2) (c .if1 .taken)
+returns c = turn-full _ (c .before .before .before .before .before .before .before .args .job) (c .before .before .before .before .before .before .before .pre .1) (c .before .before .loop .inv .0) (c .before .loop-test .taken) (c .before .before .before .before .before .before .before .pre .2) (omega (arith, c .if1 .taken))
 
 line-end-requires : tie.Need-line-end-requires Inv-loop μ-loop
 line-end-requires c κs = search needs
