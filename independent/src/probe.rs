@@ -4,14 +4,16 @@
 //! J STANZA                               -> NUMBER PLACE
 //! P STANZA FIRST LENGTH RDATA ROOM       -> NUMBER PLACE TEXT
 //! R STANZA FIRST LENGTH ORIGIN TEXT ROOM -> NUMBER PLACE RDATA
+//! W JOB                                  -> LINES
 //! ```
 //!
 //! Words are parted by exactly one space. Octets are in hex, either case in,
 //! upper case out, `-` for none; numbers are decimal, unsigned, 64 bits. PLACE
-//! is the count where NUMBER is 0. A line that is no request answers `?`.
+//! is the count where NUMBER is 0; LINES are what the job program writes for JOB.
+//! A line that is no request answers `?`.
 
 use crate::base::{print_hex, read_hex};
-use crate::{judge, print, read, Answer};
+use crate::{job, judge, print, read, Answer};
 
 /// The longest request line, without its LF.
 pub const LINE_LIMIT: usize = 2_200_000;
@@ -46,6 +48,11 @@ fn try_answer(line: &[u8]) -> Option<Vec<u8>> {
             &octets(text)?,
             number(room)?,
         ))),
+        [b"W", word] => {
+            let mut line = Vec::new();
+            push_octets(&job(&octets(word)?), &mut line);
+            Some(line)
+        }
         _ => None,
     }
 }

@@ -1,14 +1,39 @@
 -- Laws of the line that answers a record.
-use Prim.Native.Nat.{ℕ, zero, suc, _+_}
-use mathlib.Core.Path.{_≡_, refl}
+use Prim.Native.Nat.{ℕ, zero, suc, _+_, _-_, _≤_, _<_}
+use mathlib.Core.Path.{_≡_, refl, sym, ap, _∙_}
+use mathlib.Core.Bool.{Bool, true, false}
 use mathlib.Core.List.{List, [], _∷_, _++_}
 use native.Mathlib.Omega.{arith}
-use lib.ListN.{length}
+use lib.Dec.{leb}
+use lib.ListN.{length, take, drop, length-append}
+use lib.Seq.{take-at}
+use borrow.Author.Tests.{le-leb, leb-true}
+use Rattle.format.specs.Lists.{flat}
 use Rattle.format.specs.Octets.{ascii}
+use Rattle.format.specs.Number.{decimal}
 use Rattle.format.specs.Hex.{hexText}
-use Rattle.format.specs.Entries.{done, refusal}
-use Rattle.format.specs.Job.{answerLine}
-use Rattle.jobs.specs.Answer.{answered}
+use Rattle.format.specs.Field.{Kind, kinds}
+use Rattle.format.specs.Token.{tokens}
+use Rattle.format.specs.Name.{isWireName}
+use Rattle.format.specs.Judge.{Judged, rejected, described, judged}
+use Rattle.format.specs.Run.{readField, Parts, refused, parts, maxRdata, readRun}
+use Rattle.format.specs.Entries.{Answer, done, refusal, maxText, orRefusal, ofStanza, ofParts, isRun, run, reading, ifRoom, room, Outcome, outcome, stored, read}
+use Rattle.format.specs.Job.{Job, answerLine, fieldCount, recordLine}
+use Rattle.format.proofs.Number.{decimal-10}
+use Rattle.format.proofs.Hex.{hex-length}
+use Rattle.stanza.specs.declared.Outline.{Outline}
+use Rattle.stanza.specs.Stanza.{Outlined}
+use Rattle.extlang.proofs.Laws.{accepted, many}
+use Rattle.extlang.specs.declared.Reply.{Reply}
+use Rattle.extlang.specs.Entries.{Leaves}
+use Rattle.extlang.proofs.Readings.{read-rejected}
+use Rattle.extlang.proofs.Numbers.{read-told, zero-done}
+use Rattle.jobs.specs.Answer.{lineUnder}
+
+-- an answer's RDATA has at most 65,535 octets
+abbrev pub Short : Answer → Type 0
+Short (done t) = length t ≤ 65535
+Short (refusal n i) = Unit {0}
 
 -- "no octets give `ok` alone"
 pub ok-alone : (xs : List ℕ) → length xs ≡ 0 → ascii "ok\n" ≡ answerLine (done xs)
@@ -19,6 +44,109 @@ pub ok-octets : (xs : List ℕ) → (length xs ≡ 0 → ⊥) → ascii "ok " ++
 ok-octets [] h = absurd (h refl)
 ok-octets (x ∷ xs) h = refl
 
-pub refused-answer : (n i : ℕ) (xs : List ℕ) → (n ≡ 0 → ⊥) → refusal n i ≡ answered n i xs
-refused-answer zero i xs h = absurd (h refl)
-refused-answer (suc n) i xs h = refl
+-- the longest line: of 65,535 octets
+pub line-most : (a : Answer) → Short a → length (answerLine a) ≤ 131074
+line-most (done []) h = omega arith
+line-most (done (x ∷ xs)) h = omega (arith, hex-length (x ∷ xs), length-append (hexText (x ∷ xs)) (ascii "\n"))
+line-most (refusal n i) h =
+    omega (arith, length-append (decimal n ++ ascii " " ++ decimal i) (ascii "\n"), length-append (decimal n ++ ascii " ") (decimal i), length-append (decimal n) (ascii " "), decimal-10 n, decimal-10 i)
+
+-- RDATA that is read has no more: else it is refusal 11
+or-short : (n : ℕ) (b : Bool) (a : Answer) → Short a → Short (orRefusal n b a)
+or-short n true a h = h
+or-short n false a h = tt
+
+stanza-short : (v : Judged) (f : List Kind → Answer) → ((ks : List Kind) → Short (f ks)) → Short (ofStanza v f)
+stanza-short (rejected n i) f h = tt
+stanza-short (described d) f h = h (kinds (d .fields))
+
+parts-short : (r : Parts) (f : List (List ℕ) → Answer) → ((ps : List (List ℕ)) → Short (f ps)) → Short (ofParts r f)
+parts-short (refused n i) f h = tt
+parts-short (parts ps) f h = h ps
+
+flat-short : (xs : List ℕ) (b : Bool) → leb (length xs) maxRdata ≡ b → Short (orRefusal 11 b (done xs))
+flat-short xs true h = leb-true (length xs) maxRdata h
+flat-short xs false h = tt
+
+pub reading-short : (s : List ℕ) (first many : ℕ) (origin text : List ℕ) → Short (reading s first many origin text)
+unfolding reading
+reading-short s first many origin text =
+    or-short 1 (leb (length text) maxText) _ (stanza-short (judged s) _ (λ ks.
+    or-short 6 (isRun first many ks) _ (or-short 7 (isWireName origin) _ (
+    parts-short (readRun (λ k ts. readField k origin ts) (run first many ks) (tokens text)) _ (λ ps. flat-short (flat ps) (leb (length (flat ps)) maxRdata) refl)))))
+
+pub record-most : (j : Job) (t : List ℕ) → length (recordLine j t) ≤ 131074
+record-most j t =
+    let n = fieldCount (judged (j .stanza)) in
+    line-most (reading (j .stanza) 1 n (j .origin) t) (reading-short (j .stanza) 1 n (j .origin) t)
+
+-- What reading left in a buffer with room for any RDATA is its answer.
+module _ (a : Answer) (h : Short a) (out : List ℕ) (big : 65535 ≤ length out) where
+  pub refused-answer : (number place : ℕ) → number ≡ outcome out 0 (ifRoom (room out 0) a) .number → place ≡ outcome out 0 (ifRoom (room out 0) a) .place → (number ≡ 0 → ⊥) → a ≡ refusal number place
+  refused-answer number place p q z = by a h p q
+    where
+      by : (x : Answer) → Short x → number ≡ outcome out 0 (ifRoom (room out 0) x) .number → place ≡ outcome out 0 (ifRoom (room out 0) x) .place → x ≡ refusal number place
+      by (refusal n i) s p q = rw (p, q)
+      by (done t) s p q = let f : leb (length t) (length out - 0) ≡ true = le-leb (length t) (length out - 0) (omega arith) in absurd (z (rw f at p))
+
+  module _ (place : ℕ) (after t : List ℕ) (e : a ≡ done t) (q : place ≡ outcome out 0 (ifRoom (room out 0) a) .place) (s : after ≡ outcome out 0 (ifRoom (room out 0) a) .lent) where
+    few : length t ≤ 65535
+    few = let k : Short (done t) = rw e at h in k
+
+    fits : leb (length t) (length out - 0) ≡ true
+    fits = le-leb (length t) (length out - 0) (omega (arith, few))
+
+    pub done-place : place ≡ length t
+    done-place = rw (e, fits) at q
+
+    pub done-short : place ≤ 65535
+    done-short = omega (arith, done-place, few)
+
+    pub done-octets : take (place - 0) after ≡ t
+    done-octets =
+        let f : after ≡ stored out 0 t = rw (e, fits) at s in
+        let z : place - 0 ≡ length t = omega (arith, done-place) in
+        rw (f, z) (take-at t (drop (0 + length t) out) (length t) refl)
+
+-- Under a judged stanza, as many fields as were counted give each record's answer.
+pub counted-answer : (s : List ℕ) (o : Outline) → Outlined s o → (origin t : List ℕ) → length t ≤ 1048576 → reading s 1 (o .count) origin t ≡ reading s 1 (fieldCount (judged s)) origin t
+counted-answer s o q origin t h = by (o .number) refl
+  where
+    by : (n : ℕ) → o .number ≡ n → reading s 1 (o .count) origin t ≡ reading s 1 (fieldCount (judged s)) origin t
+    by zero z = ap (λ k. reading s 1 k origin t) (sym (ap fieldCount (accepted s o (q .judges) z) ∙ many s o (q .judges)))
+    by (suc n) z =
+        let p : 0 < o .number = omega arith in
+        read-rejected s o q origin t h 1 (o .count) p ∙ sym (read-rejected s o q origin t h 1 (fieldCount (judged s)) p)
+
+-- So each record's line is that of what reading answered and left.
+module _ (s : List ℕ) (o : Outline) (h : Outlined s o) (origin t : List ℕ) (l : length t ≤ 1048576) (out : List ℕ) (big : 65535 ≤ length out)
+    (r : Reply) (after : List ℕ) (w : Leaves r after (read s 1 (o .count) origin t out 0)) where
+  answer : Answer
+  answer = reading s 1 (o .count) origin t
+
+  told : answer ≡ reading s 1 (fieldCount (judged s)) origin t
+  unfolding answer
+  told = counted-answer s o h origin t l
+
+  short : Short answer
+  unfolding answer
+  short = reading-short s 1 (o .count) origin t
+
+  leaves : Leaves r after (outcome out 0 (ifRoom (room out 0) answer))
+  unfolding answer read
+  leaves = w
+
+  found : r .number ≡ 0 → (xs : List ℕ) × (answer ≡ done xs) × (length xs ≤ room out 0)
+  unfolding answer
+  found z = zero-done answer (read-told s 1 (o .count) origin t) out 0 (sym (leaves .numbers) ∙ z)
+
+  pub record-place : r .number ≡ 0 → r .place ≤ 65535
+  record-place z = done-short answer short out big (r .place) after (found z .0) (found z .1) (leaves .places) (leaves .octets)
+
+  pub record-done : r .number ≡ 0 → answerLine (done (take (r .place - 0) after)) ≡ lineUnder s origin t
+  record-done z =
+      let e = done-octets answer short out big (r .place) after (found z .0) (found z .1) (leaves .places) (leaves .octets) in
+      ap (λ xs. answerLine (done xs)) e ∙ ap answerLine (sym (found z .1) ∙ told)
+
+  pub record-refused : (r .number ≡ 0 → ⊥) → answerLine (refusal (r .number) (r .place)) ≡ lineUnder s origin t
+  record-refused z = ap answerLine (sym (refused-answer answer short out big (r .number) (r .place) (leaves .numbers) (leaves .places) z) ∙ told)

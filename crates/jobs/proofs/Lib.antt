@@ -3,3 +3,4 @@ pub mod Origins
 pub mod Forms
 pub mod Answers
 pub mod Records
+pub mod Turns

@@ -1,24 +1,20 @@
 -- What is written for a job, record by record: a program that writes `bad job` for a bad form, and else the line of each
 -- record from the first on, writes what the definition says.
-use Prim.Native.Nat.{ℕ, zero, suc, _+_, _-_, _≤_}
-use mathlib.Core.Path.{_≡_, refl, ap, _∙_}
-use mathlib.Core.Bool.{true}
+use Prim.Native.Nat.{ℕ, _+_, _≤_}
+use mathlib.Core.Path.{_≡_, ap, _∙_}
 use mathlib.Core.List.{List, [], _++_}
 use mathlib.Core.Option.{none}
-use native.Mathlib.Omega.{arith}
-use lib.Dec.{leb}
-use lib.ListN.{length, take, drop}
-use lib.Seq.{slice, take-at}
+use lib.ListN.{length}
+use lib.Seq.{slice}
 use borrow.Author.Tests.{le-leb}
 use Rattle.format.specs.Lists.{flatMap}
 use Rattle.format.specs.Judge.{rejected, judged}
-use Rattle.format.specs.Entries.{Answer, done, refusal, maxText, reading, ifRoom, room, outcome}
+use Rattle.format.specs.Entries.{refusal, maxText, reading}
 use Rattle.format.specs.Job.{Job, answerLine, recordLine, written, job}
 use Rattle.jobs.specs.Lines.{linesAt, NextLine}
 use Rattle.jobs.specs.declared.form.Form.the-variants.{Bad, Good}
 use Rattle.jobs.specs.declared.form.Places.{Places}
 use Rattle.jobs.specs.Form.{jobAt, Forms}
-use Rattle.jobs.specs.Answer.{answered}
 use Rattle.jobs.proofs.Places.{no-lines}
 use Rattle.jobs.proofs.Forms.{job-written}
 
@@ -41,13 +37,3 @@ module _ (f : List ℕ → List ℕ) (j : List ℕ) (at : ℕ) where
 pub refused-line : (j : Job) (t : List ℕ) (n i : ℕ) → judged (j .stanza) ≡ rejected n i → length t ≤ maxText → recordLine j t ≡ answerLine (refusal n i)
 unfolding reading
 refused-line j t n i e h = rw (le-leb (length t) maxText h, e)
-
--- what a call left at the start of a buffer with room for the result is its answer
-pub answered-outcome : (a : Answer) → ((n i : ℕ) → a ≡ refusal n i → n ≡ 0 → ⊥) → (out : List ℕ) → ((t : List ℕ) → a ≡ done t → length t ≤ length out)
-    → (number place : ℕ) (after : List ℕ) → number ≡ outcome out 0 (ifRoom (room out 0) a) .number → place ≡ outcome out 0 (ifRoom (room out 0) a) .place
-    → after ≡ outcome out 0 (ifRoom (room out 0) a) .lent → answered number place (take place after) ≡ a
-answered-outcome (done t) k out r number place after p q s =
-    let f : leb (length t) (length out - 0) ≡ true = le-leb (length t) (length out - 0) (omega (arith, r t refl)) in
-    rw (rw f at p, rw f at q, rw f at s) (ap done (take-at t (drop (0 + length t) out) (length t) refl))
-answered-outcome (refusal zero i) k out r number place after p q s = absurd (k zero i refl refl)
-answered-outcome (refusal (suc n) i) k out r number place after p q s = rw (p, q)

@@ -1,9 +1,8 @@
--- A reply as the definitions' answer.
-use Prim.Native.Nat.{ℕ, zero, suc}
-use mathlib.Core.List.{List}
-use Rattle.format.specs.Entries.{Answer, done, refusal}
+-- The line of a record.
+use Prim.Native.Nat.{ℕ}
+use mathlib.Core.List.{List, []}
+use Rattle.format.specs.Job.{recordLine}
 
--- 0 and the octets; or a refusal's number and place
-abbrev pub answered : ℕ → ℕ → List ℕ → Answer
-answered zero place rdata = done rdata
-answered (suc n) place rdata = refusal (suc n) place
+-- it depends on the job's stanza and origin alone
+abbrev pub lineUnder : List ℕ → List ℕ → List ℕ → List ℕ
+lineUnder stanza origin t = recordLine (record { stanza = stanza; origin = origin; records = [] }) t

@@ -5,7 +5,9 @@ ghost use lib.ListN.{length};
 ghost use Rattle.format.specs.Entries.{done, refusal};
 ghost use Rattle.format.specs.Job.{answerLine, written};
 ghost use Rattle.writing.specs.Writing.{Wrote};
-ghost use Rattle.jobs.specs.Answer.{answered};
+ghost use Rattle.stanza.specs.Stanza.{Outlined};
+ghost use Rattle.jobs.specs.Answer.{lineUnder};
+use stanza::Outline;
 use writing::put_all;
 use writing::put_decimal;
 use writing::put_hex_upper;
@@ -36,13 +38,25 @@ fn put_no(out: &mut [u8], n: usize, number: u32, place: u32) -> usize
     put_octet(out, end, 10)
 }
 
-// The line that answers a record: of its octets where the number is 0, else of the refusal.
-pub fn put_answer(out: &mut [u8], n: usize, number: u32, place: u32, rdata: &[u8]) -> usize
-    requires { ⌜ (n < 2 ^ 31) × (length (now rdata) ≤ 65535) ⌝ }
-    ensures { λ r. ⌜ Wrote (now (out .entry)) (now (out .exit)) n r (answerLine (answered number place (now (rdata .entry)))) ⌝ }
+// The line that answers a record under a judged stanza. Its RDATA is read into a buffer that has room for any.
+pub fn put_record(
+    out: &mut [u8],
+    n: usize,
+    s: &[u8],
+    o: Outline,
+    origin: &[u8],
+    t: &[u8],
+    rdata: &mut [u8],
+) -> usize
+    requires { ⌜ (n < 2 ^ 31) × Outlined (now s) o × (length (now t) ≤ 1048576) × (65535 ≤ length (now rdata)) ⌝ }
+    ensures { λ r. ⌜ Wrote (now (out .entry)) (now (out .exit)) n r (lineUnder (now (s .entry)) (now (origin .entry)) (now (t .entry))) ⌝ }
 {
+    let r = extlang::read_judged(s, o, 1, o.count, origin, t, rdata, 0);
+    let number = r.number;
+    let place = r.place;
     if number == 0 {
-        return put_ok(out, n, rdata);
+        let m = place as usize;
+        return put_ok(out, n, &rdata[0..m]);
     }
     put_no(out, n, number, place)
 }

@@ -3,8 +3,10 @@
 //     J STANZA                               -> NUMBER PLACE
 //     P STANZA FIRST LENGTH RDATA ROOM       -> NUMBER PLACE TEXT
 //     R STANZA FIRST LENGTH ORIGIN TEXT ROOM -> NUMBER PLACE RDATA
+//     W JOB                                  -> LINES
 //
-// PLACE is the count where NUMBER is 0, and the last word is '-' on a refusal. Octets are in hex of
+// PLACE is the count where NUMBER is 0, and the last word is '-' on a refusal. LINES are those that
+// the program job writes for a JOB on its standard input. Octets are in hex of
 // either case, '-' for none, and numbers decimal, of at most 64 bits; one space parts two words. A line
 // that is no request, or has more than 2,200,000 octets, answers '?'. The last line may lack its LF.
 ghost use mathlib.Core.Path.{_≡_};
@@ -29,6 +31,9 @@ const ANSWER: usize = 128;
 
 // The longest result.
 const TEXT: usize = 1048576;
+
+// The room for a turn of a job.
+const LINES: usize = 262148;
 
 // How much of the room is taken. Once a write has failed, nothing more is written.
 struct Output {
@@ -343,6 +348,21 @@ fn put_one(out: &mut [u8], output: Output, b: u8) -> Output
     }
 }
 
+// Puts octets in hex.
+fn put_digits(out: &mut [u8], output: Output, octets: &[u8]) -> Output
+    requires { ⌜ (output .taken ≤ length (now out)) × (128 ≤ length (now out)) ⌝ }
+    ensures { λ r. ⌜ r .taken ≤ length (now (out .entry)) ⌝ }
+{
+    let mut state = output;
+    let mut i = 0;
+    while i < octets.len() {
+        state = put_one(out, state, hex_digit(octets[i] / 16));
+        state = put_one(out, state, hex_digit(octets[i] % 16));
+        i = i + 1;
+    }
+    state
+}
+
 // Puts octets in hex, '-' for none, and an LF.
 fn put_octets(out: &mut [u8], output: Output, octets: &[u8]) -> Output
     requires { ⌜ (output .taken ≤ length (now out)) × (128 ≤ length (now out)) ⌝ }
@@ -352,13 +372,7 @@ fn put_octets(out: &mut [u8], output: Output, octets: &[u8]) -> Output
         let none = put_one(out, output, b'-');
         return put_one(out, none, b'\n');
     }
-    let mut state = output;
-    let mut i = 0;
-    while i < octets.len() {
-        state = put_one(out, state, hex_digit(octets[i] / 16));
-        state = put_one(out, state, hex_digit(octets[i] % 16));
-        i = i + 1;
-    }
+    let state = put_digits(out, output, octets);
     put_one(out, state, b'\n')
 }
 
@@ -613,6 +627,42 @@ fn unknown(out: &mut [u8], output: Output) -> Output
     }
 }
 
+// Puts the turns of a job, '-' where they write nothing, and an LF.
+fn put_turns(j: &[u8], text: &mut [u8], out: &mut [u8], output: Output) -> Output
+    requires { ⌜ (length (now text) ≡ 262148) × (output .taken ≤ length (now out)) × (128 ≤ length (now out)) ⌝ }
+    ensures { λ r. ⌜ r .taken ≤ length (now (out .entry)) ⌝ }
+{
+    let job = jobs::job::begin(j);
+    let mut at = job.places.records;
+    let mut more = true;
+    let mut state = output;
+    while more {
+        let turn = jobs::job::next(text, j, job, at);
+        let taken = turn.taken;
+        if taken < 1 {
+            return put_octets(out, state, &text[0..0]);
+        }
+        state = put_digits(out, state, &text[0..taken]);
+        more = turn.more;
+        at = turn.at;
+    }
+    put_one(out, state, b'\n')
+}
+
+// Puts what the job that a word spells writes.
+fn put_job(values: &[u8; 256], word: &mut [u8], out: &mut [u8], output: Output) -> Output
+    requires { ⌜ output .taken + 128 ≤ length (now out) ⌝ }
+    ensures { λ r. ⌜ r .taken ≤ length (now (out .entry)) ⌝ }
+{
+    let job = octets(values, word);
+    let n = job.count;
+    if job.good {
+        let mut text = [0u8; LINES];
+        return put_turns(&word[0..n], &mut text, out, output);
+    }
+    unknown(out, output)
+}
+
 // Puts the answer to a line, which is without its LF. The line's octets may change.
 fn answer_line(
     values: &[u8; 256],
@@ -644,6 +694,9 @@ fn answer_line(
     }
     if line[0] == b'R' {
         return answer_read(values, line, text, out, output);
+    }
+    if line[0] == b'W' {
+        return put_job(values, &mut line[2..], out, output);
     }
     unknown(out, output)
 }
