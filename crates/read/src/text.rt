@@ -66,24 +66,6 @@ fn far_end(t: &[u8], i: usize, e: usize) -> usize
     near_end(t, j, e)
 }
 
-// The same end: it is sought one by one first, since escapes often follow one another.
-fn plain_end(t: &[u8], i: usize, e: usize) -> usize
-    requires { ⌜ (i ≤ e) × (e ≤ length (now t)) ⌝ }
-    ensures { λ r. ⌜ r ≡ plainEnd (now (t .entry)) i e ⌝ }
-{
-    let mut j = i;
-    while j < e {
-        if t[j] == 92 {
-            return j;
-        }
-        if i + 8 <= j {
-            return far_end(t, j, e);
-        }
-        j = j + 1;
-    }
-    j
-}
-
 // The octets from i to e, where there is room for all of them.
 fn copy_all(out: &mut [u8], n: usize, t: &[u8], i: usize, e: usize) -> usize
     requires { ⌜ (i ≤ e) × (e ≤ length (now t)) × (n + (e - i) ≤ length (now out)) ⌝ }
@@ -115,7 +97,17 @@ fn copy_plain(out: &mut [u8], n: usize, t: &[u8], i: usize, e: usize) -> usize
     requires { ⌜ (n < 2 ^ 31) × (i ≤ e) × (e ≤ length (now t)) × (length (now t) ≤ 1048576) ⌝ }
     ensures { λ r. ⌜ (r ≡ plainEnd (now (t .entry)) i e) × Wrote (now (out .entry)) (now (out .exit)) n (n + (r - i)) (slice i r (now (t .entry))) ⌝ }
 {
-    let j = plain_end(t, i, e);
+    let j = far_end(t, i, e);
+    copy(out, n, t, i, j);
+    j
+}
+
+// The same after an escape: others often follow soon.
+fn copy_near(out: &mut [u8], n: usize, t: &[u8], i: usize, e: usize) -> usize
+    requires { ⌜ (n < 2 ^ 31) × (i ≤ e) × (e ≤ length (now t)) × (length (now t) ≤ 1048576) ⌝ }
+    ensures { λ r. ⌜ (r ≡ plainEnd (now (t .entry)) i e) × Wrote (now (out .entry)) (now (out .exit)) n (n + (r - i)) (slice i r (now (t .entry))) ⌝ }
+{
+    let j = near_end(t, i, e);
     copy(out, n, t, i, j);
     j
 }
@@ -135,7 +127,7 @@ fn escaped(out: &mut [u8], n: usize, t: &[u8], i: usize, e: usize) -> Value
             }
             Escape::Octet(b, k) => {
                 put(out, m, b);
-                j = copy_plain(out, m + 1, t, k, e);
+                j = copy_near(out, m + 1, t, k, e);
                 m = m + 1 + (j - k);
             }
         }
