@@ -15,12 +15,12 @@ use Rattle.format.specs.Number.{decimalOf}
 use Rattle.format.specs.Field.{Part}
 use Rattle.format.specs.Lines.{placed}
 use Rattle.format.specs.Job.{section, ended}
-use Rattle.octets.specs.Octets.{inClass, numberOf}
+use Rattle.octets.specs.Octets.{inClass, numberOf, lineEnd}
 use Rattle.octets.specs.declared.Class.the-variants.{NotNewline}
 use Rattle.octets.specs.declared.Number.{Number}
 use Rattle.octets.specs.declared.Number.the-variants.{Value, Fault}
 use Rattle.octets.proofs.Slices.{next, none as no-octet, front-within, front-rest}
-use Rattle.octets.proofs.Lines.{lineEnd, next-line, no-line}
+use Rattle.octets.proofs.Lines.{next-line, no-line}
 use Rattle.jobs.specs.declared.lines.Skipped.{Skipped}
 use Rattle.jobs.specs.declared.lines.Skipped.the-variants.{Short, To}
 use Rattle.jobs.specs.declared.lines.Section.the-variants.{Lines}
