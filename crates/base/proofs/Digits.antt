@@ -17,7 +17,7 @@ use Rattle.format.specs.Base.{bits, filled, toDigits}
 use Rattle.format.proofs.Digits.{digits-below, digits-length, number-digits, digits-number, number-bound}
 use Rattle.format.proofs.Base.{bits-below, bits-length, digits-many}
 use Rattle.octets.proofs.Slices.{next}
-use Rattle.writing.proofs.Hex.{flat-append}
+use Rattle.put_digits.proofs.Hex.{flat-append}
 
 number-append : (b a : ℕ) (ds es : List ℕ) → numberFrom b a (ds ++ es) ≡ numberFrom b (numberFrom b a ds) es
 number-append b a [] es = refl

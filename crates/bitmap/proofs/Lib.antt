@@ -1,4 +1,2 @@
 pub mod Texts
 pub mod Blocks
-pub mod Windows
-pub mod Plain

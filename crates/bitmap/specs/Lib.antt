@@ -1,3 +1,1 @@
 pub mod Types
-pub mod Windows
-pub mod Reading

@@ -14,8 +14,6 @@ ghost use Rattle.bitmap.specs.Types.{typesText};
 use print::rrtype;
 use writing::put_octet;
 
-pub mod picture;
-pub mod read;
 
 // A type, with a space before it where types were written from start on.
 fn put_type(out: &mut [u8], n: usize, start: usize, v: u64) -> usize

@@ -9,8 +9,8 @@ ghost use Rattle.stanza.specs.Stanza.{Outlined};
 ghost use Rattle.jobs.specs.Answer.{lineUnder};
 use stanza::Outline;
 use writing::put_all;
-use writing::put_decimal;
-use writing::put_hex_upper;
+use put_digits::put_decimal;
+use put_digits::put_hex_upper;
 use writing::put_octet;
 
 // `ok`, then the octets in hex if there are any.

@@ -37,8 +37,8 @@ fn absolute_name(out: &mut [u8], t: &[u8]) -> Value
     ensures { λ r. ⌜ Values (now (out .entry)) (now (out .exit)) 0 r (nameOf none (now (t .entry))) ⌝ }
 {
     let mut unused = [0u8; 1];
-    let x = read::name::name(&mut unused, 0, t, 0, t.len(), b"\x01a\x00");
-    let y = read::name::name(out, 0, t, 0, t.len(), b"\x00");
+    let x = read_name::name(&mut unused, 0, t, 0, t.len(), b"\x01a\x00");
+    let y = read_name::name(out, 0, t, 0, t.len(), b"\x00");
     same_end(x, y)
 }
 

@@ -15,31 +15,6 @@ use Rattle.octets.proofs.Slices.{next, none, front-on, front-within, front-rest
 use Rattle.print.specs.Plain.{plainText, plainEnd}
 use Rattle.print.proofs.Pieces.{front}
 
--- a block of them
-pub block-end : (p : List ℕ) (j e n : ℕ) → j + n ≤ e → e ≤ length p → allOf plainText (slice j (j + n) p) ≡ true → plainEnd p (j + n) e ≡ plainEnd p j e
-block-end p j e zero h l a = let q : j + 0 ≡ j = omega arith in ap (λ k. plainEnd p k e) q
-block-end p j e (suc n) h l a =
-    let q : j + 1 + n ≡ j + suc n = omega arith in
-    let b : plainText (getD p j 0) && allOf plainText (slice (j + 1) (j + suc n) p) ≡ true = subst (λ xs. allOf plainText xs ≡ true) (next p j (j + suc n) (omega arith) (omega arith)) a in
-    ap (λ k. plainEnd p k e) (sym q)
-    ∙ block-end p (j + 1) e n (omega arith) l (subst (λ k. allOf plainText (slice (j + 1) k p) ≡ true) (sym q) (and-right (plainText (getD p j 0)) (allOf plainText (slice (j + 1) (j + suc n) p)) b))
-    ∙ front-on plainText p j e (omega arith) l (and-left (plainText (getD p j 0)) (allOf plainText (slice (j + 1) (j + suc n) p)) b)
-
--- one octet after another, all of them
-pub all-next : (p : List ℕ) (i e : ℕ) (b : Bool) → i < e → e ≤ length p → (b && plainText (getD p i 0)) && allOf plainText (slice (i + 1) e p) ≡ b && allOf plainText (slice i e p)
-all-next p i e b h l = rw (next p i e h l) (by b)
-  where
-    by : (c : Bool) → (c && plainText (getD p i 0)) && allOf plainText (slice (i + 1) e p) ≡ c && (plainText (getD p i 0) && allOf plainText (slice (i + 1) e p))
-    by true = refl
-    by false = refl
-
-pub all-none : (p : List ℕ) (i e : ℕ) (b : Bool) → e ≤ i → b && allOf plainText (slice i e p) ≡ b
-all-none p i e b h = rw (none p i e h) (by b)
-  where
-    by : (c : Bool) → c && true ≡ c
-    by true = refl
-    by false = refl
-
 -- their text is themselves
 plain-escape : (x : ℕ) → plainText x ≡ true → stringEscape x ≡ x ∷ []
 plain-escape x h =

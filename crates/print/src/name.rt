@@ -11,7 +11,7 @@ ghost use Rattle.format.specs.Wire.{taken, took, labelLength};
 ghost use Rattle.format.specs.Text.{pieces};
 ghost use Rattle.format.specs.Name.{nameEscape, nameText};
 ghost use Rattle.writing.specs.Writing.{Wrote};
-use writing::put_escaped_name;
+use put_escape::put_escaped_name;
 use writing::put_octet;
 
 // The octets of p from i to e, escaped.

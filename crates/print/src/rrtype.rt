@@ -8,7 +8,7 @@ ghost use Rattle.format.specs.Rrtype.{typeText};
 ghost use Rattle.writing.specs.Writing.{Wrote};
 use crate::integer::two;
 use writing::put_all;
-use writing::put_decimal;
+use put_digits::put_decimal;
 
 // A type by its number.
 pub fn number(out: &mut [u8], n: usize, v: u64) -> usize

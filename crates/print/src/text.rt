@@ -12,7 +12,7 @@ ghost use Rattle.format.specs.Text.{pieces, stringEscape, stringText};
 ghost use Rattle.writing.specs.Writing.{Wrote};
 ghost use Rattle.print.specs.Plain.{plainText, plainEnd};
 use writing::put_all;
-use writing::put_escaped_string;
+use put_escape::put_escaped_string;
 use writing::put_octet;
 
 // An octet that stands for itself.

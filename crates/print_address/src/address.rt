@@ -12,8 +12,8 @@ ghost use Rattle.format.specs.Address.{dottedText, groupText, colons, zerosAt, 
 ghost use Rattle.writing.specs.Writing.{Wrote};
 ghost use Rattle.print_address.specs.Zeros.{Longest};
 use print::integer::two;
-use writing::put_decimal;
-use writing::put_hex_lower_octet;
+use put_digits::put_decimal;
+use put_digits::put_hex_lower_octet;
 use writing::put_octet;
 
 // Octets in decimal, with dots between.

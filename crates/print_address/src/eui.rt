@@ -4,7 +4,7 @@ ghost use lib.ListN.{length};
 ghost use lib.Seq.{slice};
 ghost use Rattle.format.specs.Eui.{euiText};
 ghost use Rattle.writing.specs.Writing.{Wrote};
-use writing::put_hex_lower_octet;
+use put_digits::put_hex_lower_octet;
 use writing::put_octet;
 
 // Two lower-case digits an octet, with hyphens between.

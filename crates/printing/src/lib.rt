@@ -45,10 +45,10 @@ pub fn put_field(out: &mut [u8], d: FieldDesc, s: &[u8], p: &[u8], i: usize, e: 
         Form::Raw => text::string(out, 0, p, i, e),
         Form::Base32 => base::base32(out, 0, p, i + 1, e),
         Form::Base64 => base::base64(out, 0, p, i, e),
-        Form::Hex => writing::put_hex_upper(out, 0, &p[i..e]),
+        Form::Hex => put_digits::put_hex_upper(out, 0, &p[i..e]),
         Form::Hexc => {
             let j = i + 1;
-            writing::put_hex_upper(out, 0, &p[j..e])
+            put_digits::put_hex_upper(out, 0, &p[j..e])
         }
         Form::Eui(_) => eui::field(out, 0, p, i, e),
         Form::Time => time::field(out, 0, p, i, e),

@@ -27,7 +27,7 @@ use Rattle.writing.proofs.Laws.{wrote-append, set-before}
 use Rattle.read_address.specs.declared.part.Form.the-variants.{Small, Group}
 use Rattle.read_address.specs.Part.{apart, partEnd, pieceOf, partsOf}
 use Rattle.read_address.specs.Address.{octetsIn, lastIn, groupsIn, sideIn, sixteen, filled, bothSides}
-use Rattle.read.proofs.Values.{after, Begun, begun-none, begun-piece, begun-fault, begun-rest}
+use Rattle.writing.proofs.Values.{after, Begun, begun-none, begun-piece, begun-fault, begun-rest}
 use Rattle.read_address.proofs.Numbers.{was-number, was-fault, small-octet, piece-short}
 use Rattle.read_address.proofs.Parts.{within, more, split-span, split-last, split-next}
 use Rattle.read_address.proofs.Read.{each-octet, a-parts}

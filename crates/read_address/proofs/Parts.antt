@@ -17,7 +17,7 @@ use Rattle.writing.specs.declared.Value.{Value}
 use Rattle.writing.specs.declared.Value.the-variants.{Fault, Upto}
 use Rattle.read_address.specs.declared.part.Form.{Form}
 use Rattle.read_address.specs.Part.{apart, partEnd, pieceOf, joined, partsBy}
-use Rattle.read.proofs.Values.{after, Begun, begun-piece, begun-fault, begun-all}
+use Rattle.writing.proofs.Values.{after, Begun, begun-piece, begun-fault, begun-all}
 use Rattle.read_address.proofs.Numbers.{piece-short}
 
 -- the first part, and those after it

@@ -21,13 +21,14 @@ use Rattle.format.proofs.Finite.{at-each}
 use Rattle.format.proofs.Token.{plainly}
 use Rattle.format.proofs.Base.{bits-length}
 use Rattle.octets.proofs.Slices.{none as no-octet}
+use Rattle.octets.proofs.Blocks.{slice-append}
 use Rattle.writing.specs.Writing.{Values}
 use Rattle.writing.specs.declared.Value.{Value}
 use Rattle.writing.specs.declared.Value.the-variants.{Upto}
 use Rattle.read_base.specs.Group.{charValue, leftOut, without, Grouping, Stops, Begun, base64Numbers}
 use Rattle.read_base.specs.Rest.{Gets}
 use Rattle.read_base.specs.declared.rest.Got.the-variants.{Upto as UptoAll}
-use Rattle.read_base.proofs.Groups.{slice-append, without-append, without-next, each-none, run-within, run-stops, run-skipped, begun-all}
+use Rattle.read_base.proofs.Groups.{without-append, without-next, each-none, run-within, run-stops, run-skipped, begun-all}
 use Rattle.read_base.proofs.Letters.{all-same, there, no-digit, sameBool, same-bool, without-blanks, each-blank, octets-part}
 use Rattle.read_base.proofs.Joined.{joinedText, joined-is, text-fault, text-got, nothing-stored}
 

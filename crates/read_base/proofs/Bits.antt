@@ -17,7 +17,7 @@ use Rattle.format.specs.Base.{bits, wholeOctets, fromDigits}
 use Rattle.format.proofs.Lists.{below-take, below-drop}
 use Rattle.format.proofs.Digits.{digits-below, digits-length, number-digits, digits-number, number-bound}
 use Rattle.format.proofs.Base.{bits-below, bits-length}
-use Rattle.writing.proofs.Hex.{flat-append}
+use Rattle.put_digits.proofs.Hex.{flat-append}
 use borrow.Author.Tests.{lt-ltb, le-ltb, ne-eqb}
 use Rattle.writing.specs.Writing.{Wrote, Values}
 use Rattle.writing.specs.declared.Value.the-variants.{Upto}

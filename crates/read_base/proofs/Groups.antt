@@ -21,7 +21,8 @@ use Rattle.writing.specs.Writing.{Wrote, Values}
 use Rattle.writing.specs.declared.Value.{Value}
 use Rattle.writing.specs.declared.Value.the-variants.{Fault, Upto}
 use Rattle.writing.proofs.Laws.{sets-last, wrote-none, wrote-append}
-use Rattle.octets.proofs.Slices.{next, none as no-octet, lent, span-front, front-within, front-rest}
+use Rattle.octets.proofs.Slices.{next, none as no-octet, span-front, front-within, front-rest}
+use Rattle.octets.proofs.Blocks.{slice-append}
 use Rattle.read_base.specs.Group.{charValue, leftOut, keptFrom, without, digitsBy, octetsBy, after, Grouping, Stops, Taken, Begun}
 use Rattle.read_base.proofs.Bits.{number-last, digits-bits, digits-bound, group-octets, after-none}
 
@@ -43,13 +44,6 @@ few-digits base q v h k l =
     let a : base ^ q ≤ 64 ^ q = pow-le-pow-left h q in
     let b : 64 ^ q ≤ 64 ^ 7 = let j : q ≤ 7 = omega arith in pow-le-pow-right (omega arith) j in
     lt-of-lt-of-le l (le-trans a b)
-
--- one part after another
-pub slice-append : (t : List ℕ) (a i j : ℕ) → a ≤ i → i ≤ j → j ≤ length t → slice a j t ≡ slice a i t ++ slice i j t
-slice-append t a i j h k l =
-    let e : i + (j - i) ≡ j = omega arith in
-    let n : a ≤ length (take i t) = omega (arith, length-take-le i t (omega arith)) in
-    ap (λ m. drop a (take m t)) (sym e) ∙ ap (drop a) (take-add i (j - i) t) ∙ drop-append-le a (take i t) (take (j - i) (drop i t)) n ∙ ap (λ ys. slice a i t ++ ys) (lent t i j k)
 
 module _ (f : ℕ → Bool) where
   pub without-append : (xs ys : List ℕ) → without f (xs ++ ys) ≡ without f xs ++ without f ys

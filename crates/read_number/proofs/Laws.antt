@@ -23,7 +23,7 @@ use Rattle.octets.proofs.Slices.{next, none as nothing, rest}
 use Rattle.octets.proofs.Numbers.{valueFrom, decimal-value, nothing-left}
 use Rattle.qualifiers.proofs.Laws.{part, same-length as word-length}
 use Rattle.writing.specs.Writing.{Wrote}
-use Rattle.writing.proofs.Decimal.{last-digit}
+use Rattle.put_digits.proofs.Decimal.{last-digit}
 use Rattle.read_number.specs.Numbers.{octetsOf, integerOf}
 
 -- octets that are stored from the last on

@@ -17,7 +17,7 @@ use Rattle.format.specs.Text.{withCount, counted, stringValue, readString}
 use Rattle.format.specs.Run.{Got, noToken, badToken, got, gotOr, oneToken, readField}
 use Rattle.format.proofs.Lists.{bind-some, provided-some, and-right}
 use Rattle.writing.specs.Writing.{Wrote}
-use Rattle.read.proofs.Values.{after, Begun, begun-none, begun-piece, begun-fault, begun-all}
+use Rattle.writing.proofs.Values.{after, Begun, begun-none, begun-piece, begun-fault, begun-all}
 
 -- the octets of all the strings
 abbrev pub allStrings : List Token → Option (List ℕ)

@@ -13,7 +13,7 @@ ghost use Rattle.format.specs.Text.{readString};
 ghost use Rattle.types.specs.Types.{kindOf};
 ghost use Rattle.run.specs.Run.{kindFor, kindsFrom, Usable, UsableRun};
 ghost use Rattle.reading.specs.Reading.{takesOne, placedAt, gotAt, Gives, Onward, Reads};
-use read::text;
+use read_text as text;
 use read_base::rest;
 use read_base::rest::Got;
 use stanza::FieldDesc;
@@ -150,7 +150,7 @@ pub fn read_field(
 {
     let f = d.form;
     if let Form::Bitmap = f {
-        return before(bitmap::read::read(out, n, t, i), t.len());
+        return before(read_bitmap::read(out, n, t, i), t.len());
     }
     if let Form::Strs = f {
         return strings(out, n, t, i);

@@ -13,7 +13,6 @@ ghost use Rattle.writing.specs.Writing.{Values};
 ghost use Rattle.run.specs.Run.{kindFor, Usable};
 ghost use Rattle.reading.specs.Reading.{tokenValue};
 use read::name;
-use read::text;
 use read_address::address;
 use read_address::eui;
 use read_base::base32;
@@ -57,7 +56,7 @@ pub fn of_bare(
         Form::Hex => Value::Fault,
         Form::Hexc => hex::counted(out, n, t, a, e),
         Form::Eui(w) => eui::field(out, n, w as usize, t, a, e),
-        Form::Time => time::read::field(out, n, t, a, e),
+        Form::Time => read_time::field(out, n, t, a, e),
     }
 }
 

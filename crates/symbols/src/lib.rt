@@ -69,12 +69,12 @@ pub fn put_number(out: &mut [u8], n: usize, s: &[u8], a: usize, b: usize, v: u64
     ensures { λ r. ⌜ ((w : ℕ) (l : List Symbol) → symbolsIn w (now (s .entry)) a b ≡ some l → Wrote (now (out .entry)) (now (out .exit)) n r (symbolOrDecimal l v)) ⌝ }
 {
     if a == b {
-        return writing::put_decimal(out, n, v);
+        return put_digits::put_decimal(out, n, v);
     }
     let q = first_name(s, a, b, v);
     match q {
         Spelling::At(i, e) => writing::put_all(out, n, &s[i..e]),
-        Spelling::Nothing => writing::put_decimal(out, n, v),
+        Spelling::Nothing => put_digits::put_decimal(out, n, v),
     }
 }
 

@@ -1,2 +1,1 @@
 pub mod Years
-pub mod Moments

@@ -9,9 +9,8 @@ ghost use Rattle.format.specs.Time.{monthDays, daysBefore, dayOf, momentText, t
 ghost use Rattle.writing.specs.Writing.{Wrote};
 ghost use Rattle.time.specs.Years.{yearDays};
 use print::integer::number;
-use writing::put_fixed;
+use put_digits::put_fixed;
 
-pub mod read;
 
 // Whether a year has 29 February.
 pub fn leap(y: u64) -> bool

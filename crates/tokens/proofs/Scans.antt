@@ -16,7 +16,7 @@ use Rattle.format.specs.Token.{textOctet, quoteMark, guarded, Token, bare, quot
 use Rattle.format.proofs.Lists.{and-left, and-right, not-true}
 use Rattle.format.proofs.Token.{in-bare, ontoAll, onto-bare, onto-quote}
 use Rattle.octets.proofs.Slices.{span-front, span-rest, span-length, lent}
-use Rattle.tokens.proofs.Fronts.{slice-append}
+use Rattle.octets.proofs.Blocks.{slice-append}
 use Rattle.tokens.specs.declared.Next.{Next}
 use Rattle.tokens.specs.declared.Next.the-variants.{End, Bare, Quoted, Broken}
 use Rattle.tokens.specs.Tokens.{tokensBy, inside, standing, frontEnd, escapes, partedOff, closes, endedAt, From, Within}

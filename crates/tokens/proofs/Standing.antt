@@ -14,7 +14,7 @@ use Rattle.format.specs.Token.{textOctet}
 use Rattle.format.proofs.Lists.{and-left, and-right, not-true}
 use Rattle.format.proofs.Finite.{at-each}
 use Rattle.tokens.specs.Tokens.{standing, frontEnd, blockAt}
-use Rattle.tokens.proofs.Fronts.{all-front}
+use Rattle.octets.proofs.Blocks.{all-front}
 
 same-true : (a b : Bool) → cond a b (not b) ≡ true → a ≡ b
 same-true true b h = sym h
@@ -59,4 +59,4 @@ pub block-within : (q : ℕ) (t : List ℕ) (i : ℕ) → blockAt q t i ≡ true
 block-within q t i h = omega (arith, leb-true 64 (length t - i) (and-left (leb 64 (length t - i)) (allOf (standing q) (slice i (i + 64) t)) h))
 
 pub block-front : (q : ℕ) (t : List ℕ) (i : ℕ) → blockAt q t i ≡ true → frontEnd q t (i + 64) (length t) ≡ frontEnd q t i (length t)
-block-front q t i h = all-front (standing q) t i (i + 64) (omega arith) (block-within q t i h) (and-right (leb 64 (length t - i)) (allOf (standing q) (slice i (i + 64) t)) h)
+block-front q t i h = all-front (standing q) t i (i + 64) (length t) (omega arith) (block-within q t i h) (omega arith) (and-right (leb 64 (length t - i)) (allOf (standing q) (slice i (i + 64) t)) h)

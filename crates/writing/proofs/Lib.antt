@@ -1,4 +1,2 @@
 pub mod Laws
-pub mod Decimal
-pub mod Escapes
-pub mod Hex
+pub mod Values

@@ -1,4 +1,4 @@
-use Rattle.writing.proofs.Decimal.{last-digit}
+use Rattle.put_digits.proofs.Decimal.{last-digit}
 use Rattle.base.specs.Alphabet.{chars}
 use Rattle.format.specs.Digits.{digits}
 use lib.ListN.{length, getD, length-set}

@@ -29,7 +29,7 @@ use Rattle.print.proofs.text.string.Reads as string-reads
 use Rattle.print.proofs.text.strings.Reads as strings-reads
 use Rattle.symbols.proofs.put_number.Reads as put-number-reads
 use Rattle.time.proofs.field.Reads as field-reads′
-use Rattle.writing.proofs.put_hex_upper.Reads as put-hex-upper-reads
+use Rattle.put_digits.proofs.put_hex_upper.Reads as put-hex-upper-reads
 
 -- src/lib.rt:30:13
 cast-a : tie.Need-cast-a

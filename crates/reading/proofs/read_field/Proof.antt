@@ -8,7 +8,7 @@ use Rattle.reading.proofs.read_field.Statement.{statement}
 use Rattle.reading.proofs.read_field.Tie as tie
 use Rattle.reading.proofs.read_field.Reads as reads
 use Rattle.reading.proofs.read_field.Lts as lts
-use Rattle.bitmap.proofs.read.read.Reads as read-reads
+use Rattle.read_bitmap.proofs.read.Reads as read-reads
 use Rattle.read_base.proofs.rest.base64_rest.Reads as base64-rest-reads
 use Rattle.read_base.proofs.rest.hex_rest.Reads as hex-rest-reads
 use Rattle.reading.proofs.all.Reads as all-reads

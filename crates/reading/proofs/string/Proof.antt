@@ -8,7 +8,7 @@ use Rattle.reading.proofs.string.Statement.{statement}
 use Rattle.reading.proofs.string.Tie as tie
 use Rattle.reading.proofs.string.Reads as reads
 use Rattle.reading.proofs.string.Lts as lts
-use Rattle.read.proofs.text.string.Reads as string-reads
+use Rattle.read_text.proofs.string.Reads as string-reads
 use Rattle.reading.proofs.before.Reads as before-reads
 use Rattle.tokens.proofs.next_token.Reads as next-token-reads
 

@@ -2,7 +2,7 @@ use Prim.Native.Nat.{_+_, _-_, _≤_}
 use mathlib.Core.Bool.{_&&_}
 use mathlib.Core.Path.{_≡_, sym, _∙_}
 use lib.Seq.{slice}
-use Rattle.tokens.proofs.Fronts.{all-next, all-none}
+use Rattle.octets.proofs.Blocks.{all-next, all-none}
 use Rattle.tokens.specs.Tokens.{standing}
 use Rattle.format.specs.Lists.{allOf}
 use native.Mathlib.Omega.{arith}

@@ -1,4 +1,4 @@
-use Rattle.print.proofs.Plain.{all-next, all-none}
+use Rattle.octets.proofs.Blocks.{all-next, all-none}
 use Rattle.print.specs.Plain.{plainText}
 use Rattle.format.specs.Lists.{allOf}
 use lib.Seq.{slice}
@@ -45,11 +45,11 @@ loop-less c = search needs
 
 -- src/text.rt:41:5
 loop-again : tie.Need-loop-again Inv-loop μ-loop
-loop-again c = (search needs, let z : c .before .before .before .before .before .args .i + (c .before .before .before .loop .k + 1) ≡ c .before .before .before .before .before .args .i + c .before .before .before .loop .k + 1 = omega arith in rw (z, c .is-plain .ensures) (all-next (c .before .before .before .before .before .args .p .now) (c .before .before .before .before .before .args .i + c .before .before .before .loop .k) (c .before .before .before .before .before .args .i + 32) (c .before .before .before .loop .all) (omega arith) (c .before .before .before .before .before .pre) ∙ c .before .before .before .loop .inv .1))
+loop-again c = (search needs, let z : c .before .before .before .before .before .args .i + (c .before .before .before .loop .k + 1) ≡ c .before .before .before .before .before .args .i + c .before .before .before .loop .k + 1 = omega arith in rw (z, c .is-plain .ensures) (all-next plainText (c .before .before .before .before .before .args .p .now) (c .before .before .before .before .before .args .i + c .before .before .before .loop .k) (c .before .before .before .before .before .args .i + 32) (c .before .before .before .loop .all) (omega arith) (c .before .before .before .before .before .pre) ∙ c .before .before .before .loop .inv .1))
 
 -- src/text.rt:35:1
 returns : tie.Need-returns Inv-loop μ-loop
-returns c = sym (all-none (c .before .before .before .args .p .now) (c .before .before .before .args .i + c .before .loop .k) (c .before .before .before .args .i + 32) (c .before .loop .all) (omega arith)) ∙ c .before .loop .inv .1
+returns c = sym (all-none plainText (c .before .before .before .args .p .now) (c .before .before .before .args .i + c .before .loop .k) (c .before .before .before .args .i + 32) (c .before .loop .all) (omega arith)) ∙ c .before .loop .inv .1
 
 pub all-plain-spec : {M : Type 1} → statement M
 all-plain-spec =

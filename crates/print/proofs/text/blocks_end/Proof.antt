@@ -1,4 +1,5 @@
-use Rattle.print.proofs.Plain.{block-end}
+use Rattle.print.specs.Plain.{plainText}
+use Rattle.octets.proofs.Blocks.{all-front}
 use Rattle.print.specs.Plain.{plainEnd}
 use mathlib.Core.Path.{_≡_, refl, _∙_}
 use Prim.Native.Nat.{_-_, _≤_}
@@ -34,7 +35,7 @@ loop-less c = omega (arith, c .before .block-at .ensures (c .if1 .taken) .0)
 
 -- src/text.rt:65:5
 loop-again : tie.Need-loop-again Inv-loop μ-loop
-loop-again c = let z = c .before .block-at .ensures (c .if1 .taken) in (omega arith, z .0, block-end (c .before .before .before .before .args .p .now) (c .before .before .loop .j) (c .before .before .before .before .args .e) 32 (z .0) (c .before .before .before .before .pre .1) (z .1) ∙ c .before .before .loop .inv .2)
+loop-again c = let z = c .before .block-at .ensures (c .if1 .taken) in (omega arith, z .0, all-front plainText (c .before .before .before .before .args .p .now) (c .before .before .loop .j) (c .before .before .loop .j + 32) (c .before .before .before .before .args .e) (omega arith) (z .0) (c .before .before .before .before .pre .1) (z .1) ∙ c .before .before .loop .inv .2)
 
 -- src/text.rt:60:1
 returns : tie.Need-returns Inv-loop μ-loop

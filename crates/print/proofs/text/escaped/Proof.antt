@@ -14,7 +14,7 @@ use Rattle.print.proofs.text.escaped.Tie as tie
 use Rattle.print.proofs.text.escaped.Reads as reads
 use Rattle.print.proofs.text.escaped.Lts as lts
 use Rattle.print.proofs.text.copy_plain.Reads as copy-plain-reads
-use Rattle.writing.proofs.put_escaped_string.Reads as put-escaped-string-reads
+use Rattle.put_escape.proofs.put_escaped_string.Reads as put-escaped-string-reads
 
 abbrev Inv-loop : tie.InvT-loop
 Inv-loop out₀ n p i e j₀ m₀ out j m = (i ≤ j) × (j ≤ e) × (m ≤ n + 4 * (j - i)) × Left out₀ m₀ (flatMap stringEscape (slice j₀ e p)) out m (flatMap stringEscape (slice j e p))

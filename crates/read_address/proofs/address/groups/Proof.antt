@@ -4,7 +4,7 @@ use lib.ListN.{length}
 use lib.Seq.{slice}
 use Rattle.read_address.specs.Address.{groupsIn}
 use Rattle.read_address.specs.Part.{partEnd}
-use Rattle.read.proofs.Values.{Begun, begun-none, begun-rest}
+use Rattle.writing.proofs.Values.{Begun, begun-none, begun-rest}
 use Rattle.read_address.proofs.Parts.{within}
 use Rattle.read_address.proofs.Groups.{group-last, group-fault, group-count, group-on}
 use native.Mathlib.Omega.{arith}

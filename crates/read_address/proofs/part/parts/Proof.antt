@@ -3,7 +3,7 @@ use mathlib.Core.Path.{_≡_}
 use lib.ListN.{length}
 use lib.Seq.{slice}
 use Rattle.read_address.specs.Part.{pieceOf, partsBy}
-use Rattle.read.proofs.Values.{Begun, begun-none}
+use Rattle.writing.proofs.Values.{Begun, begun-none}
 use Rattle.read_address.proofs.Parts.{within, step-fault, step-count, step-on, step-last, step-few, step-many}
 use native.Mathlib.Omega.{arith}
 use borrow.Author.Needs.{needs}

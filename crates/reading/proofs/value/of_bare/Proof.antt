@@ -6,9 +6,9 @@ use Rattle.reading.proofs.value.of_bare.Statement.{statement}
 use Rattle.reading.proofs.value.of_bare.Tie as tie
 use Rattle.reading.proofs.value.of_bare.Reads as reads
 use Rattle.reading.proofs.value.of_bare.Lts as lts
-use Rattle.read.proofs.name.name.Reads as name-reads
-use Rattle.read.proofs.text.raw.Reads as raw-reads
-use Rattle.read.proofs.text.string.Reads as string-reads
+use Rattle.read_name.proofs.name.Reads as name-reads
+use Rattle.read_text.proofs.raw.Reads as raw-reads
+use Rattle.read_text.proofs.string.Reads as string-reads
 use Rattle.read_address.proofs.address.aaaa.Reads as aaaa-reads
 use Rattle.read_address.proofs.address.dotted.Reads as dotted-reads
 use Rattle.read_address.proofs.address.four_groups.Reads as four-groups-reads
@@ -17,7 +17,7 @@ use Rattle.read_base.proofs.base32.counted.Reads as base32-counted-reads
 use Rattle.read_base.proofs.hex.counted.Reads as hex-counted-reads
 use Rattle.read_number.proofs.integer.field.Reads as integer-field-reads
 use Rattle.read_number.proofs.rrtype.field.Reads as rrtype-field-reads
-use Rattle.time.proofs.read.field.Reads as read-field-reads
+use Rattle.read_time.proofs.field.Reads as read-field-reads
 
 -- src/value.rt:42:13
 cast-i : tie.Need-cast-i

@@ -5,8 +5,8 @@ use Rattle.reading.proofs.value.of_quoted.Statement.{statement}
 use Rattle.reading.proofs.value.of_quoted.Tie as tie
 use Rattle.reading.proofs.value.of_quoted.Reads as reads
 use Rattle.reading.proofs.value.of_quoted.Lts as lts
-use Rattle.read.proofs.text.raw.Reads as raw-reads
-use Rattle.read.proofs.text.string.Reads as string-reads
+use Rattle.read_text.proofs.raw.Reads as raw-reads
+use Rattle.read_text.proofs.string.Reads as string-reads
 
 -- src/value.rt:70:29
 enum-told : tie.Need-enum-told

@@ -1,0 +1,133 @@
+// Writers of decimal and hex digits.
+ghost use mathlib.Core.Path.{_≡_};
+ghost use mathlib.Core.List.{map};
+ghost use Prim.Native.Nat.{_+_, _*_, _-_, _/_, _^_, _<_, _≤_};
+ghost use lib.ListN.{length};
+ghost use Rattle.format.specs.Digits.{digits, upperDigit, lowerDigit};
+ghost use Rattle.format.specs.Number.{decimal, fixedDecimal};
+ghost use Rattle.format.specs.Hex.{hexText};
+ghost use Rattle.writing.specs.Writing.{Wrote};
+use writing::fitting;
+use writing::put;
+
+// w decimal digits, stored from the last on.
+pub fn put_fixed(out: &mut [u8], n: usize, w: usize, v: u64) -> usize
+    requires { ⌜ (n < 2 ^ 33) × (w < 2 ^ 32) ⌝ }
+    ensures { λ r. ⌜ Wrote (now (out .entry)) (now (out .exit)) n r (fixedDecimal w v) ⌝ }
+{
+    let mut k = w;
+    let mut x = v;
+    while 0 < k {
+        k = k - 1;
+        put(out, n + k, 48 + (x % 10) as u8);
+        x = x / 10;
+    }
+    n + w
+}
+
+fn upper_digit(d: u8) -> u8
+    requires { ⌜ d < 16 ⌝ }
+    ensures { λ r. ⌜ r ≡ upperDigit d ⌝ }
+{
+    if d < 10 { 48 + d } else { 65 + (d - 10) }
+}
+
+fn lower_digit(d: u8) -> u8
+    requires { ⌜ d < 16 ⌝ }
+    ensures { λ r. ⌜ r ≡ lowerDigit d ⌝ }
+{
+    if d < 10 { 48 + d } else { 97 + (d - 10) }
+}
+
+fn put_hex_upper_octet(out: &mut [u8], n: usize, b: u8) -> usize
+    requires { ⌜ n < 2 ^ 34 ⌝ }
+    ensures { λ r. ⌜ Wrote (now (out .entry)) (now (out .exit)) n r (map upperDigit (digits 16 2 b)) ⌝ }
+{
+    put(out, n, upper_digit(b / 16 % 16));
+    put(out, n + 1, upper_digit(b % 16));
+    n + 2
+}
+
+pub fn put_hex_lower_octet(out: &mut [u8], n: usize, b: u8) -> usize
+    requires { ⌜ n < 2 ^ 32 ⌝ }
+    ensures { λ r. ⌜ Wrote (now (out .entry)) (now (out .exit)) n r (map lowerDigit (digits 16 2 b)) ⌝ }
+{
+    put(out, n, lower_digit(b / 16 % 16));
+    put(out, n + 1, lower_digit(b % 16));
+    n + 2
+}
+
+// Two digits an octet, where there is room for all.
+fn hex_pairs(out: &mut [u8], n: usize, s: &[u8]) -> usize
+    requires { ⌜ 2 * length (now s) ≤ length (now out) - n ⌝ }
+    ensures { λ r. ⌜ Wrote (now (out .entry)) (now (out .exit)) n r (hexText (now (s .entry))) ⌝ }
+{
+    let mut m = n;
+    let mut i = 0;
+    while i < s.len() {
+        let b = s[i];
+        out[m] = upper_digit(b / 16 % 16);
+        out[m + 1] = upper_digit(b % 16);
+        m = m + 2;
+        i = i + 1;
+    }
+    m
+}
+
+// Two digits an octet. The first octet without room for both may have room for one; the others have none.
+pub fn put_hex_upper(out: &mut [u8], n: usize, s: &[u8]) -> usize
+    requires { ⌜ (n < 2 ^ 32) × (length (now s) < 2 ^ 32) ⌝ }
+    ensures { λ r. ⌜ Wrote (now (out .entry)) (now (out .exit)) n r (hexText (now (s .entry))) ⌝ }
+{
+    let c = fitting(out.len(), n, 2, s.len());
+    let m = hex_pairs(out, n, &s[0..c]);
+    if s.len() <= c {
+        return m;
+    }
+    put_hex_upper_octet(out, m, s[c]);
+    n + 2 * s.len()
+}
+
+// How many digits a number has.
+fn digit_count(v: u64) -> usize
+    requires { ⌜ v < 10 ^ 10 ⌝ }
+    ensures { λ r. ⌜ (r ≤ 10) × (fixedDecimal r v ≡ decimal v) ⌝ }
+{
+    if v < 10 {
+        return 1;
+    }
+    if v < 100 {
+        return 2;
+    }
+    if v < 1000 {
+        return 3;
+    }
+    if v < 10000 {
+        return 4;
+    }
+    if v < 100000 {
+        return 5;
+    }
+    if v < 1000000 {
+        return 6;
+    }
+    if v < 10000000 {
+        return 7;
+    }
+    if v < 100000000 {
+        return 8;
+    }
+    if v < 1000000000 {
+        return 9;
+    }
+    10
+}
+
+// Decimal without leading zeros.
+pub fn put_decimal(out: &mut [u8], n: usize, v: u64) -> usize
+    requires { ⌜ (n < 2 ^ 32) × (v < 10 ^ 10) ⌝ }
+    ensures { λ r. ⌜ Wrote (now (out .entry)) (now (out .exit)) n r (decimal v) ⌝ }
+{
+    let w = digit_count(v);
+    put_fixed(out, n, w, v)
+}

@@ -1,5 +1,0 @@
-pub mod Escapes
-pub mod Values
-pub mod Texts
-pub mod Names
-pub mod Blocks
