@@ -14,7 +14,6 @@ ghost use Rattle.bitmap.specs.Types.{typesText};
 use print::rrtype;
 use writing::put_octet;
 
-
 // A type, with a space before it where types were written from start on.
 fn put_type(out: &mut [u8], n: usize, start: usize, v: u64) -> usize
     requires { ⌜ (start ≤ n) × (n < 2 ^ 31) × (v < 65536) ⌝ }

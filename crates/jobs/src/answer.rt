@@ -7,10 +7,10 @@ ghost use Rattle.format.specs.Job.{answerLine, written};
 ghost use Rattle.writing.specs.Writing.{Wrote};
 ghost use Rattle.stanza.specs.Stanza.{Outlined};
 ghost use Rattle.jobs.specs.Answer.{lineUnder};
-use stanza::Outline;
-use writing::put_all;
 use put_digits::put_decimal;
 use put_digits::put_hex_upper;
+use stanza::Outline;
+use writing::put_all;
 use writing::put_octet;
 
 // `ok`, then the octets in hex if there are any.

@@ -107,28 +107,14 @@ pub fn skip(s: &[u8], i: usize, e: usize, c: Class) -> usize
     j
 }
 
-// Whether 16 octets from i on are no LF: no way out of the loop, so that they are tested at once.
-fn sixteen_in_line(s: &[u8], i: usize) -> bool
-    requires { ⌜ i + 16 ≤ length (now s) ⌝ }
-    ensures { λ r. ⌜ r ≡ allOf (inClass NotNewline) (slice i (i + 16) (now (s .entry))) ⌝ }
+// Whether n octets from i on are no LF: no way out of the loop, and n is 8 or 16 at each call, so that they are tested at once.
+fn in_line(s: &[u8], i: usize, n: usize) -> bool
+    requires { ⌜ i + n ≤ length (now s) ⌝ }
+    ensures { λ r. ⌜ r ≡ allOf (inClass NotNewline) (slice i (i + n) (now (s .entry))) ⌝ }
 {
     let mut all = true;
     let mut k = 0;
-    while k < 16 {
-        all = all & is_in(Class::NotNewline, s[i + k]);
-        k = k + 1;
-    }
-    all
-}
-
-// The same of 8 octets.
-fn eight_in_line(s: &[u8], i: usize) -> bool
-    requires { ⌜ i + 8 ≤ length (now s) ⌝ }
-    ensures { λ r. ⌜ r ≡ allOf (inClass NotNewline) (slice i (i + 8) (now (s .entry))) ⌝ }
-{
-    let mut all = true;
-    let mut k = 0;
-    while k < 8 {
+    while k < n {
         all = all & is_in(Class::NotNewline, s[i + k]);
         k = k + 1;
     }
@@ -143,7 +129,7 @@ fn line_goes_on(s: &[u8], i: usize) -> bool
     if s.len() - i < 16 {
         return false;
     }
-    sixteen_in_line(s, i)
+    in_line(s, i, 16)
 }
 
 // A place in the same line: 8 octets on, where no LF is among them.
@@ -154,7 +140,7 @@ fn eight_on(s: &[u8], i: usize) -> usize
     if s.len() - i < 8 {
         return i;
     }
-    if eight_in_line(s, i) {
+    if in_line(s, i, 8) {
         return i + 8;
     }
     i
@@ -173,27 +159,14 @@ pub fn line_end(s: &[u8], i: usize) -> usize
     skip(s, k, s.len(), Class::NotNewline)
 }
 
-// Whether 16 octets from i on are of free text.
-fn sixteen_free(s: &[u8], i: usize) -> bool
-    requires { ⌜ i + 16 ≤ length (now s) ⌝ }
-    ensures { λ r. ⌜ r ≡ allOf (inClass FreeText) (slice i (i + 16) (now (s .entry))) ⌝ }
+// Whether n octets from i on are of free text.
+fn free(s: &[u8], i: usize, n: usize) -> bool
+    requires { ⌜ i + n ≤ length (now s) ⌝ }
+    ensures { λ r. ⌜ r ≡ allOf (inClass FreeText) (slice i (i + n) (now (s .entry))) ⌝ }
 {
     let mut all = true;
     let mut k = 0;
-    while k < 16 {
-        all = all & is_in(Class::FreeText, s[i + k]);
-        k = k + 1;
-    }
-    all
-}
-
-fn eight_free(s: &[u8], i: usize) -> bool
-    requires { ⌜ i + 8 ≤ length (now s) ⌝ }
-    ensures { λ r. ⌜ r ≡ allOf (inClass FreeText) (slice i (i + 8) (now (s .entry))) ⌝ }
-{
-    let mut all = true;
-    let mut k = 0;
-    while k < 8 {
+    while k < n {
         all = all & is_in(Class::FreeText, s[i + k]);
         k = k + 1;
     }
@@ -208,7 +181,7 @@ fn text_goes_on(s: &[u8], i: usize, e: usize) -> bool
     if e - i < 16 {
         return false;
     }
-    sixteen_free(s, i)
+    free(s, i, 16)
 }
 
 // Whether 16 octets or more, from i to e, are of free text. The last 16 are tested at once, though some were before.
@@ -221,7 +194,7 @@ fn long_free(s: &[u8], i: usize, e: usize) -> bool
         j = j + 16;
     }
     if e - j < 16 {
-        return sixteen_free(s, e - 16);
+        return free(s, e - 16, 16);
     }
     false
 }
@@ -235,8 +208,8 @@ pub fn all_free(s: &[u8], i: usize, e: usize) -> bool
         return long_free(s, i, e);
     }
     if 8 <= e - i {
-        if eight_free(s, i) {
-            return eight_free(s, e - 8);
+        if free(s, i, 8) {
+            return free(s, e - 8, 8);
         }
         return false;
     }

@@ -7,8 +7,8 @@ ghost use Rattle.format.specs.Digits;
 ghost use Rattle.format.specs.Rrtype.{typeText};
 ghost use Rattle.writing.specs.Writing.{Wrote};
 use crate::integer::two;
-use writing::put_all;
 use put_digits::put_decimal;
+use writing::put_all;
 
 // A type by its number.
 pub fn number(out: &mut [u8], n: usize, v: u64) -> usize

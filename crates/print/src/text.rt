@@ -11,8 +11,8 @@ ghost use Rattle.format.specs.Wire.{taken, took, stringCount};
 ghost use Rattle.format.specs.Text.{pieces, stringEscape, stringText};
 ghost use Rattle.writing.specs.Writing.{Wrote};
 ghost use Rattle.print.specs.Plain.{plainText, plainEnd};
-use writing::put_all;
 use put_escape::put_escaped_string;
+use writing::put_all;
 use writing::put_octet;
 
 // An octet that stands for itself.

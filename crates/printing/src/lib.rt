@@ -15,8 +15,6 @@ use print::integer;
 use print::name;
 use print::rrtype;
 use print::text;
-use print_address::address;
-use print_address::eui;
 use stanza::FieldDesc;
 use types::Form;
 use wire::Take;
@@ -36,9 +34,9 @@ pub fn put_field(out: &mut [u8], d: FieldDesc, s: &[u8], p: &[u8], i: usize, e: 
         }
         Form::Rrtype => rrtype::field(out, 0, p, i, e),
         Form::Bitmap => bitmap::field(out, 0, p, i, e),
-        Form::Dotted => address::dotted(out, 0, p, i, e),
-        Form::Aa => address::groups(out, 0, p, i, e),
-        Form::Aaaa => address::aaaa(out, 0, p, i, e),
+        Form::Dotted => print_address::dotted(out, 0, p, i, e),
+        Form::Aa => print_address::groups(out, 0, p, i, e),
+        Form::Aaaa => print_address::aaaa(out, 0, p, i, e),
         Form::Name(_) => name::name(out, 0, p, i, e),
         Form::Str => text::string(out, 0, p, i + 1, e),
         Form::Strs => text::strings(out, 0, p, i, e),
@@ -50,7 +48,7 @@ pub fn put_field(out: &mut [u8], d: FieldDesc, s: &[u8], p: &[u8], i: usize, e: 
             let j = i + 1;
             put_digits::put_hex_upper(out, 0, &p[j..e])
         }
-        Form::Eui(_) => eui::field(out, 0, p, i, e),
+        Form::Eui(_) => print_eui::field(out, 0, p, i, e),
         Form::Time => time::field(out, 0, p, i, e),
     }
 }

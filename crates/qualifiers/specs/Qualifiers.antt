@@ -1,16 +1,13 @@
 -- The qualifiers between a and b in a stanza, and what is asked of them.
-use Prim.Native.Nat.{ℕ, _+_, _-_, _*_, _%_}
+use Prim.Native.Nat.{ℕ}
 use Prim.Native.Char.{code}
-use mathlib.Core.Path.{_≡_}
 use mathlib.Core.Bool.{Bool, true, false, not, cond}
 use mathlib.Core.List.{List, [], _∷_, map}
 use mathlib.Core.Option.{Option, none, some}
 use lib.Dec.{eqb, ltb}
-use lib.ListN.{length, getD}
 use lib.Seq.{slice}
 use Rattle.format.specs.Lists.{anyOf, eachOf, twice, span}
-use Rattle.format.specs.Octets.{ascii, lowered, nameOctet, sameOctets, sameWord, splitOn}
-use Rattle.format.specs.Number.{decimalOf}
+use Rattle.format.specs.Octets.{ascii, nameOctet, sameOctets, sameWord, splitOn}
 use Rattle.format.specs.Field.{Part, Symbol}
 use Rattle.format.specs.Lines.{placed}
 use Rattle.format.specs.Grammar.{Qualifier, word, symbol, qualifier}
@@ -18,8 +15,6 @@ use Rattle.format.specs.Types.{unknownWord, hasWord}
 use Rattle.octets.specs.Octets.{partIn}
 use Rattle.qualifiers.specs.declared.Found.{Found}
 use Rattle.qualifiers.specs.declared.Found.the-variants.{Bad, Word, Numbered}
-use Rattle.qualifiers.specs.declared.Piece.{Piece}
-use Rattle.qualifiers.specs.declared.Piece.the-variants.{Other, Symbol as SymbolPiece}
 use Rattle.qualifiers.specs.declared.Test.{Test}
 use Rattle.qualifiers.specs.declared.Test.the-variants.{Malformed, Unknown, NotSymbol, NotWord, IsWord}
 use Rattle.qualifiers.specs.declared.Words.{Words}
@@ -76,30 +71,6 @@ abbrev pub sameBy : Bool → List ℕ → List ℕ → Bool
 sameBy true x y = sameWord x y
 sameBy false x y = sameOctets x y
 
--- an octet without the case of letters, or as it is
-abbrev pub folded : Bool → ℕ → ℕ
-folded ignoring x = cond ignoring (lowered x) x
-
--- a number that names which are the same share: of their length, and of their first and last octets
-abbrev pub bucketOf : Bool → List ℕ → ℕ
-bucketOf ignoring t = ((length t % 32 + folded ignoring (getD t 0 0)) * 8 + folded ignoring (getD t (length t - 1) 0)) % 256
-
 -- some two qualifiers have the same name
 abbrev pub twiceIn : Bool → List ℕ → ℕ → ℕ → Bool
 twiceIn ignoring s a b = twice (sameBy ignoring) (map nameIn (piecesIn s a b))
-
--- the end of what stands from i on, before the next comma or b
-abbrev pub commaAt : List ℕ → ℕ → ℕ → ℕ
-commaAt s i b = i + length (span (λ x. not (eqb x (code ","))) (slice i b s) .front)
-
--- a number from n + 1 to z
-abbrev pub NumberAt : List ℕ → ℕ → ℕ → Piece → Type 0
-NumberAt s n z Other = Unit {0}
-NumberAt s n z (SymbolPiece m y v) = (m ≡ n) × (y ≡ z) × (decimalOf (slice (n + 1) z s) ≡ some v)
-
--- a symbol from i on, which ends before the next comma or b
-abbrev pub SymbolAt : List ℕ → ℕ → ℕ → Piece → Type 0
-SymbolAt s i b Other = Unit {0}
-SymbolAt s i b (SymbolPiece n z v) =
-    (z ≡ commaAt s i b) × (n ≡ i + length (span nameOctet (slice i z s) .front))
-    × (qualifier (partIn s i z) ≡ some (symbol (record { spelling = partIn s i n; value = v })))

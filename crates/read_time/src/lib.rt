@@ -11,12 +11,12 @@ ghost use Rattle.octets.specs.Octets.{numberOf};
 ghost use Rattle.writing.specs.Writing.{Values};
 ghost use Rattle.time.specs.Years.{daysIn};
 ghost use Rattle.read_time.specs.Moments.{realDay, momentRead, secondsRead};
-use time::leap;
-use time::month_days;
 use octets::Number;
 use read_number::integer::decimal_below;
 use read_number::integer::in_range;
 use read_number::integer::value;
+use time::leap;
+use time::month_days;
 use writing::Value;
 
 // The days from 1970 to a year that is counted from there: every fourth has a day more, but 2100.

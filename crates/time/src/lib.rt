@@ -11,7 +11,6 @@ ghost use Rattle.time.specs.Years.{yearDays};
 use print::integer::number;
 use put_digits::put_fixed;
 
-
 // Whether a year has 29 February.
 pub fn leap(y: u64) -> bool
     ensures { λ r. ⌜ r ≡ Time.leap y ⌝ }

@@ -236,13 +236,13 @@ fn symbols_meant(s: &[u8], a: usize, b: usize, w: u8) -> Meant
     ensures { λ r. ⌜ meantIn (now (s .entry)) a b r ≡ meaningBy (allowed (symbols w)) (now (s .entry)) a b ⌝ }
 {
     let m = limit(w);
-    if qualifiers::plain_symbols(m, s, a, b) {
+    if distinct::plain_symbols(m, s, a, b) {
         return Meant::Means(Form::Int(w));
     }
     if qualifiers::any(Test::NotSymbol(m), s, a, b) {
         return refused(s, a, b);
     }
-    if qualifiers::twice(true, s, a, b) {
+    if distinct::twice(true, s, a, b) {
         return Meant::Forbidden;
     }
     Meant::Means(Form::Int(w))
@@ -383,7 +383,7 @@ fn listed_meant(s: &[u8], a: usize, b: usize, w: Words) -> Meant
     if qualifiers::any(Test::NotWord(w), s, a, b) {
         return refused(s, a, b);
     }
-    if qualifiers::twice(false, s, a, b) {
+    if distinct::twice(false, s, a, b) {
         return Meant::Forbidden;
     }
     made(s, a, b, w)

@@ -10,11 +10,11 @@ sub-if1 c = search needs
 returns : tie.Need-returns
 returns c = rw (lt-leb _ _ (c .if1 .taken))
 
-sixteen-in-line-requires : tie.Need-sixteen-in-line-requires
-sixteen-in-line-requires c κs = search needs
+in-line-requires : tie.Need-in-line-requires
+in-line-requires c κs = search needs
 
 returns-2 : tie.Need-returns-2
-returns-2 c = rw (le-leb _ _ (c .before .if1 .left)) (c .sixteen-in-line .ensures)
+returns-2 c = rw (le-leb _ _ (c .before .if1 .left)) (c .in-line .ensures)
 
 pub line-goes-on-spec : {M : Type 1} → statement M
-line-goes-on-spec = tie.close (tie.spec sub-if1 returns sixteen-in-line-requires returns-2)
+line-goes-on-spec = tie.close (tie.spec sub-if1 returns in-line-requires returns-2)

@@ -36,14 +36,14 @@ loop-again c = let n = block-there 16 (c .before .before .before .before .args .
 sub-if2 : tie.Need-sub-if2 Inv-loop μ-loop
 sub-if2 c = search needs
 
-sub-sixteen-free : tie.Need-sub-sixteen-free Inv-loop μ-loop
-sub-sixteen-free c = search needs
+sub-free : tie.Need-sub-free Inv-loop μ-loop
+sub-free c = search needs
 
-sixteen-free-requires : tie.Need-sixteen-free-requires Inv-loop μ-loop
-sixteen-free-requires c κs = search needs
+free-requires : tie.Need-free-requires Inv-loop μ-loop
+free-requires c κs = search needs
 
 returns : tie.Need-returns Inv-loop μ-loop
-returns c = let z : c .before .before .before .before .before .before .args .e - 16 + 16 ≡ c .before .before .before .before .before .before .args .e = omega arith in rw z at (c .sixteen-free .ensures) ∙ all-over (inClass FreeText) (c .before .before .before .before .before .before .args .s .now) (c .before .before .before .before .before .before .args .i) (c .before .before .before .before .loop .j) (c .before .before .before .before .before .before .args .e - 16) (c .before .before .before .before .before .before .args .e) (omega arith) (omega arith) (c .before .before .before .before .loop .inv .1) (c .before .before .before .before .before .before .pre .1) (c .before .before .before .before .loop .inv .2)
+returns c = let z : c .before .before .before .before .before .before .args .e - 16 + 16 ≡ c .before .before .before .before .before .before .args .e = omega arith in rw z at (c .free .ensures) ∙ all-over (inClass FreeText) (c .before .before .before .before .before .before .args .s .now) (c .before .before .before .before .before .before .args .i) (c .before .before .before .before .loop .j) (c .before .before .before .before .before .before .args .e - 16) (c .before .before .before .before .before .before .args .e) (omega arith) (omega arith) (c .before .before .before .before .loop .inv .1) (c .before .before .before .before .before .before .pre .1) (c .before .before .before .before .loop .inv .2)
 
 returns-2 : tie.Need-returns-2 Inv-loop μ-loop
 returns-2 c = all-off (inClass FreeText) (c .before .before .before .before .before .args .s .now) (c .before .before .before .before .before .args .i) (c .before .before .before .loop .j) (c .before .before .before .loop .j + 16) (c .before .before .before .before .before .args .e) (c .before .before .before .loop .inv .0) (omega arith) (omega arith) (c .before .before .before .before .before .pre .1) (block-broken 16 (c .before .before .before .before .before .args .e - c .before .before .before .loop .j) _ (omega arith) (sym (c .before .before .text-goes-on .ensures) ∙ c .before .if1 .left))
@@ -60,7 +60,7 @@ long-free-spec =
     loop-less
     loop-again
     sub-if2
-    sub-sixteen-free
-    sixteen-free-requires
+    sub-free
+    free-requires
     returns
     returns-2)

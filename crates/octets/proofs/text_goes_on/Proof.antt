@@ -10,11 +10,11 @@ sub-if1 c = search needs
 returns : tie.Need-returns
 returns c = rw (lt-leb _ _ (c .if1 .taken))
 
-sixteen-free-requires : tie.Need-sixteen-free-requires
-sixteen-free-requires c κs = search needs
+free-requires : tie.Need-free-requires
+free-requires c κs = search needs
 
 returns-2 : tie.Need-returns-2
-returns-2 c = rw (le-leb _ _ (c .before .if1 .left)) (c .sixteen-free .ensures)
+returns-2 c = rw (le-leb _ _ (c .before .if1 .left)) (c .free .ensures)
 
 pub text-goes-on-spec : {M : Type 1} → statement M
-text-goes-on-spec = tie.close (tie.spec sub-if1 returns sixteen-free-requires returns-2)
+text-goes-on-spec = tie.close (tie.spec sub-if1 returns free-requires returns-2)

@@ -18,10 +18,10 @@ use Rattle.printing.proofs.put_field.Lts as lts
 use Rattle.base.proofs.base32.Reads as base32-reads
 use Rattle.base.proofs.base64.Reads as base64-reads
 use Rattle.bitmap.proofs.field.Reads as field-reads
-use Rattle.print_address.proofs.address.aaaa.Reads as aaaa-reads
-use Rattle.print_address.proofs.address.dotted.Reads as dotted-reads
-use Rattle.print_address.proofs.address.groups.Reads as groups-reads
-use Rattle.print_address.proofs.eui.field.Reads as eui-field-reads
+use Rattle.print_address.proofs.aaaa.Reads as aaaa-reads
+use Rattle.print_address.proofs.dotted.Reads as dotted-reads
+use Rattle.print_address.proofs.groups.Reads as groups-reads
+use Rattle.print_eui.proofs.field.Reads as eui-field-reads
 use Rattle.print.proofs.integer.number.Reads as number-reads
 use Rattle.print.proofs.name.name.Reads as name-reads
 use Rattle.print.proofs.rrtype.field.Reads as rrtype-field-reads

@@ -1,4 +1,4 @@
-use Prim.Native.Nat.{_-_, _≤_}
+use Prim.Native.Nat.{_+_, _-_, _≤_}
 use mathlib.Core.Path.{_≡_, refl, _∙_}
 use Rattle.read_escape.specs.Escapes.{noEscape}
 use Rattle.read_text.specs.Text.{plainEnd}

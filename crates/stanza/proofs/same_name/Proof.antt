@@ -6,7 +6,7 @@ use Rattle.stanza.proofs.same_name.Statement.{statement}
 use Rattle.stanza.proofs.same_name.Tie as tie
 use Rattle.stanza.proofs.same_name.Reads as reads
 use Rattle.stanza.proofs.same_name.Lts as lts
-use Rattle.qualifiers.proofs.same.Reads as same-reads
+use Rattle.distinct.proofs.same.Reads as same-reads
 use Rattle.stanza.proofs.least.Reads as least-reads
 
 -- src/lib.rt:181:9

@@ -7,7 +7,7 @@ use Rattle.types.proofs.listed_meant.Tie as tie
 use Rattle.types.proofs.listed_meant.Reads as reads
 use Rattle.types.proofs.listed_meant.Lts as lts
 use Rattle.qualifiers.proofs.any.Reads as any-reads
-use Rattle.qualifiers.proofs.twice.Reads as twice-reads
+use Rattle.distinct.proofs.twice.Reads as twice-reads
 use Rattle.types.proofs.made.Reads as made-reads
 use Rattle.types.proofs.refused.Reads as refused-reads
 

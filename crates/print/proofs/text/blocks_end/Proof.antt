@@ -2,7 +2,7 @@ use Rattle.print.specs.Plain.{plainText}
 use Rattle.octets.proofs.Blocks.{all-front}
 use Rattle.print.specs.Plain.{plainEnd}
 use mathlib.Core.Path.{_≡_, refl, _∙_}
-use Prim.Native.Nat.{_-_, _≤_}
+use Prim.Native.Nat.{_+_, _-_, _≤_}
 use native.Mathlib.Omega.{arith}
 use borrow.Author.Needs.{needs}
 use Rattle.print.proofs.text.blocks_end.Statement.{statement}

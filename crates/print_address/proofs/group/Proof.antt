@@ -1,0 +1,97 @@
+use Rattle.print_address.proofs.Groups.{one-digit, two-digits, three-digits, four-digits}
+use Rattle.writing.proofs.Laws.{wrote-text, wrote-append}
+use Prim.Native.Nat.{ℕ}
+use mathlib.Core.Path.{ap, _∙_}
+use mathlib.Core.List.{List, [], _∷_}
+use borrow.Author.Needs.{needs}
+use Rattle.print_address.proofs.group.Statement.{statement}
+use Rattle.print_address.proofs.group.Tie as tie
+
+-- a text of one octet
+abbrev one : ℕ → List ℕ
+one x = x ∷ []
+
+lower-digit-requires : tie.Need-lower-digit-requires
+lower-digit-requires c κs = search needs
+
+put-octet-requires : tie.Need-put-octet-requires
+put-octet-requires c κs = search needs
+
+same-length : tie.Need-same-length
+same-length c = search needs
+
+returns : tie.Need-returns
+returns c = wrote-text _ _ (ap one (c .before .before .before .lower-digit .ensures) ∙ one-digit (c .before .before .before .before .before .before .before .args .v) (c .before .before .before .before .before .if1 .taken)) (c .before .before .put-octet .ensures)
+
+cast-put-hex-lower-octet : tie.Need-cast-put-hex-lower-octet
+cast-put-hex-lower-octet c = search needs
+
+put-hex-lower-octet-requires : tie.Need-put-hex-lower-octet-requires
+put-hex-lower-octet-requires c κs = search needs
+
+same-length-2 : tie.Need-same-length-2
+same-length-2 c = search needs
+
+returns-2 : tie.Need-returns-2
+returns-2 c = wrote-text _ _ (two-digits (c .before .before .before .before .before .before .before .args .v) (c .before .before .before .before .before .if1 .left) (c .before .before .before .before .if2 .taken)) (c .before .before .put-hex-lower-octet .ensures)
+
+lower-digit-requires-2 : tie.Need-lower-digit-requires-2
+lower-digit-requires-2 c κs = search needs
+
+put-octet-requires-2 : tie.Need-put-octet-requires-2
+put-octet-requires-2 c κs = search needs
+
+cast-put-hex-lower-octet-2 : tie.Need-cast-put-hex-lower-octet-2
+cast-put-hex-lower-octet-2 c = search needs
+
+put-hex-lower-octet-requires-2 : tie.Need-put-hex-lower-octet-requires-2
+put-hex-lower-octet-requires-2 c κs = search needs
+
+same-length-3 : tie.Need-same-length-3
+same-length-3 c = search needs
+
+returns-3 : tie.Need-returns-3
+returns-3 c = wrote-text _ _ (three-digits (c .before .before .before .before .before .before .before .before .before .before .before .before .before .args .v) (c .before .before .before .before .before .before .before .before .before .before .if2 .left) (c .before .before .before .before .before .before .before .before .before .if3 .taken)) (wrote-append (wrote-text _ _ (ap one (c .before .before .before .before .before .before .before .lower-digit2 .ensures)) (c .before .before .before .before .before .before .put-octet2 .ensures)) (c .before .before .put-hex-lower-octet2 .ensures))
+
+cast-put-hex-lower-octet-3 : tie.Need-cast-put-hex-lower-octet-3
+cast-put-hex-lower-octet-3 c = search needs
+
+put-hex-lower-octet-requires-3 : tie.Need-put-hex-lower-octet-requires-3
+put-hex-lower-octet-requires-3 c κs = search needs
+
+cast-put-hex-lower-octet-4 : tie.Need-cast-put-hex-lower-octet-4
+cast-put-hex-lower-octet-4 c = search needs
+
+put-hex-lower-octet-requires-4 : tie.Need-put-hex-lower-octet-requires-4
+put-hex-lower-octet-requires-4 c κs = search needs
+
+same-length-4 : tie.Need-same-length-4
+same-length-4 c = search needs
+
+returns-4 : tie.Need-returns-4
+returns-4 c = wrote-text _ _ (four-digits (c .before .before .before .before .before .before .before .before .before .before .before .before .args .v) (c .before .before .before .before .before .before .before .before .if3 .left) (c .before .before .before .before .before .before .before .before .before .before .before .before .pre .1)) (wrote-append (c .before .before .before .before .before .before .put-hex-lower-octet3 .ensures) (c .before .before .put-hex-lower-octet4 .ensures))
+
+pub group-spec : {M : Type 1} → statement M
+group-spec =
+    tie.close
+    (tie.spec
+    lower-digit-requires
+    put-octet-requires
+    same-length
+    returns
+    cast-put-hex-lower-octet
+    put-hex-lower-octet-requires
+    same-length-2
+    returns-2
+    lower-digit-requires-2
+    put-octet-requires-2
+    cast-put-hex-lower-octet-2
+    put-hex-lower-octet-requires-2
+    same-length-3
+    returns-3
+    cast-put-hex-lower-octet-3
+    put-hex-lower-octet-requires-3
+    cast-put-hex-lower-octet-4
+    put-hex-lower-octet-requires-4
+    same-length-4
+    returns-4)
