@@ -1,2 +1,2 @@
-pub mod Groups
-pub mod Zeros
+pub mod GroupTexts
+pub mod ZeroRuns

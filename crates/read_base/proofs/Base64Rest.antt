@@ -25,11 +25,11 @@ use Rattle.octets.proofs.Blocks.{slice-append}
 use Rattle.writing.specs.Writing.{Values}
 use Rattle.writing.specs.declared.Value.{Value}
 use Rattle.writing.specs.declared.Value.the-variants.{Upto}
-use Rattle.read_base.specs.Group.{charValue, leftOut, without, Grouping, Stops, Begun, base64Numbers}
+use Rattle.read_group.specs.Group.{charValue, leftOut, without, Grouping, Stops, Begun, base64Numbers}
 use Rattle.read_base.specs.Rest.{Gets}
 use Rattle.read_base.specs.declared.rest.Got.the-variants.{Upto as UptoAll}
-use Rattle.read_base.proofs.Groups.{without-append, without-next, each-none, run-within, run-stops, run-skipped, begun-all}
-use Rattle.read_base.proofs.Letters.{all-same, there, no-digit, sameBool, same-bool, without-blanks, each-blank, octets-part}
+use Rattle.read_group.proofs.GroupDigits.{without-append, without-next, each-none, run-within, run-stops, run-skipped, begun-all}
+use Rattle.read_group.proofs.Letters.{all-same, there, no-digit, sameBool, same-bool, without-blanks, each-blank, octets-part}
 use Rattle.read_base.proofs.Joined.{joinedText, joined-is, text-fault, text-got, nothing-stored}
 
 -- the alphabet

@@ -21,11 +21,11 @@ use Rattle.format.proofs.Finite.{at-each}
 use Rattle.format.proofs.Token.{plainly}
 use Rattle.writing.specs.Writing.{Values}
 use Rattle.writing.specs.declared.Value.the-variants.{Upto}
-use Rattle.read_base.specs.Group.{leftOut, without, octetsBy, letters}
+use Rattle.read_group.specs.Group.{leftOut, without, octetsBy, letters}
 use Rattle.read_base.specs.Rest.{Gets}
 use Rattle.read_base.specs.declared.rest.Got.the-variants.{Upto as UptoAll}
-use Rattle.read_base.proofs.Groups.{each-none}
-use Rattle.read_base.proofs.Letters.{there, no-digit, sameBool, same-bool, each-blank, letters16, hex-digits, octets-part}
+use Rattle.read_group.proofs.GroupDigits.{each-none}
+use Rattle.read_group.proofs.Letters.{there, no-digit, sameBool, same-bool, each-blank, letters16, hex-digits, octets-part}
 use Rattle.read_base.proofs.Joined.{joinedText, joined-is, text-fault, text-got, nothing-stored}
 
 far : (x : ℕ) → 256 ≤ x → digitValue 16 x ≡ none

@@ -14,7 +14,7 @@ use Rattle.format.specs.Text.{notEmpty}
 use Rattle.format.specs.Run.{Got, noToken, badToken, got, gotOr, bareOf, joinedBares}
 use Rattle.format.proofs.Lists.{and-left, and-right, or-left, not-true}
 use Rattle.format.proofs.Token.{plainly, in-bare}
-use Rattle.read_base.specs.Group.{without, after}
+use Rattle.read_group.specs.Group.{without, after}
 
 -- the octets of tokens, where all are bare
 abbrev joined : List Token → Option (List ℕ)

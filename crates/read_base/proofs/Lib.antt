@@ -1,6 +1,3 @@
-pub mod Bits
-pub mod Groups
-pub mod Letters
 pub mod Joined
 pub mod HexRest
 pub mod Base64Rest

@@ -6,8 +6,7 @@ ghost use lib.Seq.{slice};
 ghost use Rattle.format.specs.Octets.{blank, sameOctets};
 ghost use Rattle.format.specs.Base.{readBase64};
 ghost use Rattle.writing.specs.Writing.{Values};
-ghost use Rattle.read_base.specs.Group.{leftOut, without, base64Numbers};
-use crate::group;
+ghost use Rattle.read_group.specs.Group.{leftOut, without, base64Numbers};
 use writing::Value;
 
 // Whether k of `=` stand from i to e, and nothing else that is not left out.
@@ -16,7 +15,7 @@ fn padded(t: &[u8], i: usize, e: usize, a: &[u8], skip: usize, k: usize) -> bool
     ensures { λ r. ⌜ r ≡ sameOctets (without (leftOut (now (a .entry)) skip) (slice i e (now (t .entry)))) (replicate k 61) ⌝ }
 {
     let mut q = k;
-    let mut j = group::kept_from(t, i, e, a, skip);
+    let mut j = read_group::kept_from(t, i, e, a, skip);
     while 0 < q {
         if e <= j {
             return false;
@@ -25,7 +24,7 @@ fn padded(t: &[u8], i: usize, e: usize, a: &[u8], skip: usize, k: usize) -> bool
             return false;
         }
         q = q - 1;
-        j = group::kept_from(t, j + 1, e, a, skip);
+        j = read_group::kept_from(t, j + 1, e, a, skip);
     }
     if j < e {
         return false;
@@ -39,9 +38,9 @@ fn octets(out: &mut [u8], n: usize, t: &[u8], i: usize, a: &[u8]) -> Value
     ensures { λ r. ⌜ Values (now (out .entry)) (now (out .exit)) n r (readBase64 (without blank (drop i (now (t .entry))))) ⌝ }
 {
     let e = t.len();
-    let d = group::groups(out, n, t, i, e, a, 64, 6, 64, 4, 3);
+    let d = read_group::groups(out, n, t, i, e, a, 64, 6, 64, 4, 3);
     if padded(t, d.at, e, a, 64, (4 - d.count) % 4) {
-        return group::finish(out, d.end, 6, d.count, d.number);
+        return read_group::finish(out, d.end, 6, d.count, d.number);
     }
     Value::Fault
 }

@@ -7,7 +7,6 @@ ghost use Rattle.format.specs.Hex.{fromHex};
 ghost use Rattle.format.specs.Run.{joinedBares};
 ghost use Rattle.read_base.specs.Rest.{Gets};
 use crate::base64;
-use crate::group;
 use writing::Value;
 
 // No token is left; or a rule is broken; or the octets are stored up to a place.
@@ -22,7 +21,7 @@ pub fn hex_rest(out: &mut [u8], n: usize, t: &[u8], i: usize) -> Got
     requires { ⌜ (n < 2 ^ 30) × (i ≤ length (now t)) × (length (now t) ≤ 1048576) ⌝ }
     ensures { λ r. ⌜ Gets (now (out .entry)) (now (out .exit)) n r (joinedBares fromHex (tokens (drop i (now (t .entry))))) ⌝ }
 {
-    let v = group::lettered(out, n, t, i, t.len(), 64, 4, 16, 8, 4);
+    let v = read_group::lettered(out, n, t, i, t.len(), 64, 4, 16, 8, 4);
     match v {
         Value::Fault => Got::Fault,
         Value::Upto(m) => {

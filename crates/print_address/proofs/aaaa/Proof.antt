@@ -1,5 +1,5 @@
 use Rattle.writing.proofs.Laws.{wrote-append, wrote-text}
-use Rattle.print_address.proofs.Zeros.{whole-text, parted-text, colons-short}
+use Rattle.print_address.proofs.ZeroRuns.{whole-text, parted-text, colons-short}
 use native.Mathlib.Omega.{arith}
 use borrow.Author.Needs.{needs}
 use Rattle.print_address.proofs.aaaa.Statement.{statement}

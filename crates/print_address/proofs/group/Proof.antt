@@ -1,4 +1,4 @@
-use Rattle.print_address.proofs.Groups.{one-digit, two-digits, three-digits, four-digits}
+use Rattle.print_address.proofs.GroupTexts.{one-digit, two-digits, three-digits, four-digits}
 use Rattle.writing.proofs.Laws.{wrote-text, wrote-append}
 use Prim.Native.Nat.{ℕ}
 use mathlib.Core.Path.{ap, _∙_}

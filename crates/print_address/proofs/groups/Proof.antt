@@ -6,7 +6,7 @@ use Rattle.format.specs.Address.{colons, groupText}
 use Rattle.format.specs.Address as address
 use Rattle.octets.proofs.Slices.{none}
 use Rattle.writing.proofs.Laws.{Left, left-all, left-none, wrote-none, wrote-text}
-use Rattle.print_address.proofs.Groups.{next-group, group-short}
+use Rattle.print_address.proofs.GroupTexts.{next-group, group-short}
 use Rattle.print.proofs.Parted.{later, wrote-parted, went-on}
 use native.Mathlib.Omega.{arith}
 use borrow.Author.Needs.{needs}

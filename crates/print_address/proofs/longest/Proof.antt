@@ -3,7 +3,7 @@ use mathlib.Core.Path.{_≡_, sym, ap, _∙_}
 use lib.Seq.{slice}
 use Rattle.format.specs.Address.{groups, zerosAt}
 use Rattle.print_address.specs.Zeros.{Longest}
-use Rattle.print_address.proofs.Zeros.{no-zeros, run-none, first-group, run-next}
+use Rattle.print_address.proofs.ZeroRuns.{no-zeros, run-none, first-group, run-next}
 use native.Mathlib.Omega.{arith}
 use borrow.Author.Needs.{needs}
 use Rattle.print_address.proofs.longest.Statement.{statement}

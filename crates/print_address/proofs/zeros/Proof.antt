@@ -1,4 +1,4 @@
-use Rattle.print_address.proofs.Zeros.{zero-before, other-before}
+use Rattle.print_address.proofs.ZeroRuns.{zero-before, other-before}
 use borrow.Author.Needs.{needs}
 use Rattle.print_address.proofs.zeros.Statement.{statement}
 use Rattle.print_address.proofs.zeros.Tie as tie

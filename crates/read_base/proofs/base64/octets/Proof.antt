@@ -1,5 +1,5 @@
 use Rattle.read_base.proofs.Base64Rest.{alphabet-long, grouping64, base64-octets, base64-unpadded}
-use Rattle.read_base.proofs.Groups.{begun-small}
+use Rattle.read_group.proofs.GroupDigits.{begun-small}
 use mathlib.Core.Path.{sym, _∙_}
 use native.Mathlib.Omega.{arith}
 use borrow.Author.Needs.{needs}
@@ -8,8 +8,8 @@ use Rattle.read_base.proofs.base64.octets.Tie as tie
 use Rattle.read_base.proofs.base64.octets.Reads as reads
 use Rattle.read_base.proofs.base64.octets.Lts as lts
 use Rattle.read_base.proofs.base64.padded.Reads as padded-reads
-use Rattle.read_base.proofs.group.finish.Reads as finish-reads
-use Rattle.read_base.proofs.group.groups.Reads as groups-reads
+use Rattle.read_group.proofs.finish.Reads as finish-reads
+use Rattle.read_group.proofs.groups.Reads as groups-reads
 
 -- src/base64.rt:42:9
 groups-requires : tie.Need-groups-requires

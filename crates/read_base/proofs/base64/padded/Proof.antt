@@ -1,12 +1,12 @@
 use Rattle.read_base.proofs.Base64Rest.{Pads, pads-all, pads-one, pads-other, pads-short, pads-more, pads-none}
-use Rattle.read_base.specs.Group.{leftOut}
+use Rattle.read_group.specs.Group.{leftOut}
 use native.Mathlib.Omega.{arith}
 use borrow.Author.Needs.{needs}
 use Rattle.read_base.proofs.base64.padded.Statement.{statement}
 use Rattle.read_base.proofs.base64.padded.Tie as tie
 use Rattle.read_base.proofs.base64.padded.Reads as reads
 use Rattle.read_base.proofs.base64.padded.Lts as lts
-use Rattle.read_base.proofs.group.kept_from.Reads as kept-from-reads
+use Rattle.read_group.proofs.kept_from.Reads as kept-from-reads
 
 abbrev Inv-loop : tie.InvT-loop
 Inv-loop t i e a skip k q₀ j₀ q j = Pads (leftOut a skip) t e i k j q

@@ -1,4 +1,4 @@
-use Rattle.read_base.specs.Group.{base64Numbers}
+use Rattle.read_group.specs.Group.{base64Numbers}
 use mathlib.Core.Path.{refl}
 use native.Mathlib.Omega.{arith}
 use borrow.Author.Needs.{needs}

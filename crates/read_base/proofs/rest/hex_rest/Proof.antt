@@ -5,7 +5,7 @@ use Rattle.read_base.proofs.rest.hex_rest.Statement.{statement}
 use Rattle.read_base.proofs.rest.hex_rest.Tie as tie
 use Rattle.read_base.proofs.rest.hex_rest.Reads as reads
 use Rattle.read_base.proofs.rest.hex_rest.Lts as lts
-use Rattle.read_base.proofs.group.lettered.Reads as lettered-reads
+use Rattle.read_group.proofs.lettered.Reads as lettered-reads
 
 -- src/rest.rt:23:9
 lettered-requires : tie.Need-lettered-requires

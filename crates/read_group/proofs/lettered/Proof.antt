@@ -1,0 +1,24 @@
+use Rattle.read_group.specs.Group.{letters}
+use native.Mathlib.Omega.{arith}
+use borrow.Author.Needs.{needs}
+use Rattle.read_group.proofs.lettered.Statement.{statement}
+use Rattle.read_group.proofs.lettered.Tie as tie
+use Rattle.read_group.proofs.lettered.Reads as reads
+use Rattle.read_group.proofs.lettered.Lts as lts
+use Rattle.read_group.proofs.octets.Reads as octets-reads
+
+-- src/group.rt:219:5
+octets-requires : tie.Need-octets-requires
+octets-requires c κs = search needs
+
+-- src/group.rt:203:1
+same-length : tie.Need-same-length
+same-length c = search needs
+
+-- src/group.rt:203:1
+returns : tie.Need-returns
+unfolding letters
+returns c = c .before .before .octets .ensures
+
+pub lettered-spec : {M : Type 1} → statement M
+lettered-spec = tie.close (tie.spec octets-requires same-length returns)
