@@ -1,4 +1,4 @@
--- Laws of decimal text that is stored from its last digit on.
+-- Laws of decimal text, and of the octets of a number, that are stored from the last on.
 use Prim.Native.Nat.{ℕ, zero, suc, _+_, _-_, _*_, _/_, _%_, _^_, _<_, _≤_}
 use mathlib.Core.Path.{_≡_, refl, sym, ap, _∙_}
 use mathlib.Core.List.{List, [], _∷_, _++_, map}
@@ -37,6 +37,19 @@ last-stored o o′ n k x h p = let m : x % 10 < 10 = omega arith in last-digit u
 pub all-stored : (o₀ o : List ℕ) (n w v k x : ℕ) → k ≤ 0 → sets o n (fixedDecimal k x) ≡ sets o₀ n (fixedDecimal w v) → Wrote o₀ o n (n + w) (fixedDecimal w v)
 all-stored o₀ o n w v zero x h e = record { octets = e; count = ap (λ (l : ℕ). n + l) (sym (fixed-length w v)) }
 all-stored o₀ o n w v (suc k) x h e = absurd (omega arith)
+
+-- octets that are stored from the last on
+map-same : (xs : List ℕ) → map (λ (x : ℕ). x) xs ≡ xs
+map-same [] = refl
+map-same (x ∷ xs) = ap (λ (l : List ℕ). x ∷ l) (map-same xs)
+
+pub last-octet : (o o′ : List ℕ) (n k x : ℕ) → 0 < k → o′ ≡ set o (n + (k - 1)) (x % 256) → sets o′ n (digits 256 (k - 1) (x / 256)) ≡ sets o n (digits 256 k x)
+last-octet o o′ n k x h p =
+    ap (sets o′ n) (sym (map-same (digits 256 (k - 1) (x / 256)))) ∙ last-digit (λ (x : ℕ). x) 256 o o′ n k x h p ∙ ap (sets o n) (map-same (digits 256 k x))
+
+pub all-octets : (o₀ o : List ℕ) (n w v k x : ℕ) → k ≤ 0 → sets o n (digits 256 k x) ≡ sets o₀ n (digits 256 w v) → Wrote o₀ o n (n + w) (digits 256 w v)
+all-octets o₀ o n w v zero x h e = record { octets = e; count = ap (λ (l : ℕ). n + l) (sym (digits-length 256 w v)) }
+all-octets o₀ o n w v (suc k) x h e = absurd (omega arith)
 
 fewer : (w n : ℕ) → n < 10 ^ suc w → n / 10 < 10 ^ w
 fewer w n h = div-lt-iff-lt-mul {k = 10} {x = n} {y = 10 ^ w} (omega arith) .1 (rw (pow-suc 10 w) at h)

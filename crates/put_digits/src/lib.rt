@@ -1,4 +1,4 @@
-// Writers of decimal and hex digits.
+// Writers of decimal and hex digits, and of the octets of a number.
 ghost use mathlib.Core.Path.{_≡_};
 ghost use mathlib.Core.List.{map};
 ghost use Prim.Native.Nat.{_+_, _*_, _-_, _/_, _^_, _<_, _≤_};
@@ -21,6 +21,21 @@ pub fn put_fixed(out: &mut [u8], n: usize, w: usize, v: u64) -> usize
         k = k - 1;
         put(out, n + k, 48 + (x % 10) as u8);
         x = x / 10;
+    }
+    n + w
+}
+
+// A number in w octets, the highest first, stored from the last on.
+pub fn put_octets(out: &mut [u8], n: usize, w: usize, v: u64) -> usize
+    requires { ⌜ (n < 2 ^ 32) × (w ≤ 8) ⌝ }
+    ensures { λ r. ⌜ Wrote (now (out .entry)) (now (out .exit)) n r (digits 256 w v) ⌝ }
+{
+    let mut k = w;
+    let mut x = v;
+    while 0 < k {
+        k = k - 1;
+        put(out, n + k, (x % 256) as u8);
+        x = x / 256;
     }
     n + w
 }

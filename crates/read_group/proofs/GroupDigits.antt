@@ -20,23 +20,11 @@ use Rattle.format.proofs.Digits.{digits-length, number-bound}
 use Rattle.writing.specs.Writing.{Wrote, Values}
 use Rattle.writing.specs.declared.Value.{Value}
 use Rattle.writing.specs.declared.Value.the-variants.{Fault, Upto}
-use Rattle.writing.proofs.Laws.{sets-last, wrote-none, wrote-append}
+use Rattle.writing.proofs.Laws.{wrote-none, wrote-append}
 use Rattle.octets.proofs.Slices.{next, none as no-octet, lent, span-front, front-within, front-rest}
 use Rattle.octets.proofs.Blocks.{slice-append}
 use Rattle.read_group.specs.Group.{charValue, leftOut, keptFrom, without, digitsBy, octetsBy, after, Grouping, Stops, Taken, Begun}
 use Rattle.read_group.proofs.Bits.{number-last, digits-bits, digits-bound, group-octets, after-none}
-
--- the octets of a number, stored from the last on
-pub last-octet : (o o′ : List ℕ) (n k x : ℕ) → 0 < k → o′ ≡ set o (n + (k - 1)) (x % 256) → sets o′ n (digits 256 (k - 1) (x / 256)) ≡ sets o n (digits 256 k x)
-last-octet o o′ n zero x h p = absurd (omega arith)
-last-octet o o′ n (suc k) x h p =
-    let e : suc k - 1 ≡ k = omega arith in
-    let p′ : o′ ≡ set o (n + k) (x % 256) = rw e at p in
-    rw (e, p′, sets-last o n (digits 256 k (x / 256)) (x % 256), digits-length 256 k (x / 256))
-
-pub all-octets : (o₀ o : List ℕ) (n w v k x : ℕ) → k ≤ 0 → sets o n (digits 256 k x) ≡ sets o₀ n (digits 256 w v) → Wrote o₀ o n (n + w) (digits 256 w v)
-all-octets o₀ o n w v zero x h e = record { octets = e; count = ap (λ (l : ℕ). n + l) (sym (digits-length 256 w v)) }
-all-octets o₀ o n w v (suc k) x h e = absurd (omega arith)
 
 -- a number of a few digits has room for another
 pub few-digits : (base q v : ℕ) → base ≤ 64 → q < 8 → v < base ^ q → v < 2 ^ 42

@@ -8,6 +8,7 @@ ghost use Rattle.format.specs.Digits.{digits};
 ghost use Rattle.format.specs.Base.{wholeOctets};
 ghost use Rattle.writing.specs.Writing.{Wrote, Values};
 ghost use Rattle.read_group.specs.Group.{keptFrom, Grouping, Taken, Begun, octetsBy, letters, countedBy};
+use put_digits::put_octets;
 use writing::Value;
 use writing::put;
 
@@ -154,33 +155,18 @@ fn take_digits(t: &[u8], i: usize, e: usize, a: &[u8], skip: usize, base: usize,
     some_digits(t, i, e, a, skip, base, k)
 }
 
-// g octets of a number, stored from the last on.
-fn put_octets(out: &mut [u8], n: usize, g: usize, v: usize) -> usize
-    requires { ⌜ (n < 2 ^ 32) × (g ≤ 8) ⌝ }
-    ensures { λ r. ⌜ Wrote (now (out .entry)) (now (out .exit)) n r (digits 256 g v) ⌝ }
-{
-    let mut k = g;
-    let mut x = v;
-    while 0 < k {
-        k = k - 1;
-        put(out, n + k, (x % 256) as u8);
-        x = x / 256;
-    }
-    n + g
-}
-
-// The same: with the number of octets written out the loop is unrolled.
+// g octets of a number: with their count written out the loop is unrolled.
 fn put_group(out: &mut [u8], n: usize, g: usize, v: usize) -> usize
     requires { ⌜ (n < 2 ^ 32) × (g ≤ 8) ⌝ }
     ensures { λ r. ⌜ Wrote (now (out .entry)) (now (out .exit)) n r (digits 256 g v) ⌝ }
 {
     if g == 3 {
-        return put_octets(out, n, 3, v);
+        return put_octets(out, n, 3, v as u64);
     }
     if g == 4 {
-        return put_octets(out, n, 4, v);
+        return put_octets(out, n, 4, v as u64);
     }
-    put_octets(out, n, g, v)
+    put_octets(out, n, g, v as u64)
 }
 
 // 2 ^ z
@@ -210,7 +196,7 @@ pub fn finish(out: &mut [u8], n: usize, w: usize, q: usize, v: usize) -> Value
     if v % p != 0 {
         return Value::Fault;
     }
-    Value::Upto(put_octets(out, n, w * q / 8, v / p))
+    Value::Upto(put_octets(out, n, w * q / 8, (v / p) as u64))
 }
 
 // The whole groups.

@@ -23,21 +23,7 @@ use Rattle.octets.proofs.Slices.{next, none as nothing, rest}
 use Rattle.octets.proofs.Numbers.{valueFrom, decimal-value, nothing-left}
 use Rattle.qualifiers.proofs.Laws.{part, same-length as word-length}
 use Rattle.writing.specs.Writing.{Wrote}
-use Rattle.put_digits.proofs.Decimal.{last-digit}
 use Rattle.read_number.specs.Numbers.{octetsOf, integerOf}
-
--- octets that are stored from the last on
-map-same : (xs : List ℕ) → map (λ (x : ℕ). x) xs ≡ xs
-map-same [] = refl
-map-same (x ∷ xs) = ap (λ (l : List ℕ). x ∷ l) (map-same xs)
-
-pub last-octet : (o o′ : List ℕ) (n k x : ℕ) → 0 < k → o′ ≡ set o (n + (k - 1)) (x % 256) → sets o′ n (digits 256 (k - 1) (x / 256)) ≡ sets o n (digits 256 k x)
-last-octet o o′ n k x h p =
-    ap (sets o′ n) (sym (map-same (digits 256 (k - 1) (x / 256)))) ∙ last-digit (λ (x : ℕ). x) 256 o o′ n k x h p ∙ ap (sets o n) (map-same (digits 256 k x))
-
-pub all-octets : (o₀ o : List ℕ) (n w v k x : ℕ) → k ≤ 0 → sets o n (digits 256 k x) ≡ sets o₀ n (digits 256 w v) → Wrote o₀ o n (n + w) (digits 256 w v)
-all-octets o₀ o n w v zero x h e = record { octets = e; count = ap (λ (l : ℕ). n + l) (sym (digits-length 256 w v)) }
-all-octets o₀ o n w v (suc k) x h e = absurd (omega arith)
 
 -- a number's octets
 pub octets-of : (w : ℕ) (o : Option ℕ) → octetsOf w (numberOf o) ≡ (o >>= λ v. some (digits 256 w v))

@@ -13,23 +13,8 @@ ghost use Rattle.types.specs.Types.{symbolsIn};
 ghost use Rattle.writing.specs.Writing.{Wrote, Values};
 ghost use Rattle.read_number.specs.Numbers.{octetsOf, integerOf};
 use octets::Number;
+use put_digits::put_octets;
 use writing::Value;
-use writing::put;
-
-// A number in w octets, the highest first, stored from the last on.
-pub fn put_octets(out: &mut [u8], n: usize, w: usize, v: u64) -> usize
-    requires { ⌜ (n < 2 ^ 31) × (w ≤ 8) ⌝ }
-    ensures { λ r. ⌜ Wrote (now (out .entry)) (now (out .exit)) n r (digits 256 w v) ⌝ }
-{
-    let mut k = w;
-    let mut x = v;
-    while 0 < k {
-        k = k - 1;
-        put(out, n + k, (x % 256) as u8);
-        x = x / 256;
-    }
-    n + w
-}
 
 // A number that was read, in w octets.
 pub fn value(out: &mut [u8], n: usize, w: usize, v: Number) -> Value

@@ -6,7 +6,7 @@ use Rattle.read_group.proofs.finish.Tie as tie
 use Rattle.read_group.proofs.finish.Reads as reads
 use Rattle.read_group.proofs.finish.Lts as lts
 use Rattle.read_group.proofs.power.Reads as power-reads
-use Rattle.read_group.proofs.put_octets.Reads as put-octets-reads
+use Rattle.put_digits.proofs.put_octets.Reads as put-octets-reads
 
 -- src/group.rt:121:13
 mul-z : tie.Need-mul-z

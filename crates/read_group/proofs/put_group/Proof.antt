@@ -4,7 +4,7 @@ use Rattle.read_group.proofs.put_group.Statement.{statement}
 use Rattle.read_group.proofs.put_group.Tie as tie
 use Rattle.read_group.proofs.put_group.Reads as reads
 use Rattle.read_group.proofs.put_group.Lts as lts
-use Rattle.read_group.proofs.put_octets.Reads as put-octets-reads
+use Rattle.put_digits.proofs.put_octets.Reads as put-octets-reads
 
 -- src/group.rt:175:9
 put-octets-requires : tie.Need-put-octets-requires

@@ -3,10 +3,10 @@ use mathlib.Core.Path.{_≡_, refl, _∙_}
 use lib.ListN.{length}
 use lib.Seq.{sets}
 use Rattle.format.specs.Digits.{digits}
-use Rattle.read_number.proofs.Laws.{last-octet, all-octets}
+use Rattle.put_digits.proofs.Decimal.{last-octet, all-octets}
 use borrow.Author.Needs.{needs}
-use Rattle.read_number.proofs.integer.put_octets.Statement.{statement}
-use Rattle.read_number.proofs.integer.put_octets.Tie as tie
+use Rattle.put_digits.proofs.put_octets.Statement.{statement}
+use Rattle.put_digits.proofs.put_octets.Tie as tie
 
 abbrev Inv-loop : tie.InvT-loop
 Inv-loop out₀ n w v k₀ x₀ out k x = (k ≤ w) × (sets out n (digits 256 k x) ≡ sets out₀ n (digits 256 w v)) × (length out ≡ length out₀)
