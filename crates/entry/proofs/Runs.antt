@@ -1,0 +1,81 @@
+-- The runs of the fields that the judge finds.
+use Prim.Native.Nat.{ℕ, zero, suc, _+_, _-_, _≤_, _<_}
+use mathlib.Core.Path.{_≡_, sym, ap, _∙_, subst}
+use mathlib.Core.Bool.{Bool, true, _&&_}
+use mathlib.Core.List.{List}
+use native.Mathlib.Omega.{arith}
+use native.Mathlib.Decide.{decLt}
+use lib.ListN.{length, take, drop, getD}
+use lib.Dec.{leb}
+use borrow.Author.Tests.{le-leb, lt-leb, leb-true}
+use Rattle.format.specs.Lists.{allOf}
+use Rattle.format.specs.Field.{Kind, kinds}
+use Rattle.format.specs.Judge.{Description, Judged, rejected, described, judged}
+use Rattle.format.specs.Entries.{run}
+use Rattle.format.specs.Demands.{tailsLast, soundKind, Sound}
+use Rattle.format.proofs.Lists.{and-left, and-right}
+use Rattle.format.proofs.Judge.{judges}
+use Rattle.format.proofs.Demands.{Fit, run-fit}
+use Rattle.stanza.specs.declared.FieldDesc.{FieldDesc}
+use Rattle.stanza.specs.declared.Outline.{Outline}
+use Rattle.stanza.specs.Stanza.{noField, descriptionOf, Outlined}
+use Rattle.run.specs.Run.{kindFor, kindsFrom, UsableRun}
+use Rattle.run.proofs.Laws.{kinds-from, kinds-many, kinds-run}
+use Rattle.entry.proofs.Laws.{accepted, accepted-count}
+
+-- every kind of a run by its number
+module _ (f : Kind → Bool) (s : List ℕ) (fs : List FieldDesc) where
+  all-at : (k m : ℕ) → allOf f (kindsFrom s fs k m) ≡ true → (j : ℕ) → j < m → f (kindFor s (getD fs (k + j) noField)) ≡ true
+  all-at k zero h j l = absurd (omega arith)
+  all-at k (suc m) h zero l = let q : k + 0 ≡ k = omega arith in rw q (and-left (f (kindFor s (getD fs k noField))) (allOf f (kindsFrom s fs (k + 1) m)) h)
+  all-at k (suc m) h (suc j) l =
+      let q : k + 1 + j ≡ k + suc j = omega arith in
+      rw (← q) (all-at (k + 1) m (and-right (f (kindFor s (getD fs k noField))) (allOf f (kindsFrom s fs (k + 1) m)) h) j (omega arith))
+
+module _ (s : List ℕ) (o : Outline) (q : Outlined s o) (n : o .number ≡ 0) where
+  all-kinds : kinds (descriptionOf s o .fields) ≡ kindsFrom s (o .fields) 0 (o .count)
+  all-kinds = kinds-from s (o .fields) (o .names) (o .ends) 0 (o .count)
+
+  sound : Sound (descriptionOf s o)
+  sound = judges s (descriptionOf s o) (accepted s o (q .judges) n)
+
+  pub kinds-length : length (kinds (descriptionOf s o .fields)) ≡ o .count
+  kinds-length = ap length all-kinds ∙ kinds-many s (o .fields) 0 (o .count)
+
+  module _ (first many : ℕ) (r : true ≡ leb 1 first && leb (first - 1 + many) (o .count)) where
+    pub from-one : 1 ≤ first
+    from-one = leb-true 1 first (and-left (leb 1 first) (leb (first - 1 + many) (o .count)) (sym r))
+
+    in-count : first - 1 + many ≤ o .count
+    in-count = leb-true (first - 1 + many) (o .count) (and-right (leb 1 first) (leb (first - 1 + many) (o .count)) (sym r))
+
+    pub run-kinds : run first many (kinds (descriptionOf s o .fields)) ≡ kindsFrom s (o .fields) (first - 1) many
+    run-kinds = ap (λ ks. take many (drop (first - 1) ks)) all-kinds ∙ kinds-run s (o .fields) (first - 1) many (o .count) in-count
+
+    pub usable-run : length s ≤ 8192 → UsableRun s (o .fields) (first - 1) many
+    usable-run l = record {
+      short = l;
+      within = omega (arith, in-count, accepted-count s o (q .judges) n);
+      fields = λ k h. record {
+        placed = q .placed n (first - 1 + k) (omega (arith, in-count));
+        sound = all-at soundKind s (o .fields) (first - 1) many (subst (λ ks. allOf soundKind ks ≡ true) run-kinds (run-fit (descriptionOf s o) sound first many .sound)) k h;
+      };
+      tails = subst (λ ks. tailsLast ks ≡ true) run-kinds (run-fit (descriptionOf s o) sound first many .tails);
+    }
+
+-- a judged stanza is short
+pub judged-short : (s : List ℕ) (d : Description) → judged s ≡ described d → length s ≤ 8192
+unfolding judged
+judged-short s d e = by (decLt 8192 (length s))
+  where
+    by : Dec (8192 < length s) → length s ≤ 8192
+    by (no h) = omega arith
+    by (yes h) = let z : _≡_ {A = Judged} (rejected 1 0) (described d) = sym (rw (lt-leb (length s) 8192 h)) ∙ e in let y : _≡_ {A = ℕ} 0 1 = cc in absurd (omega arith)
+
+-- 6, without a sum that could overflow
+pub run-test : (first many count : ℕ) → 1 ≤ first → many ≤ count → leb (first - 1) (count - many) ≡ leb 1 first && leb (first - 1 + many) count
+run-test first many count h l = rw (le-leb 1 first h) (by (decLt count (first - 1 + many)))
+  where
+    by : Dec (count < first - 1 + many) → leb (first - 1) (count - many) ≡ leb (first - 1 + many) count
+    by (yes q) = lt-leb (first - 1) (count - many) (omega arith) ∙ sym (lt-leb (first - 1 + many) count q)
+    by (no q) = le-leb (first - 1) (count - many) (omega arith) ∙ sym (le-leb (first - 1 + many) count (omega arith))

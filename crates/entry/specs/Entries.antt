@@ -1,0 +1,50 @@
+-- The answers of the public entries, by the definitions of document 01.
+use Prim.Native.Nat.{ℕ, _+_, _*_, _≤_}
+use mathlib.Core.Path.{_≡_}
+use mathlib.Core.List.{List}
+use lib.ListN.{length}
+use lib.Dec.{leb}
+use Rattle.format.specs.Lists.{flat}
+use Rattle.format.specs.Field.{Kind}
+use Rattle.format.specs.Token.{tokens}
+use Rattle.format.specs.Run.{shown, readField, Parts, parts, partsOf, maxRdata, textOfParts, readRun}
+use Rattle.format.specs.Entries.{Answer, done, orRefusal, ofParts, ifRoom, room, Outcome, outcome}
+use Rattle.entry.specs.declared.Reply.{Reply}
+
+-- an answer is an outcome's number and its place or count
+pub record Replies (r : Reply) (o : Outcome) : Type 0 where
+  pub numbers : r .number ≡ o .number
+  pub places : r .place ≡ o .place
+
+-- and the lent octets are afterwards the outcome's
+pub record Leaves (r : Reply) (after : List ℕ) (o : Outcome) : Type 0 where
+  pub numbers : r .number ≡ o .number
+  pub places : r .place ≡ o .place
+  pub octets : after ≡ o .lent
+
+-- the same in 64 bits
+pub record Packs (r : ℕ) (after : List ℕ) (o : Outcome) : Type 0 where
+  pub answer : r ≡ o .number * 4294967296 + o .place
+  pub octets : after ≡ o .lent
+
+-- an answer in the room from a place on
+abbrev pub withRoom : List ℕ → ℕ → Answer → Outcome
+withRoom out at a = outcome out at (ifRoom (room out at) a)
+
+-- the text of a run, want of room apart
+abbrev pub runText : List Kind → List ℕ → Answer
+runText ks xs = ofParts (partsOf ks xs) (λ ps. done (textOfParts shown ks ps))
+
+-- the octets of a run's text, want of room apart
+abbrev pub runParts : List Kind → List ℕ → List ℕ → Parts
+runParts ks origin text = readRun (λ k ts. readField k origin ts) ks (tokens text)
+
+abbrev pub runOctets : List Kind → List ℕ → List ℕ → Answer
+runOctets ks origin text = ofParts (runParts ks origin text) (λ ps. orRefusal 11 (leb (length (flat ps)) maxRdata) (done (flat ps)))
+
+-- a run reads a text, and there is room for its octets
+pub record ReadsIn (ks : List Kind) (origin text : List ℕ) (room : ℕ) : Type 0 where
+  pub fields : List (List ℕ)
+  pub reads : runParts ks origin text ≡ parts fields
+  pub short : length (flat fields) ≤ maxRdata
+  pub fits : length (flat fields) ≤ room

@@ -1,0 +1,51 @@
+// An answer of the public entries, and what they share.
+ghost use Prim.Native.Nat.{_+_, _*_, _-_};
+ghost use mathlib.Core.Path.{_≡_};
+ghost use mathlib.Core.Bool.{_&&_};
+ghost use lib.Dec.{leb};
+ghost use Rattle.format.specs.Entries;
+ghost use Rattle.entry.specs.Entries.{Replies};
+
+// An answer: 0 and the count, or a refusal's number and place.
+pub struct Reply {
+    pub number: u32,
+    pub place: u32,
+}
+
+// Judge a description: 0 and the number of its fields, or a refusal's number and line.
+pub fn judge(s: &[u8]) -> Reply
+    ensures { λ r. ⌜ Replies r (Entries.judge (now (s .entry))) ⌝ }
+{
+    let o = stanza::judged_outline(s);
+    let n = o.number;
+    if n == 0 {
+        return Reply {
+            number: 0,
+            place: o.count as u32,
+        };
+    }
+    Reply {
+        number: n as u32,
+        place: o.line as u32,
+    }
+}
+
+// Whether the fields from first on, from 1, so many, are among count.
+pub fn is_run(first: usize, many: usize, count: usize) -> bool
+    ensures { λ r. ⌜ r ≡ leb 1 first && leb (first - 1 + many) count ⌝ }
+{
+    if first < 1 {
+        return false;
+    }
+    if count < many {
+        return false;
+    }
+    first - 1 <= count - many
+}
+
+// An answer in 64 bits: the number in the upper 32, the place or the count in the lower.
+pub fn packed(r: Reply) -> u64
+    ensures { λ n. ⌜ n ≡ r .number * 4294967296 + r .place ⌝ }
+{
+    (r.number as u64) * 4294967296 + r.place as u64
+}

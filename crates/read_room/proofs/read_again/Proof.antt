@@ -1,0 +1,80 @@
+use Rattle.read_room.proofs.Octets.{not-refused, octets-done, again-wrote}
+use mathlib.Core.Path.{_≡_, refl, sym, ap, subst, _∙_}
+use Prim.Native.Nat.{_≤_}
+use Rattle.format.specs.Lists.{flat}
+use Rattle.run.specs.Run.{kindsFrom}
+use Rattle.entry.specs.Entries.{runParts, withRoom}
+use Rattle.entry.proofs.Rooms.{leaves-done}
+use native.Mathlib.Omega.{arith}
+use borrow.Author.Needs.{needs}
+use Rattle.read_room.proofs.read_again.Statement.{statement}
+use Rattle.read_room.proofs.read_again.Tie as tie
+use Rattle.read_room.proofs.read_again.Reads as reads
+use Rattle.read_room.proofs.read_again.Lts as lts
+use Rattle.writing.proofs.least.Reads as least-reads
+use Rattle.reading.proofs.read_run.Reads as read-run-reads
+
+-- src/lib.rt:195:9
+least-requires : tie.Need-least-requires
+least-requires c κs = search needs
+
+-- src/lib.rt:196:31
+sub-read-run : tie.Need-sub-read-run
+sub-read-run c = search needs
+
+-- src/lib.rt:196:31
+part-read-run-start : tie.Need-part-read-run-start
+part-read-run-start c = search needs
+
+-- src/lib.rt:196:31
+part-read-run-end : tie.Need-part-read-run-end
+part-read-run-end c = search needs
+
+-- src/lib.rt:196:9
+read-run-requires : tie.Need-read-run-requires
+read-run-requires c κs = search needs
+
+-- src/lib.rt:198:22
+enum-known-r : tie.Need-enum-known-r
+enum-known-r c = search needs
+
+-- src/lib.rt:202:19
+enum-known-r-2 : tie.Need-enum-known-r-2
+enum-known-r-2 c = search needs
+
+-- src/lib.rt:204:20
+cast-t19 : tie.Need-cast-t19
+cast-t19 c = let v = again-wrote (c .before .before .before .before .before .before .before .before .before .before .before .before .pre .3) _ _ _ (rw (c .before .r2 .given .1) at (c .before .before .before .before .before .read-run .ensures)) in omega (arith, v .count, c .before .before .before .before .before .before .before .before .before .before .before .before .pre .3 .short)
+
+-- src/lib.rt:182:1
+same-length : tie.Need-same-length
+same-length c = search needs
+
+-- src/lib.rt:182:1
+returns : tie.Need-returns
+returns c = absurd (not-refused _ _ _ _ (c .before .before .before .before .before .before .before .before .before .before .before .before .pre .3 .reads) (rw (c .before .r .given .1) at (c .before .before .before .before .before .read-run .ensures)))
+
+-- src/lib.rt:182:1
+same-length-2 : tie.Need-same-length-2
+same-length-2 c = search needs
+
+-- src/lib.rt:182:1
+returns-2 : tie.Need-returns-2
+returns-2 c = let v = again-wrote (c .before .before .before .before .before .before .before .before .before .before .before .before .pre .3) _ _ _ (rw (c .before .r2 .given .1) at (c .before .before .before .before .before .read-run .ensures)) in rw (octets-done (kindsFrom (c .before .before .before .before .before .before .before .before .before .before .before .before .args .s .now) (c .before .before .before .before .before .before .before .before .before .before .before .before .args .fields) (c .before .before .before .before .before .before .before .before .before .before .before .before .args .first) (c .before .before .before .before .before .before .before .before .before .before .before .before .args .many)) (c .before .before .before .before .before .before .before .before .before .before .before .before .args .origin .now) (c .before .before .before .before .before .before .before .before .before .before .before .before .args .t .now) _ (c .before .before .before .before .before .before .before .before .before .before .before .before .pre .3 .reads) (c .before .before .before .before .before .before .before .before .before .before .before .before .pre .3 .short)) (leaves-done _ _ _ (c .before .before .before .before .before .before .before .before .before .before .before .before .args .at) _ _ (flat (c .before .before .before .before .before .before .before .before .before .before .before .before .pre .3 .fields)) _ refl (c .before .before .before .before .before .before .before .least .ensures) (c .before .before .before .before .before .before .before .before .before .before .before .before .pre .3 .fits) v refl refl)
+
+pub read-again-spec : {M : Type 1} → statement M
+read-again-spec =
+    tie.close
+    (tie.spec
+    least-requires
+    sub-read-run
+    part-read-run-start
+    part-read-run-end
+    read-run-requires
+    enum-known-r
+    enum-known-r-2
+    cast-t19
+    same-length
+    returns
+    same-length-2
+    returns-2)
