@@ -14,11 +14,11 @@ const ROOM: usize = 262148;
 fn answer(j: &[u8], out: &mut [u8])
     requires { ⌜ length (now out) ≡ 262148 ⌝ }
 {
-    let job = jobs::job::begin(j);
+    let job = jobs::begin(j);
     let mut at = job.places.records;
     let mut more = true;
     while more {
-        let turn = jobs::job::next(out, j, job, at);
+        let turn = jobs::next(out, j, job, at);
         let taken = turn.taken;
         if io::write_all(STDOUT_FILENO, &out[0..taken]) {
             more = turn.more;

@@ -1,6 +1,3 @@
-pub mod Places
-pub mod Origins
-pub mod Forms
-pub mod Answers
+mod Answers
 pub mod Records
 pub mod Turns

@@ -11,12 +11,12 @@ use Rattle.format.specs.Lists.{flatMap}
 use Rattle.format.specs.Judge.{rejected, judged}
 use Rattle.format.specs.Entries.{refusal, maxText, reading}
 use Rattle.format.specs.Job.{Job, answerLine, recordLine, written, job}
-use Rattle.jobs.specs.Lines.{linesAt, NextLine}
-use Rattle.jobs.specs.declared.form.Form.the-variants.{Bad, Good}
-use Rattle.jobs.specs.declared.form.Places.{Places}
-use Rattle.jobs.specs.Form.{jobAt, Forms}
-use Rattle.jobs.proofs.Places.{no-lines}
-use Rattle.jobs.proofs.Forms.{job-written}
+use Rattle.job_form.specs.Lines.{linesAt, NextLine}
+use Rattle.job_form.specs.declared.form.Form.the-variants.{Bad, Good}
+use Rattle.job_form.specs.declared.form.Places.{Places}
+use Rattle.job_form.specs.Form.{jobAt, Forms}
+use Rattle.job_form.proofs.Places.{no-lines}
+use Rattle.job_form.proofs.Forms.{job-written}
 
 module _ (j buffer : List ℕ) where
   pub bad-written : Forms j buffer Bad → job j ≡ written none

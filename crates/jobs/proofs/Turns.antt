@@ -14,17 +14,17 @@ use Rattle.stanza.specs.declared.Outline.{Outline}
 use Rattle.stanza.specs.Stanza.{Outlined}
 use Rattle.writing.specs.Writing.{Wrote}
 use Rattle.writing.proofs.Laws.{wrote-none, wrote-append, wrote-length}
-use Rattle.jobs.specs.Lines.{linesAt, NextLine}
-use Rattle.jobs.specs.Form.{jobAt, Forms, Formed}
+use Rattle.job_form.specs.Lines.{linesAt, NextLine}
+use Rattle.job_form.specs.Form.{jobAt, Forms, Formed}
 use Rattle.jobs.specs.Answer.{lineUnder}
-use Rattle.jobs.specs.declared.form.Places.{Places}
-use Rattle.jobs.specs.declared.form.Form.{Form}
-use Rattle.jobs.specs.declared.form.Form.the-variants.{Bad, Good}
-use Rattle.jobs.specs.declared.job.Job.{Job}
-use Rattle.jobs.specs.declared.job.Turn.{Turn}
+use Rattle.job_form.specs.declared.form.Places.{Places}
+use Rattle.job_form.specs.declared.form.Form.{Form}
+use Rattle.job_form.specs.declared.form.Form.the-variants.{Bad, Good}
+use Rattle.jobs.specs.declared.Job.{Job}
+use Rattle.jobs.specs.declared.Turn.{Turn}
 use Rattle.jobs.specs.Job.{formOf, Begins, leftAt, Turns, AllTurns, last, before-others}
-use Rattle.jobs.proofs.Places.{no-lines}
-use Rattle.jobs.proofs.Answers.{record-most}
+use Rattle.job_form.proofs.Places.{no-lines}
+use Rattle.job_line.proofs.Answers.{record-most}
 use Rattle.jobs.proofs.Records.{bad-written, good-written, next-written, none-written}
 
 -- the form that was found

@@ -10,12 +10,12 @@ use Rattle.format.specs.Lists.{flatMap}
 use Rattle.format.specs.Job.{recordLine, written}
 use Rattle.stanza.specs.Stanza.{Outlined}
 use Rattle.writing.specs.Writing.{Wrote}
-use Rattle.jobs.specs.Lines.{linesAt}
-use Rattle.jobs.specs.Form.{jobAt, Forms}
-use Rattle.jobs.specs.declared.form.Form.{Form}
-use Rattle.jobs.specs.declared.form.Form.the-variants.{Bad, Good}
-use Rattle.jobs.specs.declared.job.Job.{Job}
-use Rattle.jobs.specs.declared.job.Turn.{Turn}
+use Rattle.job_form.specs.Lines.{linesAt}
+use Rattle.job_form.specs.Form.{jobAt, Forms}
+use Rattle.job_form.specs.declared.form.Form.{Form}
+use Rattle.job_form.specs.declared.form.Form.the-variants.{Bad, Good}
+use Rattle.jobs.specs.declared.Job.{Job}
+use Rattle.jobs.specs.declared.Turn.{Turn}
 
 abbrev pub formOf : Job → Form
 formOf b = cond (b .good) (Good (b .places)) Bad

@@ -1,5 +1,2 @@
-pub mod Lines
-pub mod Origin
-pub mod Form
 pub mod Answer
 pub mod Job

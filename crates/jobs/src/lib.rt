@@ -1,6 +1,146 @@
-// A job: its form, and the lines that answer its records.
-pub mod answer;
-pub mod form;
-pub mod job;
-pub mod lines;
-pub mod origin;
+// A job, answered in turns: the stanza is judged once, and then each turn writes the lines of as many records as have room.
+ghost use Prim.Native.Nat.{_^_, _≤_, _<_};
+ghost use mathlib.Core.Path.{_≡_};
+ghost use mathlib.Core.Bool.{true};
+ghost use lib.ListN.{length};
+ghost use Rattle.stanza.specs.Stanza.{Outlined};
+ghost use Rattle.writing.specs.Writing.{Wrote};
+ghost use Rattle.jobs.specs.Answer.{lineUnder};
+ghost use Rattle.jobs.specs.Job.{Begins, Turns};
+use job_form::form::Form;
+use job_form::form::Places;
+use job_form::form::read_form;
+use job_form::lines::line_end;
+use job_line::put_bad_job;
+use job_line::put_no;
+use job_line::put_ok;
+use stanza::Outline;
+
+// A job: whether it keeps the form, its places, its origin, and its judged stanza.
+pub struct Job {
+    pub good: bool,
+    pub places: Places,
+    pub origin: [u8; 255],
+    pub outline: Outline,
+}
+
+// A turn: how many octets it wrote, whether records are left, and where they begin.
+pub struct Turn {
+    pub taken: usize,
+    pub more: bool,
+    pub at: usize,
+}
+
+// A job whose form is read.
+pub fn begin(j: &[u8]) -> Job
+    ensures { λ r. ⌜ Begins (now (j .entry)) r ⌝ }
+{
+    let mut origin = [0u8; 255];
+    let f = read_form(j, &mut origin);
+    match f {
+        Form::Bad => {
+            let outline = stanza::judged_outline(&j[0..0]);
+            Job {
+                good: false,
+                places: Places {
+                    from: 0,
+                    to: 0,
+                    origin: 0,
+                    records: 0,
+                },
+                origin: origin,
+                outline: outline,
+            }
+        }
+        Form::Good(places) => {
+            let from = places.from;
+            let to = places.to;
+            let outline = stanza::judged_outline(&j[from..to]);
+            Job {
+                good: true,
+                places: places,
+                origin: origin,
+                outline: outline,
+            }
+        }
+    }
+}
+
+// The line that answers a record under a judged stanza. Its RDATA is read into a buffer that has room for any.
+pub fn put_record(
+    out: &mut [u8],
+    n: usize,
+    s: &[u8],
+    o: Outline,
+    origin: &[u8],
+    t: &[u8],
+    rdata: &mut [u8],
+) -> usize
+    requires { ⌜ (n < 2 ^ 31) × Outlined (now s) o × (length (now t) ≤ 1048576) × (65535 ≤ length (now rdata)) ⌝ }
+    ensures { λ r. ⌜ Wrote (now (out .entry)) (now (out .exit)) n r (lineUnder (now (s .entry)) (now (origin .entry)) (now (t .entry))) ⌝ }
+{
+    let r = extlang::read_judged(s, o, 1, o.count, origin, t, rdata, 0);
+    let number = r.number;
+    let place = r.place;
+    if number == 0 {
+        let m = place as usize;
+        return put_ok(out, n, &rdata[0..m]);
+    }
+    put_no(out, n, number, place)
+}
+
+// The lines of the records from a place on, while there is room for the longest.
+fn put_lines(out: &mut [u8], j: &[u8], job: Job, at: usize) -> Turn
+    requires { ⌜ Begins (now j) job × (job .good ≡ true) × (131074 ≤ length (now out)) × (length (now out) ≤ 1048576) ⌝ }
+    ensures { λ r. ⌜ Turns (now (j .entry)) job at (now (out .entry)) (now (out .exit)) r ⌝ }
+{
+    let origin = job.origin;
+    let outline = job.outline;
+    let from = job.places.from;
+    let to = job.places.to;
+    let end = job.places.origin;
+    let mut rdata = [0u8; 65535];
+    let mut m = at;
+    let mut n = 0;
+    while m < j.len() {
+        if out.len() - n < 131074 {
+            return Turn {
+                taken: n,
+                more: true,
+                at: m,
+            };
+        }
+        let e = line_end(j, m);
+        n = put_record(
+            out,
+            n,
+            &j[from..to],
+            outline,
+            &origin[0..end],
+            &j[m..e],
+            &mut rdata,
+        );
+        m = e + 1;
+    }
+    Turn {
+        taken: n,
+        more: false,
+        at: m,
+    }
+}
+
+// The next turn, from a place on: the lines of records, or `bad job`.
+pub fn next(out: &mut [u8], j: &[u8], job: Job, at: usize) -> Turn
+    requires { ⌜ Begins (now j) job × (131074 ≤ length (now out)) × (length (now out) ≤ 1048576) ⌝ }
+    ensures { λ r. ⌜ Turns (now (j .entry)) job at (now (out .entry)) (now (out .exit)) r ⌝ }
+{
+    if job.good {
+        return put_lines(out, j, job, at);
+    }
+    let n = put_bad_job(out, 0);
+    Turn {
+        taken: n,
+        more: false,
+        at: at,
+    }
+}

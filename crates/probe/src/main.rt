@@ -632,12 +632,12 @@ fn put_turns(j: &[u8], text: &mut [u8], out: &mut [u8], output: Output) -> Outpu
     requires { ⌜ (length (now text) ≡ 262148) × (output .taken ≤ length (now out)) × (128 ≤ length (now out)) ⌝ }
     ensures { λ r. ⌜ r .taken ≤ length (now (out .entry)) ⌝ }
 {
-    let job = jobs::job::begin(j);
+    let job = jobs::begin(j);
     let mut at = job.places.records;
     let mut more = true;
     let mut state = output;
     while more {
-        let turn = jobs::job::next(text, j, job, at);
+        let turn = jobs::next(text, j, job, at);
         let taken = turn.taken;
         if taken < 1 {
             return put_octets(out, state, &text[0..0]);

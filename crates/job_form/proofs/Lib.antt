@@ -1,0 +1,3 @@
+pub mod Places
+mod Origins
+pub mod Forms

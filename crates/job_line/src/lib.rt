@@ -1,0 +1,44 @@
+// The lines that answer a job.
+ghost use Prim.Native.Nat.{_^_, _<_, _≤_};
+ghost use mathlib.Core.Option.{none};
+ghost use lib.ListN.{length};
+ghost use Rattle.format.specs.Entries.{done, refusal};
+ghost use Rattle.format.specs.Job.{answerLine, written};
+ghost use Rattle.writing.specs.Writing.{Wrote};
+use put_digits::put_decimal;
+use put_digits::put_hex_upper;
+use writing::put_all;
+use writing::put_octet;
+
+// `ok`, then the octets in hex if there are any.
+pub fn put_ok(out: &mut [u8], n: usize, rdata: &[u8]) -> usize
+    requires { ⌜ (n < 2 ^ 31) × (length (now rdata) ≤ 65535) ⌝ }
+    ensures { λ r. ⌜ Wrote (now (out .entry)) (now (out .exit)) n r (answerLine (done (now (rdata .entry)))) ⌝ }
+{
+    if rdata.len() == 0 {
+        return put_all(out, n, b"ok\n");
+    }
+    let hex = put_all(out, n, b"ok ");
+    let end = put_hex_upper(out, hex, rdata);
+    put_octet(out, end, 10)
+}
+
+// `no`, then a refusal's number and place.
+pub fn put_no(out: &mut [u8], n: usize, number: u32, place: u32) -> usize
+    requires { ⌜ n < 2 ^ 31 ⌝ }
+    ensures { λ r. ⌜ Wrote (now (out .entry)) (now (out .exit)) n r (answerLine (refusal number place)) ⌝ }
+{
+    let first = put_all(out, n, b"no ");
+    let blank = put_decimal(out, first, number as u64);
+    let second = put_octet(out, blank, 32);
+    let end = put_decimal(out, second, place as u64);
+    put_octet(out, end, 10)
+}
+
+// The line that answers a job that breaks the form.
+pub fn put_bad_job(out: &mut [u8], n: usize) -> usize
+    requires { ⌜ n < 2 ^ 31 ⌝ }
+    ensures { λ r. ⌜ Wrote (now (out .entry)) (now (out .exit)) n r (written none) ⌝ }
+{
+    put_all(out, n, b"bad job\n")
+}
