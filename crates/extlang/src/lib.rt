@@ -8,7 +8,8 @@ ghost use Rattle.entry.specs.Entries.{Packs};
 pub extern "C" fn extlang_judge(s: &[u8]) -> u64
     ensures { λ r. ⌜ r ≡ Entries.judge (now (s .entry)) .number * 4294967296 + Entries.judge (now (s .entry)) .place ⌝ }
 {
-    entry::packed(entry::judge(s))
+    let r = entry::judge(s);
+    entry::packed(r)
 }
 
 #[no_mangle]
@@ -22,7 +23,8 @@ pub extern "C" fn extlang_print(
 ) -> u64
     ensures { λ r. ⌜ Packs r (now (out .exit)) (Entries.print (now (s .entry)) first many (now (p .entry)) (now (out .entry)) at) ⌝ }
 {
-    entry::packed(print_entry::print(s, first as usize, many as usize, p, out, at as usize))
+    let r = print_entry::print(s, first as usize, many as usize, p, out, at as usize);
+    entry::packed(r)
 }
 
 #[no_mangle]
@@ -37,13 +39,7 @@ pub extern "C" fn extlang_read(
 ) -> u64
     ensures { λ r. ⌜ Packs r (now (out .exit)) (Entries.read (now (s .entry)) first many (now (origin .entry)) (now (t .entry)) (now (out .entry)) at) ⌝ }
 {
-    entry::packed(read_entry::read(
-        s,
-        first as usize,
-        many as usize,
-        origin,
-        t,
-        out,
-        at as usize,
-    ))
+    let place = at as usize;
+    let r = read_entry::read(s, first as usize, many as usize, origin, t, out, place);
+    entry::packed(r)
 }

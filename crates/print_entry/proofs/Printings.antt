@@ -28,6 +28,7 @@ use Rattle.run.specs.Run.{kindFor, kindsFrom}
 use Rattle.run.proofs.Laws.{kinds-many}
 use Rattle.printing.specs.Printing.{Accepted}
 use Rattle.entry.specs.Entries.{runText}
+use Rattle.print_entry.specs.Needs.{Needs}
 use Rattle.entry.proofs.Laws.{accepted, refused as not-judged}
 use Rattle.entry.proofs.Runs.{kinds-length, run-kinds}
 
@@ -125,3 +126,10 @@ other-form Hex h l = refl
 other-form Hexc h l = refl
 other-form (Eui w) h l = refl
 other-form Time h l = refl
+
+-- the room that a text needs: none to tell where it fits, else its length
+pub fitting-needs : (room : ℕ) (t : List ℕ) → length t ≤ room → length t ≤ 1048576 → Needs room 0 t
+fitting-needs room t h l = record { told = λ z. absurd (omega arith); fits = λ z. h; short = l }
+
+pub measured-needs : (room r : ℕ) (t : List ℕ) → r ≡ 0 + length t → length t ≤ 1048576 → Needs room r t
+measured-needs room r t e l = record { told = λ z. omega arith; fits = λ z. omega arith; short = l }

@@ -11,6 +11,7 @@ ghost use Rattle.format.specs.Run.{textOf};
 ghost use Rattle.run.specs.Run.{kindsFrom, UsableRun};
 ghost use Rattle.printing.specs.Printing.{Accepted};
 ghost use Rattle.entry.specs.Entries.{Leaves, withRoom, runText};
+ghost use Rattle.print_entry.specs.Needs.{Needs};
 use entry::Reply;
 use run::Checked;
 use stanza::FieldDesc;
@@ -41,6 +42,26 @@ fn surely_fits(
     true
 }
 
+// The room that the text needs: 0 where it surely fits, else its length, measured on the empty part at the buffer's end.
+fn needed(
+    s: &[u8],
+    fields: [FieldDesc; 64],
+    first: usize,
+    many: usize,
+    p: &[u8],
+    out: &mut [u8],
+    room: usize,
+) -> usize
+    requires { ⌜ Accepted (now s) fields first many (now p) ⌝ }
+    ensures { λ r. ⌜ (now (out .exit) ≡ now (out .entry)) × Needs room r (textOf (kindsFrom (now (s .entry)) fields first many) (now (p .entry))) ⌝ }
+{
+    if surely_fits(fields, first, many, p.len(), room) {
+        return 0;
+    }
+    let end = out.len();
+    printing::put_run(&mut out[end..], fields, first, many, s, p)
+}
+
 // The text of RDATA that the run takes, from a place of the buffer on.
 fn put_text(
     s: &[u8],
@@ -56,14 +77,7 @@ fn put_text(
 {
     let n = out.len();
     let a = writing::least(at, n);
-    if surely_fits(fields, first, many, p.len(), n - a) {
-        let w = printing::put_run(&mut out[a..], fields, first, many, s, p);
-        return Reply {
-            number: 0,
-            place: w as u32,
-        };
-    }
-    let need = printing::put_run(&mut out[n..], fields, first, many, s, p);
+    let need = needed(s, fields, first, many, p, out, n - a);
     if n - a < need {
         return Reply {
             number: 12,

@@ -1,10 +1,5 @@
-use Rattle.read_room.proofs.Octets.{not-refused, octets-done, again-wrote}
-use mathlib.Core.Path.{_≡_, refl, sym, ap, subst, _∙_}
-use Prim.Native.Nat.{_≤_}
-use Rattle.format.specs.Lists.{flat}
-use Rattle.run.specs.Run.{kindsFrom}
-use Rattle.entry.specs.Entries.{runParts, withRoom}
-use Rattle.entry.proofs.Rooms.{leaves-done}
+use mathlib.Core.Path.{refl}
+use Rattle.read_room.proofs.Octets.{again-done, again-wrote, again-leaves}
 use native.Mathlib.Omega.{arith}
 use borrow.Author.Needs.{needs}
 use Rattle.read_room.proofs.read_again.Statement.{statement}
@@ -44,7 +39,7 @@ enum-known-r-2 c = search needs
 
 -- src/lib.rt:204:20
 cast-t19 : tie.Need-cast-t19
-cast-t19 c = let v = again-wrote (c .before .before .before .before .before .before .before .before .before .before .before .before .pre .3) _ _ _ (rw (c .before .r2 .given .1) at (c .before .before .before .before .before .read-run .ensures)) in omega (arith, v .count, c .before .before .before .before .before .before .before .before .before .before .before .before .pre .3 .short)
+cast-t19 c = omega (arith, again-wrote (c .before .before .before .before .before .before .before .before .before .before .before .before .pre .3) _ _ _ (c .before .before .before .before .before .read-run .ensures) _ (c .before .r2 .given .1) .count, c .before .before .before .before .before .before .before .before .before .before .before .before .pre .3 .short)
 
 -- src/lib.rt:182:1
 same-length : tie.Need-same-length
@@ -52,7 +47,7 @@ same-length c = search needs
 
 -- src/lib.rt:182:1
 returns : tie.Need-returns
-returns c = absurd (not-refused _ _ _ _ (c .before .before .before .before .before .before .before .before .before .before .before .before .pre .3 .reads) (rw (c .before .r .given .1) at (c .before .before .before .before .before .read-run .ensures)))
+returns c = absurd (again-done (c .before .before .before .before .before .before .before .before .before .before .before .before .pre .3) _ _ _ (c .before .before .before .before .before .read-run .ensures) _ _ (c .before .r .given .1))
 
 -- src/lib.rt:182:1
 same-length-2 : tie.Need-same-length-2
@@ -60,7 +55,7 @@ same-length-2 c = search needs
 
 -- src/lib.rt:182:1
 returns-2 : tie.Need-returns-2
-returns-2 c = let v = again-wrote (c .before .before .before .before .before .before .before .before .before .before .before .before .pre .3) _ _ _ (rw (c .before .r2 .given .1) at (c .before .before .before .before .before .read-run .ensures)) in rw (octets-done (kindsFrom (c .before .before .before .before .before .before .before .before .before .before .before .before .args .s .now) (c .before .before .before .before .before .before .before .before .before .before .before .before .args .fields) (c .before .before .before .before .before .before .before .before .before .before .before .before .args .first) (c .before .before .before .before .before .before .before .before .before .before .before .before .args .many)) (c .before .before .before .before .before .before .before .before .before .before .before .before .args .origin .now) (c .before .before .before .before .before .before .before .before .before .before .before .before .args .t .now) _ (c .before .before .before .before .before .before .before .before .before .before .before .before .pre .3 .reads) (c .before .before .before .before .before .before .before .before .before .before .before .before .pre .3 .short)) (leaves-done _ _ _ (c .before .before .before .before .before .before .before .before .before .before .before .before .args .at) _ _ (flat (c .before .before .before .before .before .before .before .before .before .before .before .before .pre .3 .fields)) _ refl (c .before .before .before .before .before .before .before .least .ensures) (c .before .before .before .before .before .before .before .before .before .before .before .before .pre .3 .fits) v refl refl)
+returns-2 c = again-leaves _ _ (c .before .before .before .before .before .before .before .before .before .before .before .before .args .at) _ _ _ (c .before .before .before .before .before .before .before .before .before .before .before .before .pre .3) (c .before .before .before .before .before .before .before .least .ensures) (again-wrote (c .before .before .before .before .before .before .before .before .before .before .before .before .pre .3) _ _ _ (c .before .before .before .before .before .read-run .ensures) _ (c .before .r2 .given .1)) refl refl
 
 pub read-again-spec : {M : Type 1} → statement M
 read-again-spec =

@@ -1,9 +1,6 @@
-use mathlib.Core.Path.{_≡_, refl, sym, ap, subst, _∙_}
-use Rattle.format.specs.Lists.{flat}
+use mathlib.Core.Path.{refl}
 use Rattle.run.specs.Run.{kindsFrom}
-use Rattle.writing.proofs.Laws.{wrote-text, wrote-length}
-use Rattle.entry.proofs.Rooms.{leaves-done, leaves-measured, leaves-refused}
-use Rattle.read_room.proofs.Octets.{octets-refused, octets-over, octets-done, front-of}
+use Rattle.read_room.proofs.Octets.{refused-leaves, over-leaves, measured-leaves, reads-in, copied-leaves}
 use native.Mathlib.Omega.{arith}
 use borrow.Author.Needs.{needs}
 use Rattle.read_room.proofs.read_through.Statement.{statement}
@@ -33,7 +30,7 @@ same-length c = search needs
 
 -- src/lib.rt:233:17
 returns : tie.Need-returns
-returns c = let g = rw (c .before .before .r2 .given .1) at (c .before .before .before .before .before .before .read-run .ensures) in leaves-refused _ (c .before .before .before .before .before .before .before .before .before .before .before .before .before .args .at) _ _ _ _ (octets-over (kindsFrom (c .before .before .before .before .before .before .before .before .before .before .before .before .before .args .s .now) (c .before .before .before .before .before .before .before .before .before .before .before .before .before .args .fields) (c .before .before .before .before .before .before .before .before .before .before .before .before .before .args .first) (c .before .before .before .before .before .before .before .before .before .before .before .before .before .args .many)) (c .before .before .before .before .before .before .before .before .before .before .before .before .before .args .origin .now) (c .before .before .before .before .before .before .before .before .before .before .before .before .before .args .t .now) _ (g .1) (g .2 .over (c .if1 .taken))) refl refl
+returns c = over-leaves (kindsFrom (c .before .before .before .before .before .before .before .before .before .before .before .before .before .args .s .now) (c .before .before .before .before .before .before .before .before .before .before .before .before .before .args .fields) (c .before .before .before .before .before .before .before .before .before .before .before .before .before .args .first) (c .before .before .before .before .before .before .before .before .before .before .before .before .before .args .many)) (c .before .before .before .before .before .before .before .before .before .before .before .before .before .args .origin .now) (c .before .before .before .before .before .before .before .before .before .before .before .before .before .args .t .now) (c .before .before .before .before .before .before .before .before .before .before .before .before .before .args .out .now) (c .before .before .before .before .before .before .before .before .before .before .before .before .before .args .at) _ _ _ (c .before .before .before .before .before .before .read-run .ensures) _ (c .before .before .r2 .given .1) _ (c .if1 .taken) refl refl
 
 -- src/lib.rt:239:17
 least-requires : tie.Need-least-requires
@@ -53,11 +50,11 @@ same-length-2 c = search needs
 
 -- src/lib.rt:241:17
 returns-2 : tie.Need-returns-2
-returns-2 c = let g = rw (c .before .before .before .before .r2 .given .1) at (c .before .before .before .before .before .before .before .before .read-run .ensures) in let v = g .2 .whole (omega (arith, c .before .before .if1 .left)) in rw (octets-done (kindsFrom (c .before .before .before .before .before .before .before .before .before .before .before .before .before .before .before .args .s .now) (c .before .before .before .before .before .before .before .before .before .before .before .before .before .before .before .args .fields) (c .before .before .before .before .before .before .before .before .before .before .before .before .before .before .before .args .first) (c .before .before .before .before .before .before .before .before .before .before .before .before .before .before .before .args .many)) (c .before .before .before .before .before .before .before .before .before .before .before .before .before .before .before .args .origin .now) (c .before .before .before .before .before .before .before .before .before .before .before .before .before .before .before .args .t .now) _ (g .1) (omega (arith, v .count, c .before .before .if1 .left))) (leaves-measured (c .before .before .before .before .before .before .before .before .before .before .before .before .before .before .before .args .out .now) _ (c .before .before .before .before .before .before .before .before .before .before .before .before .before .before .before .args .at) _ (flat (g .0)) _ refl (v .count) (omega (arith, c .if2 .taken, c .before .least .ensures)) refl refl)
+returns-2 c = measured-leaves (kindsFrom (c .before .before .before .before .before .before .before .before .before .before .before .before .before .before .before .args .s .now) (c .before .before .before .before .before .before .before .before .before .before .before .before .before .before .before .args .fields) (c .before .before .before .before .before .before .before .before .before .before .before .before .before .before .before .args .first) (c .before .before .before .before .before .before .before .before .before .before .before .before .before .before .before .args .many)) (c .before .before .before .before .before .before .before .before .before .before .before .before .before .before .before .args .origin .now) (c .before .before .before .before .before .before .before .before .before .before .before .before .before .before .before .args .t .now) (c .before .before .before .before .before .before .before .before .before .before .before .before .before .before .before .args .out .now) (c .before .before .before .before .before .before .before .before .before .before .before .before .before .before .before .args .at) _ _ _ (c .before .before .before .before .before .before .before .before .read-run .ensures) _ (c .before .before .before .before .r2 .given .1) (omega (arith, c .before .before .if1 .left)) _ (omega (arith, c .if2 .taken, c .before .least .ensures)) refl refl
 
 -- src/lib.rt:247:17
 read-again-requires : tie.Need-read-again-requires
-read-again-requires c κs = let g = rw (c .before .before .before .before .before .before .r2 .given .1) at (c .before .before .before .before .before .before .before .before .before .before .read-run .ensures) in let v = g .2 .whole (omega (arith, c .before .before .before .before .if1 .left)) in (c .before .before .before .before .before .before .before .before .before .before .before .before .before .before .before .before .before .pre .0, c .before .before .before .before .before .before .before .before .before .before .before .before .before .before .before .before .before .pre .1, c .before .before .before .before .before .before .before .before .before .before .before .before .before .before .before .before .before .pre .2, record { fields = g .0; reads = g .1; short = omega (arith, v .count, c .before .before .before .before .if1 .left); fits = omega (arith, v .count, c .before .before .if2 .left, c .before .before .before .least .ensures) })
+read-again-requires c κs = (c .before .before .before .before .before .before .before .before .before .before .before .before .before .before .before .before .before .pre .0, c .before .before .before .before .before .before .before .before .before .before .before .before .before .before .before .before .before .pre .1, c .before .before .before .before .before .before .before .before .before .before .before .before .before .before .before .before .before .pre .2, reads-in (kindsFrom (c .before .before .before .before .before .before .before .before .before .before .before .before .before .before .before .before .before .args .s .now) (c .before .before .before .before .before .before .before .before .before .before .before .before .before .before .before .before .before .args .fields) (c .before .before .before .before .before .before .before .before .before .before .before .before .before .before .before .before .before .args .first) (c .before .before .before .before .before .before .before .before .before .before .before .before .before .before .before .before .before .args .many)) (c .before .before .before .before .before .before .before .before .before .before .before .before .before .before .before .before .before .args .origin .now) (c .before .before .before .before .before .before .before .before .before .before .before .before .before .before .before .before .before .args .t .now) (c .before .before .before .before .before .before .before .before .before .before .before .before .before .before .before .before .before .args .out .now) (c .before .before .before .before .before .before .before .before .before .before .before .before .before .before .before .before .before .args .at) _ _ _ (c .before .before .before .before .before .before .before .before .before .before .read-run .ensures) _ (c .before .before .before .before .before .before .r2 .given .1) (omega (arith, c .before .before .before .before .if1 .left)) (omega (arith, c .before .before .if2 .left, c .before .before .before .least .ensures)))
 
 -- src/lib.rt:247:17
 same-length-3 : tie.Need-same-length-3
@@ -109,7 +106,7 @@ same-length-5 c = search needs
 
 -- src/lib.rt:211:1
 returns-4 : tie.Need-returns-4
-returns-4 c = leaves-refused _ (c .before .before .before .before .before .before .before .before .before .before .before .before .args .at) _ _ _ _ (octets-refused (kindsFrom (c .before .before .before .before .before .before .before .before .before .before .before .before .args .s .now) (c .before .before .before .before .before .before .before .before .before .before .before .before .args .fields) (c .before .before .before .before .before .before .before .before .before .before .before .before .args .first) (c .before .before .before .before .before .before .before .before .before .before .before .before .args .many)) (c .before .before .before .before .before .before .before .before .before .before .before .before .args .origin .now) (c .before .before .before .before .before .before .before .before .before .before .before .before .args .t .now) _ _ (rw (c .before .r .given .1) at (c .before .before .before .before .before .read-run .ensures))) refl refl
+returns-4 c = refused-leaves (kindsFrom (c .before .before .before .before .before .before .before .before .before .before .before .before .args .s .now) (c .before .before .before .before .before .before .before .before .before .before .before .before .args .fields) (c .before .before .before .before .before .before .before .before .before .before .before .before .args .first) (c .before .before .before .before .before .before .before .before .before .before .before .before .args .many)) (c .before .before .before .before .before .before .before .before .before .before .before .before .args .origin .now) (c .before .before .before .before .before .before .before .before .before .before .before .before .args .t .now) (c .before .before .before .before .before .before .before .before .before .before .before .before .args .out .now) (c .before .before .before .before .before .before .before .before .before .before .before .before .args .at) _ _ _ (c .before .before .before .before .before .read-run .ensures) _ _ _ (c .before .r .given .1) refl refl
 
 -- src/lib.rt:211:1
 same-length-6 : tie.Need-same-length-6
@@ -121,7 +118,7 @@ same-length-7 c = search needs
 
 -- src/lib.rt:211:1
 returns-5 : tie.Need-returns-5
-returns-5 c = let g = rw (c .before .before .before .before .before .before .before .before .before .before .before .r2 .given .1) at (c .before .before .before .before .before .before .before .before .before .before .before .before .before .before .before .read-run .ensures) in let v = g .2 .whole (omega (arith, c .before .before .before .before .before .before .before .before .before .if1 .left)) in let f = front-of _ _ _ (flat (g .0)) v (omega (arith, c .before .before .before .before .before .before .if3 .left, wrote-length v)) in rw (octets-done (kindsFrom (c .before .before .before .before .before .before .before .before .before .before .before .before .before .before .before .before .before .before .before .before .before .before .args .s .now) (c .before .before .before .before .before .before .before .before .before .before .before .before .before .before .before .before .before .before .before .before .before .before .args .fields) (c .before .before .before .before .before .before .before .before .before .before .before .before .before .before .before .before .before .before .before .before .before .before .args .first) (c .before .before .before .before .before .before .before .before .before .before .before .before .before .before .before .before .before .before .before .before .before .before .args .many)) (c .before .before .before .before .before .before .before .before .before .before .before .before .before .before .before .before .before .before .before .before .before .before .args .origin .now) (c .before .before .before .before .before .before .before .before .before .before .before .before .before .before .before .before .before .before .before .before .before .before .args .t .now) _ (g .1) (omega (arith, v .count, c .before .before .before .before .before .before .before .before .before .if1 .left))) (leaves-done _ _ _ (c .before .before .before .before .before .before .before .before .before .before .before .before .before .before .before .before .before .before .before .before .before .before .args .at) _ _ (flat (g .0)) _ refl (c .before .before .before .before .before .before .before .before .least .ensures) (omega (arith, v .count, c .before .before .before .before .before .before .before .if2 .left, c .before .before .before .before .before .before .before .before .least .ensures)) (wrote-text _ _ f (c .before .before .put-all .ensures)) refl refl)
+returns-5 c = copied-leaves (kindsFrom (c .before .before .before .before .before .before .before .before .before .before .before .before .before .before .before .before .before .before .before .before .before .before .args .s .now) (c .before .before .before .before .before .before .before .before .before .before .before .before .before .before .before .before .before .before .before .before .before .before .args .fields) (c .before .before .before .before .before .before .before .before .before .before .before .before .before .before .before .before .before .before .before .before .before .before .args .first) (c .before .before .before .before .before .before .before .before .before .before .before .before .before .before .before .before .before .before .before .before .before .before .args .many)) (c .before .before .before .before .before .before .before .before .before .before .before .before .before .before .before .before .before .before .before .before .before .before .args .origin .now) (c .before .before .before .before .before .before .before .before .before .before .before .before .before .before .before .before .before .before .before .before .before .before .args .t .now) (c .before .before .before .before .before .before .before .before .before .before .before .before .before .before .before .before .before .before .before .before .before .before .args .out .now) (c .before .before .before .before .before .before .before .before .before .before .before .before .before .before .before .before .before .before .before .before .before .before .args .at) _ _ _ (c .before .before .before .before .before .before .before .before .before .before .before .before .before .before .before .read-run .ensures) _ (c .before .before .before .before .before .before .before .before .before .before .before .r2 .given .1) (omega (arith, c .before .before .before .before .before .before .before .before .before .if1 .left)) _ _ _ _ _ refl (c .before .before .before .before .before .before .before .before .least .ensures) (omega (arith, c .before .before .before .before .before .before .before .if2 .left, c .before .before .before .before .before .before .before .before .least .ensures)) (omega (arith, c .before .before .before .before .before .before .if3 .left)) (c .before .before .put-all .ensures) refl refl
 
 pub read-through-spec : {M : Type 1} → statement M
 read-through-spec =
