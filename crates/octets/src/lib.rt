@@ -1,5 +1,5 @@
 // Octets in a slice: their classes, the longest run of one, decimal numbers, and words.
-ghost use Prim.Native.Nat.{_+_, _-_, _≤_};
+ghost use Prim.Native.Nat.{_+_, _-_, _≤_, min};
 ghost use lib.ListN.{length};
 ghost use lib.Seq.{slice};
 ghost use lib.Dec.{leb};
@@ -28,6 +28,13 @@ pub enum Class {
 pub enum Number {
     Value(u64),
     Fault,
+}
+
+// The smaller of two.
+pub fn least(a: usize, b: usize) -> usize
+    ensures { λ r. ⌜ r ≡ min a b ⌝ }
+{
+    if a < b { a } else { b }
 }
 
 // '0' to '9'

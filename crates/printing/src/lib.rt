@@ -17,7 +17,7 @@ use print::rrtype;
 use print::text;
 use print_address::address;
 use print_address::eui;
-use stanza::FieldDesc;
+use types::FieldDesc;
 use types::Form;
 use wire::Take;
 

@@ -16,9 +16,9 @@ ghost use Rattle.reading.specs.Reading.{takesOne, placedAt, gotAt, Gives
 use read::text;
 use read_base::rest;
 use read_base::rest::Got;
-use stanza::FieldDesc;
 use tokens::Next;
 use tokens::next_token;
+use types::FieldDesc;
 use types::Form;
 use writing::Value;
 

@@ -20,7 +20,7 @@ use read_base::base32;
 use read_base::hex;
 use read_number::integer;
 use read_number::rrtype;
-use stanza::FieldDesc;
+use types::FieldDesc;
 use types::Form;
 use writing::Value;
 

@@ -22,15 +22,16 @@ use Rattle.octets.specs.Octets.{inClass, lineEnd, partIn}
 use Rattle.octets.specs.declared.Class.the-variants.{NotNewline}
 use Rattle.octets.proofs.Slices.{front-within}
 use Rattle.octets.proofs.Lines.{linesFrom, next-line, no-line}
-use Rattle.types.specs.declared.Form.{Form}
+use Rattle.types.specs.declared.FieldDesc.{FieldDesc}
 use Rattle.types.specs.Types.{kindIn}
-use Rattle.stanza.specs.declared.FieldDesc.{FieldDesc}
-use Rattle.stanza.specs.declared.HeaderDesc.{HeaderDesc}
-use Rattle.stanza.specs.declared.NewField.{NewField}
+use Rattle.types.specs.Fields.{fieldOf, Placed, noField, fieldsFrom}
+use Rattle.verdict.specs.declared.HeaderDesc.{HeaderDesc}
+use Rattle.verdict.specs.declared.NewField.{NewField}
+use Rattle.verdict.specs.declared.Step.{Step}
+use Rattle.verdict.specs.declared.Step.the-variants.{Skip, Refuse, Head, Add}
+use Rattle.verdict.specs.Verdict.{headerOf, namedFrom, progressOf, Stands, stepOf, Due}
 use Rattle.stanza.specs.declared.Outline.{Outline}
-use Rattle.stanza.specs.declared.Step.{Step}
-use Rattle.stanza.specs.declared.Step.the-variants.{Skip, Refuse, Head, Add}
-use Rattle.stanza.specs.Stanza.{headerOf, fieldOf, Placed, noField, fieldsFrom, namedFrom, progressOf, Stands, withMore, stepOf, Due, outlineOf, AllPlaced, Outlined}
+use Rattle.stanza.specs.Stanza.{outlineOf, AllPlaced, Outlined}
 
 -- m fields from number k on
 module _ (s : List ℕ) (fs : List FieldDesc) (names ends : List ℕ) where

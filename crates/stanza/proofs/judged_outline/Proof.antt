@@ -13,8 +13,8 @@ use Rattle.stanza.proofs.judged_outline.Tie as tie
 use Rattle.stanza.proofs.judged_outline.Reads as reads
 use Rattle.stanza.proofs.judged_outline.Lts as lts
 use Rattle.octets.proofs.line_end.Reads as line-end-reads
-use Rattle.stanza.proofs.line_step.Reads as line-step-reads
-use Rattle.stanza.proofs.tail_after.Reads as tail-after-reads
+use Rattle.verdict.proofs.line_step.Reads as line-step-reads
+use Rattle.verdict.proofs.tail_after.Reads as tail-after-reads
 
 abbrev Inv-loop : tie.InvT-loop
 Inv-loop s header₀ fields₀ names₀ ends₀ n₀ have₀ last₀ at₀ line₀ header fields names ends n have last at line = (at ≤ length s + 1) × (n ≤ 64) × (line ≤ at + 1) × Kept s header fields names ends n have last at line

@@ -30,15 +30,16 @@ use Rattle.types.specs.declared.Form.{Form}
 use Rattle.types.specs.declared.Meant.{Meant}
 use Rattle.types.specs.declared.Meant.the-variants.{Malformed, Unknown, Forbidden, Means}
 use Rattle.types.specs.Types.{kindIn, meantIn, meaningIn}
+use Rattle.types.specs.Fields.{Placed}
 use Rattle.types.proofs.Symbols.{symbols-listed}
-use Rattle.stanza.specs.declared.FieldDesc.{FieldDesc}
-use Rattle.stanza.specs.declared.FieldVerdict.{FieldVerdict}
-use Rattle.stanza.specs.declared.FieldVerdict.the-variants.{BadField, GoodField}
-use Rattle.stanza.specs.declared.NewField.{NewField}
-use Rattle.stanza.specs.declared.HeaderVerdict.{HeaderVerdict}
-use Rattle.stanza.specs.declared.Step.{Step}
-use Rattle.stanza.specs.declared.Step.the-variants.{Skip, Refuse, Head, Add}
-use Rattle.stanza.specs.Stanza.{headerVerdict, fieldVerdict, fieldOf, Placed, namedFrom, Stands, progressOf, stepOf, Fits, Due}
+use Rattle.types.specs.declared.FieldDesc.{FieldDesc}
+use Rattle.verdict.specs.declared.FieldVerdict.{FieldVerdict}
+use Rattle.verdict.specs.declared.FieldVerdict.the-variants.{BadField, GoodField}
+use Rattle.verdict.specs.declared.NewField.{NewField}
+use Rattle.verdict.specs.declared.HeaderVerdict.{HeaderVerdict}
+use Rattle.verdict.specs.declared.Step.{Step}
+use Rattle.verdict.specs.declared.Step.the-variants.{Skip, Refuse, Head, Add}
+use Rattle.verdict.specs.Verdict.{namedFrom, Stands, Fits, Due}
 
 -- headers
 module _ (s : List ℕ) (at t e : ℕ) where

@@ -1,14 +1,14 @@
-use Rattle.stanza.proofs.Laws.{name-found, name-next, no-name, from-first}
-use Rattle.stanza.specs.Stanza.{namedFrom}
+use Rattle.verdict.proofs.Laws.{name-found, name-next, no-name, from-first}
+use Rattle.verdict.specs.Verdict.{namedFrom}
 use Prim.Native.Nat.{_+_, _-_, _≤_}
 use mathlib.Core.Path.{_≡_, refl, sym, ap, _∙_}
 use native.Mathlib.Omega.{arith}
 use borrow.Author.Needs.{needs}
-use Rattle.stanza.proofs.name_again.Statement.{statement}
-use Rattle.stanza.proofs.name_again.Tie as tie
-use Rattle.stanza.proofs.name_again.Reads as reads
-use Rattle.stanza.proofs.name_again.Lts as lts
-use Rattle.stanza.proofs.same_name.Reads as same-name-reads
+use Rattle.verdict.proofs.name_again.Statement.{statement}
+use Rattle.verdict.proofs.name_again.Tie as tie
+use Rattle.verdict.proofs.name_again.Reads as reads
+use Rattle.verdict.proofs.name_again.Lts as lts
+use Rattle.verdict.proofs.same_name.Reads as same-name-reads
 
 abbrev Inv-loop : tie.InvT-loop
 Inv-loop s names ends n a e k₀ k = (k ≤ n) × (namedFrom s names ends a e k (n - k) ≡ namedFrom s names ends a e 0 n)

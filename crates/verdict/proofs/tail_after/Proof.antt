@@ -1,11 +1,11 @@
 use mathlib.Core.Path.{_≡_, refl, sym, ap, _∙_}
 use native.Mathlib.Omega.{arith}
 use borrow.Author.Needs.{needs}
-use Rattle.stanza.proofs.tail_after.Statement.{statement}
-use Rattle.stanza.proofs.tail_after.Tie as tie
-use Rattle.stanza.proofs.tail_after.Reads as reads
-use Rattle.stanza.proofs.tail_after.Lts as lts
-use Rattle.stanza.proofs.is_tail.Reads as is-tail-reads
+use Rattle.verdict.proofs.tail_after.Statement.{statement}
+use Rattle.verdict.proofs.tail_after.Tie as tie
+use Rattle.verdict.proofs.tail_after.Reads as reads
+use Rattle.verdict.proofs.tail_after.Lts as lts
+use Rattle.verdict.proofs.is_tail.Reads as is-tail-reads
 
 -- src/lib.rt:174:9
 returns : tie.Need-returns

@@ -1,11 +1,11 @@
-use Rattle.stanza.proofs.Verdicts.{indented, outdented, no-header, low-number, high-number, good-header, line-malformed, line-unknown, line-forbidden, line-means, after-tail, named-again, too-many, one-more, line-ignored, line-read}
+use Rattle.verdict.proofs.Verdicts.{indented, outdented, no-header, low-number, high-number, good-header, line-malformed, line-unknown, line-forbidden, line-means, after-tail, named-again, too-many, one-more, line-ignored, line-read}
 use mathlib.Core.Path.{_≡_, refl, sym, ap, _∙_}
 use native.Mathlib.Omega.{arith}
 use borrow.Author.Needs.{needs}
-use Rattle.stanza.proofs.header_verdict.Statement.{statement}
-use Rattle.stanza.proofs.header_verdict.Tie as tie
-use Rattle.stanza.proofs.header_verdict.Reads as reads
-use Rattle.stanza.proofs.header_verdict.Lts as lts
+use Rattle.verdict.proofs.header_verdict.Statement.{statement}
+use Rattle.verdict.proofs.header_verdict.Tie as tie
+use Rattle.verdict.proofs.header_verdict.Reads as reads
+use Rattle.verdict.proofs.header_verdict.Lts as lts
 use Rattle.grammar.proofs.header_line.Reads as header-line-reads
 
 -- src/lib.rt:86:9

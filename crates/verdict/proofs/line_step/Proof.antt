@@ -1,17 +1,17 @@
-use Rattle.stanza.proofs.Verdicts.{line-ignored, line-read, nonblank, due}
-use Rattle.stanza.specs.Stanza.{progressOf}
+use Rattle.verdict.proofs.Verdicts.{line-ignored, line-read, nonblank, due}
+use Rattle.verdict.specs.Verdict.{progressOf}
 use mathlib.Core.Path.{_≡_, refl, sym, ap, _∙_}
 use native.Mathlib.Omega.{arith}
 use borrow.Author.Needs.{needs}
-use Rattle.stanza.proofs.line_step.Statement.{statement}
-use Rattle.stanza.proofs.line_step.Tie as tie
-use Rattle.stanza.proofs.line_step.Reads as reads
-use Rattle.stanza.proofs.line_step.Lts as lts
+use Rattle.verdict.proofs.line_step.Statement.{statement}
+use Rattle.verdict.proofs.line_step.Tie as tie
+use Rattle.verdict.proofs.line_step.Reads as reads
+use Rattle.verdict.proofs.line_step.Lts as lts
 use Rattle.octets.proofs.skip.Reads as skip-reads
-use Rattle.stanza.proofs.field_step.Reads as field-step-reads
-use Rattle.stanza.proofs.field_verdict.Reads as field-verdict-reads
-use Rattle.stanza.proofs.header_verdict.Reads as header-verdict-reads
-use Rattle.stanza.proofs.ignored.Reads as ignored-reads
+use Rattle.verdict.proofs.field_step.Reads as field-step-reads
+use Rattle.verdict.proofs.field_verdict.Reads as field-verdict-reads
+use Rattle.verdict.proofs.header_verdict.Reads as header-verdict-reads
+use Rattle.verdict.proofs.ignored.Reads as ignored-reads
 
 -- src/lib.rt:213:9
 skip-requires : tie.Need-skip-requires

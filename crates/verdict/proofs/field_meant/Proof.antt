@@ -1,13 +1,13 @@
-use Rattle.stanza.proofs.Verdicts.{indented, outdented, no-header, low-number, high-number, good-header, line-malformed, line-unknown, line-forbidden, line-means, line-placed, after-tail, named-again, too-many, one-more, line-ignored, line-read}
+use Rattle.verdict.proofs.Verdicts.{indented, outdented, no-header, low-number, high-number, good-header, line-malformed, line-unknown, line-forbidden, line-means, line-placed, after-tail, named-again, too-many, one-more, line-ignored, line-read}
 use mathlib.Core.Path.{_≡_, refl, sym, ap, subst, _∙_}
 use lib.Seq.{slice}
 use Rattle.types.specs.Types.{meantIn, meaningIn}
 use native.Mathlib.Omega.{arith}
 use borrow.Author.Needs.{needs}
-use Rattle.stanza.proofs.field_meant.Statement.{statement}
-use Rattle.stanza.proofs.field_meant.Tie as tie
-use Rattle.stanza.proofs.field_meant.Reads as reads
-use Rattle.stanza.proofs.field_meant.Lts as lts
+use Rattle.verdict.proofs.field_meant.Statement.{statement}
+use Rattle.verdict.proofs.field_meant.Tie as tie
+use Rattle.verdict.proofs.field_meant.Reads as reads
+use Rattle.verdict.proofs.field_meant.Lts as lts
 use Rattle.types.proofs.meaning_of.Reads as meaning-of-reads
 
 -- src/lib.rt:118:9

@@ -1,13 +1,13 @@
-use Rattle.stanza.proofs.Verdicts.{after-tail, named-again, too-many, one-more}
-use Rattle.stanza.specs.Stanza.{fieldOf}
+use Rattle.verdict.proofs.Verdicts.{after-tail, named-again, too-many, one-more}
+use Rattle.types.specs.Fields.{fieldOf}
 use mathlib.Core.Path.{_≡_, refl, sym, ap, _∙_}
 use native.Mathlib.Omega.{arith}
 use borrow.Author.Needs.{needs}
-use Rattle.stanza.proofs.field_step.Statement.{statement}
-use Rattle.stanza.proofs.field_step.Tie as tie
-use Rattle.stanza.proofs.field_step.Reads as reads
-use Rattle.stanza.proofs.field_step.Lts as lts
-use Rattle.stanza.proofs.name_again.Reads as name-again-reads
+use Rattle.verdict.proofs.field_step.Statement.{statement}
+use Rattle.verdict.proofs.field_step.Tie as tie
+use Rattle.verdict.proofs.field_step.Reads as reads
+use Rattle.verdict.proofs.field_step.Lts as lts
+use Rattle.verdict.proofs.name_again.Reads as name-again-reads
 
 -- src/lib.rt:246:32
 enum-known-f : tie.Need-enum-known-f

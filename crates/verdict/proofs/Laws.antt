@@ -15,8 +15,7 @@ use Rattle.format.specs.Field.{Part, Field, Kind, tail}
 use Rattle.format.specs.Judge.{Description, ignored, sameName, afterTail}
 use Rattle.octets.specs.Octets.{partIn}
 use Rattle.octets.proofs.Slices.{next, none}
-use Rattle.stanza.specs.Stanza.{fieldOf, sameText, noField, fieldsFrom, namedFrom}
-use Rattle.stanza.specs.declared.FieldDesc.{FieldDesc}
+use Rattle.verdict.specs.Verdict.{sameText, namedFrom}
 
 -- a part that is cut at the end of the list
 cut : (s : List ℕ) (x y f : ℕ) → f ≡ min y (length s) → slice x y s ≡ slice x f s

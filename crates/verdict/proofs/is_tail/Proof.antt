@@ -1,10 +1,10 @@
 use mathlib.Core.Path.{_≡_, refl, sym, ap, _∙_}
 use native.Mathlib.Omega.{arith}
 use borrow.Author.Needs.{needs}
-use Rattle.stanza.proofs.is_tail.Statement.{statement}
-use Rattle.stanza.proofs.is_tail.Tie as tie
-use Rattle.stanza.proofs.is_tail.Reads as reads
-use Rattle.stanza.proofs.is_tail.Lts as lts
+use Rattle.verdict.proofs.is_tail.Statement.{statement}
+use Rattle.verdict.proofs.is_tail.Tie as tie
+use Rattle.verdict.proofs.is_tail.Reads as reads
+use Rattle.verdict.proofs.is_tail.Lts as lts
 
 -- src/lib.rt:150:19
 enum-known-f : tie.Need-enum-known-f

@@ -1,13 +1,13 @@
-use Rattle.stanza.proofs.Verdicts.{indented, outdented, no-field, is-field}
+use Rattle.verdict.proofs.Verdicts.{indented, outdented, no-field, is-field}
 use mathlib.Core.Path.{_≡_, refl, sym, ap, _∙_}
 use native.Mathlib.Omega.{arith}
 use borrow.Author.Needs.{needs}
-use Rattle.stanza.proofs.field_verdict.Statement.{statement}
-use Rattle.stanza.proofs.field_verdict.Tie as tie
-use Rattle.stanza.proofs.field_verdict.Reads as reads
-use Rattle.stanza.proofs.field_verdict.Lts as lts
+use Rattle.verdict.proofs.field_verdict.Statement.{statement}
+use Rattle.verdict.proofs.field_verdict.Tie as tie
+use Rattle.verdict.proofs.field_verdict.Reads as reads
+use Rattle.verdict.proofs.field_verdict.Lts as lts
 use Rattle.grammar.proofs.field_shape.Reads as field-shape-reads
-use Rattle.stanza.proofs.field_meant.Reads as field-meant-reads
+use Rattle.verdict.proofs.field_meant.Reads as field-meant-reads
 
 -- src/lib.rt:136:9
 returns : tie.Need-returns

@@ -1,13 +1,13 @@
-use Rattle.stanza.proofs.Laws.{same-there, same-not}
+use Rattle.verdict.proofs.Laws.{same-there, same-not}
 use mathlib.Core.Path.{_≡_, refl, sym, ap, _∙_}
 use native.Mathlib.Omega.{arith}
 use borrow.Author.Needs.{needs}
-use Rattle.stanza.proofs.same_name.Statement.{statement}
-use Rattle.stanza.proofs.same_name.Tie as tie
-use Rattle.stanza.proofs.same_name.Reads as reads
-use Rattle.stanza.proofs.same_name.Lts as lts
+use Rattle.verdict.proofs.same_name.Statement.{statement}
+use Rattle.verdict.proofs.same_name.Tie as tie
+use Rattle.verdict.proofs.same_name.Reads as reads
+use Rattle.verdict.proofs.same_name.Lts as lts
 use Rattle.qualifiers.proofs.same.Reads as same-reads
-use Rattle.stanza.proofs.least.Reads as least-reads
+use Rattle.octets.proofs.least.Reads as least-reads
 
 -- src/lib.rt:181:9
 least-requires : tie.Need-least-requires

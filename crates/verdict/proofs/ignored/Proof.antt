@@ -1,10 +1,10 @@
-use Rattle.stanza.proofs.Laws.{first-octet, blank-line}
+use Rattle.verdict.proofs.Laws.{first-octet, blank-line}
 use native.Mathlib.Omega.{arith}
 use borrow.Author.Needs.{needs}
-use Rattle.stanza.proofs.ignored.Statement.{statement}
-use Rattle.stanza.proofs.ignored.Tie as tie
-use Rattle.stanza.proofs.ignored.Reads as reads
-use Rattle.stanza.proofs.ignored.Lts as lts
+use Rattle.verdict.proofs.ignored.Statement.{statement}
+use Rattle.verdict.proofs.ignored.Tie as tie
+use Rattle.verdict.proofs.ignored.Reads as reads
+use Rattle.verdict.proofs.ignored.Lts as lts
 
 -- src/lib.rt:225:16
 shared-slice-read-result : tie.Need-shared-slice-read-result
