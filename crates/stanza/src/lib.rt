@@ -1,4 +1,7 @@
 // The judge of a stanza, and the description that it finds.
+ghost use Prim.Native.Nat.{_≤_, _<_};
+ghost use mathlib.Core.Path.{_≡_};
+ghost use mathlib.Core.Bool.{true, false};
 ghost use Rattle.stanza.specs.Stanza.{Outlined};
 use types::FieldDesc;
 use types::Form;
@@ -16,69 +19,87 @@ pub struct Outline {
     pub count: usize,
 }
 
-// The judged stanza.
-pub fn judged_outline(s: &[u8]) -> Outline
-    ensures { λ r. ⌜ Outlined (now (s .entry)) r ⌝ }
-{
-    let mut header = HeaderDesc {
+// A header before any line is read.
+fn no_header() -> HeaderDesc {
+    HeaderDesc {
         name_at: 0,
         name_end: 0,
         number: 0,
         text_at: 0,
         text_end: 0,
-    };
-    // all zeros, so that the array is cleared at once
-    let nothing = FieldDesc {
+    }
+}
+
+// A field of zeros alone, so that an array of it is cleared at once.
+fn no_field() -> FieldDesc {
+    FieldDesc {
         form: Form::Int(0),
         qualifiers_at: 0,
         qualifiers_end: 0,
         text_at: 0,
         text_end: 0,
-    };
+    }
+}
+
+// What is told of a stanza of n octets before its lines: 1, or 0.
+fn at_start(n: usize) -> u8
+    ensures { λ r. ⌜ (n ≤ 8192 → r ≡ 0) × (8192 < n → r ≡ 1) ⌝ }
+{
+    if 8192 < n { 1 } else { 0 }
+}
+
+// Whether the line at `at` is to be judged: nothing is refused, and it lies before n.
+fn goes_on(number: u8, at: usize, n: usize) -> bool
+    ensures { λ r. ⌜ (r ≡ true → (number ≡ 0) × (at < n)) × (r ≡ false → number ≡ 0 → n ≤ at) ⌝ }
+{
+    if number == 0 {
+        return at < n;
+    }
+    false
+}
+
+// What is told after the lines, of which n were fields: a stanza without any is refused.
+fn at_end(number: u8, n: usize) -> u8
+    ensures { λ r. ⌜ (1 ≤ number → r ≡ number) × (number ≡ 0 → 1 ≤ n → r ≡ 0) × (number ≡ 0 → n ≡ 0 → r ≡ 2) ⌝ }
+{
+    if number == 0 {
+        if n == 0 {
+            return 2;
+        }
+    }
+    number
+}
+
+// The judged stanza. There is one way out, so that the arrays are copied as a whole.
+pub fn judged_outline(s: &[u8]) -> Outline
+    ensures { λ r. ⌜ Outlined (now (s .entry)) r ⌝ }
+{
+    let mut header = no_header();
+    let nothing = no_field();
     let mut fields = [nothing; 64];
     let mut names = [0u16; 64];
     let mut ends = [0u16; 64];
-    // every way out hands on the same arrays, so that they are copied as a whole
-    if 8192 < s.len() {
-        return Outline {
-            number: 1,
-            line: 0,
-            header: header,
-            fields: fields,
-            names: names,
-            ends: ends,
-            count: 0,
-        };
-    }
     let mut n = 0;
     let mut have = false;
     let mut last = false;
+    let mut number = at_start(s.len());
+    let mut place: u16 = 0;
     let mut at = 0;
-    let mut line: u16 = 1;
-    while at < s.len() {
+    let mut line: u16 = 0;
+    while goes_on(number, at, s.len()) {
+        line = line + 1;
         let e = octets::line_end(s, at);
         let step = verdict::line_step(s, at, e, have, last, &names, &ends, n);
+        at = e + 1;
         match step {
-            Step::Skip => {
-                at = e + 1;
-                line = line + 1;
-            }
+            Step::Skip => {}
             Step::Refuse(k) => {
-                return Outline {
-                    number: k,
-                    line: line,
-                    header: header,
-                    fields: fields,
-                    names: names,
-                    ends: ends,
-                    count: 0,
-                };
+                number = k;
+                place = line;
             }
             Step::Head(h) => {
                 header = h;
                 have = true;
-                at = e + 1;
-                line = line + 1;
             }
             Step::Add(x) => {
                 let f = x.field;
@@ -88,25 +109,12 @@ pub fn judged_outline(s: &[u8]) -> Outline
                 ends[n] = x.name_end;
                 last = verdict::tail_after(last, form);
                 n = n + 1;
-                at = e + 1;
-                line = line + 1;
             }
         }
     }
-    if n == 0 {
-        return Outline {
-            number: 2,
-            line: 0,
-            header: header,
-            fields: fields,
-            names: names,
-            ends: ends,
-            count: 0,
-        };
-    }
     Outline {
-        number: 0,
-        line: 0,
+        number: at_end(number, n),
+        line: place,
         header: header,
         fields: fields,
         names: names,

@@ -1,19 +1,15 @@
 -- Laws of the names and the fields that the judge keeps.
-use Prim.Native.Nat.{ℕ, zero, suc, _+_, _-_, _≤_, _<_, min}
-use mathlib.Core.Path.{_≡_, refl, sym, ap, _∙_, subst}
-use mathlib.Core.Bool.{Bool, true, false, not, cond, _&&_, _||_, true≢false}
-use mathlib.Core.List.{List, [], _∷_, _++_}
+use Prim.Native.Nat.{ℕ, suc, _+_, _-_, _≤_, _<_, min}
+use mathlib.Core.Path.{_≡_, refl, sym, ap, _∙_}
+use mathlib.Core.Bool.{Bool, true, false, not, _&&_}
+use mathlib.Core.List.{List, [], _∷_}
 use native.Mathlib.Omega.{arith}
-use native.Mathlib.Numerals.{add-one}
-use lib.ListN.{length, take, drop, getD, set, length-take, length-drop}
-use lib.Seq.{slice, length-slice, take-all, getD-set-same, getD-set-other, take-length}
+use lib.ListN.{length, drop, getD}
+use lib.Seq.{slice, length-slice, take-all, take-length}
 use lib.Dec.{leb, eqb}
-use borrow.Author.Tests.{eq-eqb, ne-eqb, le-leb, lt-leb}
-use Rattle.format.specs.Lists.{anyOf, null, Spanned, span}
-use Rattle.format.specs.Octets.{sameWord, inRange}
-use Rattle.format.specs.Field.{Part, Field, Kind, tail}
-use Rattle.format.specs.Judge.{Description, ignored, sameName, afterTail}
-use Rattle.octets.specs.Octets.{partIn}
+use Rattle.format.specs.Lists.{null}
+use Rattle.format.specs.Octets.{sameWord}
+use Rattle.format.specs.Judge.{ignored}
 use Rattle.octets.proofs.Slices.{next, none}
 use Rattle.verdict.specs.Verdict.{sameText, namedFrom}
 

@@ -1,20 +1,20 @@
 -- What a header's line and a field's line come to.
-use Prim.Native.Nat.{ℕ, zero, suc, _+_, _-_, _≤_, _<_}
-use mathlib.Core.Path.{_≡_, refl, sym, ap, _∙_, subst}
-use mathlib.Core.Bool.{Bool, true, false, not, cond, _&&_, _||_, true≢false}
+use Prim.Native.Nat.{ℕ, _+_, _≤_, _<_}
+use mathlib.Core.Path.{_≡_, refl, sym, ap, _∙_}
+use mathlib.Core.Bool.{Bool, true, false, not, cond}
 use mathlib.Core.List.{List, [], _∷_, _++_}
 use mathlib.Core.Option.{Option, none, some}
 use native.Mathlib.Omega.{arith}
 use lib.ListN.{length}
 use lib.Seq.{slice, length-slice}
-use lib.Dec.{leb, eqb}
+use lib.Dec.{eqb}
 use borrow.Author.Tests.{eq-eqb, ne-eqb, le-leb, lt-leb}
-use Rattle.format.specs.Lists.{_>>=_, anyOf, null, Spanned, span}
+use Rattle.format.specs.Lists.{_>>=_, null, span}
 use Rattle.format.specs.Octets.{blank}
-use Rattle.format.specs.Field.{Part, Field}
-use Rattle.format.specs.Grammar.{Header, FieldLine, Qualifier, headerLine, fieldLine}
+use Rattle.format.specs.Field.{Field}
+use Rattle.format.specs.Grammar.{FieldLine, Qualifier, headerLine, fieldLine}
 use Rattle.format.specs.Types.{Meaning, unknown, forbidden, means, meaning}
-use Rattle.format.specs.Judge.{Description, Progress, beforeHeader, afterHeader, Verdict, faulty, goesOn, afterTail, sameName, withField, ofMeaning, ofFieldLine, ofHeader, contentLine, ignored, indentedLine, lineVerdict}
+use Rattle.format.specs.Judge.{Description, Progress, afterHeader, Verdict, faulty, goesOn, withField, ofMeaning, ofFieldLine, ofHeader, contentLine, ignored, lineVerdict}
 use Rattle.octets.specs.Octets.{inClass, partIn}
 use Rattle.octets.specs.declared.Class.the-variants.{Blank}
 use Rattle.octets.proofs.Slices.{frontEnd, front-rest, front-within}
@@ -33,10 +33,6 @@ use Rattle.types.specs.Types.{kindIn, meantIn, meaningIn}
 use Rattle.types.specs.Fields.{Placed}
 use Rattle.types.proofs.Symbols.{symbols-listed}
 use Rattle.types.specs.declared.FieldDesc.{FieldDesc}
-use Rattle.verdict.specs.declared.FieldVerdict.{FieldVerdict}
-use Rattle.verdict.specs.declared.FieldVerdict.the-variants.{BadField, GoodField}
-use Rattle.verdict.specs.declared.NewField.{NewField}
-use Rattle.verdict.specs.declared.HeaderVerdict.{HeaderVerdict}
 use Rattle.verdict.specs.declared.Step.{Step}
 use Rattle.verdict.specs.declared.Step.the-variants.{Skip, Refuse, Head, Add}
 use Rattle.verdict.specs.Verdict.{namedFrom, Stands, Fits, Due}

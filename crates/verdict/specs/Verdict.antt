@@ -15,7 +15,6 @@ use Rattle.types.specs.Fields.{fieldOf, Placed}
 use Rattle.verdict.specs.declared.HeaderDesc.{HeaderDesc}
 use Rattle.verdict.specs.declared.HeaderVerdict.{HeaderVerdict}
 use Rattle.verdict.specs.declared.HeaderVerdict.the-variants.{BadHeader, GoodHeader}
-use Rattle.verdict.specs.declared.NewField.{NewField}
 use Rattle.verdict.specs.declared.FieldVerdict.{FieldVerdict}
 use Rattle.verdict.specs.declared.FieldVerdict.the-variants.{BadField, GoodField}
 use Rattle.verdict.specs.declared.Step.{Step}
