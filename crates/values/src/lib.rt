@@ -11,7 +11,7 @@ ghost use Rattle.format.specs.Name.{isWireName};
 ghost use Rattle.types.specs.Types.{kindOf};
 ghost use Rattle.writing.specs.Writing.{Values};
 ghost use Rattle.run.specs.Run.{kindFor, Usable};
-ghost use Rattle.reading.specs.Reading.{tokenValue};
+ghost use Rattle.values.specs.Values.{tokenValue};
 use read::name;
 use read::text;
 use read_address::address;
