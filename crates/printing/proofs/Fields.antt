@@ -12,7 +12,7 @@ use Rattle.format.specs.Field.{anyOctets, start}
 use Rattle.format.proofs.Wire.{at-end, octets-taken}
 use Rattle.octets.proofs.Slices.{none as nothing}
 use Rattle.types.specs.declared.Form.the-variants.{Int}
-use Rattle.stanza.specs.declared.FieldDesc.{FieldDesc}
+use Rattle.types.specs.declared.FieldDesc.{FieldDesc}
 use Rattle.run.specs.Run.{kindFor, Usable}
 use Rattle.run.proofs.Fields.{int-some}
 

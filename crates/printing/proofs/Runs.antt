@@ -16,8 +16,8 @@ use Rattle.format.proofs.Fields.{field-laws}
 use Rattle.format.proofs.Bound.{cap-most}
 use Rattle.octets.proofs.Slices.{lent}
 use Rattle.types.specs.Types.{kindOf, intWidth, symbolsIn, orNone}
-use Rattle.stanza.specs.declared.FieldDesc.{FieldDesc}
-use Rattle.stanza.specs.Stanza.{noField}
+use Rattle.types.specs.declared.FieldDesc.{FieldDesc}
+use Rattle.types.specs.Fields.{noField}
 use Rattle.writing.specs.Writing.{Wrote}
 use Rattle.writing.proofs.Laws.{Left, left-piece, wrote-before}
 use Rattle.run.specs.Run.{kindFor, kindsFrom, Usable}

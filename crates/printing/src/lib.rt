@@ -15,7 +15,7 @@ use print::integer;
 use print::name;
 use print::rrtype;
 use print::text;
-use stanza::FieldDesc;
+use types::FieldDesc;
 use types::Form;
 use wire::Take;
 
@@ -69,19 +69,13 @@ fn put_next(
     if at == 0 {
         return put_field(out, d, s, p, i, e);
     }
-    let a = least(at + 1, out.len());
+    let a = writing::least(at + 1, out.len());
     let w = put_field(&mut out[a..], d, s, p, i, e);
     if w == 0 {
         return at;
     }
     writing::put(out, at, 32);
     at + 1 + w
-}
-
-fn least(a: usize, b: usize) -> usize
-    ensures { λ r. ⌜ r ≡ min a b ⌝ }
-{
-    if a < b { a } else { b }
 }
 
 // How many octets a field takes that takes some number of them.

@@ -1,3 +1,3 @@
-pub mod Fields
-pub mod Texts
-pub mod Runs
+mod Fields
+mod Texts
+mod Runs

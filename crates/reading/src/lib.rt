@@ -1,5 +1,5 @@
 // A field, and a run of fields, read from the tokens of a text.
-ghost use Prim.Native.Nat.{ℕ, _^_, _<_, _≤_, min};
+ghost use Prim.Native.Nat.{ℕ, _^_, _<_, _≤_};
 ghost use mathlib.Core.Path.{_≡_};
 ghost use mathlib.Core.Bool.{true};
 ghost use mathlib.Core.List.{List, []};
@@ -15,14 +15,11 @@ ghost use Rattle.run.specs.Run.{kindFor, kindsFrom, Usable, UsableRun};
 ghost use Rattle.reading.specs.Reading.{takesOne, placedAt, gotAt, Gives, Onward, Reads};
 use read_base::rest;
 use read_base::rest::Got;
-use read_text as text;
-use stanza::FieldDesc;
 use tokens::Next;
 use tokens::next_token;
+use types::FieldDesc;
 use types::Form;
 use writing::Value;
-
-pub mod value;
 
 // What a field makes of the tokens that are left: none is there; a rule is broken; or its octets are stored up to a place,
 // and the tokens from another place of the text on are left.
@@ -77,8 +74,8 @@ fn one_token(
     let k = next_token(t, i);
     match k {
         Next::End => none_left(f, n, i),
-        Next::Bare(a, e) => before(value::of_bare(out, n, d, s, origin, t, a, e), e),
-        Next::Quoted(a, e) => before(value::of_quoted(out, n, f, t, a, e), e + 1),
+        Next::Bare(a, e) => before(values::of_bare(out, n, d, s, origin, t, a, e), e),
+        Next::Quoted(a, e) => before(values::of_quoted(out, n, f, t, a, e), e + 1),
         Next::Broken => Field::Fault,
     }
 }
@@ -91,8 +88,8 @@ fn string(out: &mut [u8], n: usize, t: &[u8], i: usize) -> Field
     let k = next_token(t, i);
     match k {
         Next::End => Field::Missing,
-        Next::Bare(a, e) => before(text::string(out, n, t, a, e, false), e),
-        Next::Quoted(a, e) => before(text::string(out, n, t, a, e, true), e + 1),
+        Next::Bare(a, e) => before(read_text::string(out, n, t, a, e, false), e),
+        Next::Quoted(a, e) => before(read_text::string(out, n, t, a, e, true), e + 1),
         Next::Broken => Field::Fault,
     }
 }
@@ -164,12 +161,6 @@ pub fn read_field(
     one_token(out, n, d, s, origin, t, i)
 }
 
-fn least(a: usize, b: usize) -> usize
-    ensures { λ r. ⌜ r ≡ min a b ⌝ }
-{
-    if a < b { a } else { b }
-}
-
 // Whether no token is left from i on.
 fn none_from(t: &[u8], i: usize) -> bool
     requires { ⌜ (i ≤ length (now t)) × (length (now t) ≤ 1048576) ⌝ }
@@ -211,7 +202,7 @@ pub fn read_run(
                 return Run::Refused(9, k as u32 + 1);
             }
             Field::Upto(m, j) => {
-                n = least(m, 65536);
+                n = writing::least(m, 65536);
                 i = j;
             }
         }

@@ -13,7 +13,7 @@ use Rattle.format.specs.Demands.{soundKind}
 use Rattle.format.proofs.Lists.{and-left}
 use Rattle.types.specs.declared.Form.the-variants.{Int}
 use Rattle.types.specs.Types.{symbolsIn, orNone}
-use Rattle.stanza.specs.declared.FieldDesc.{FieldDesc}
+use Rattle.types.specs.declared.FieldDesc.{FieldDesc}
 use Rattle.run.specs.Run.{Usable}
 
 -- the widths of integers

@@ -11,8 +11,8 @@ use Rattle.format.specs.Field.{Symbol, Kind, start, kinds}
 use Rattle.format.specs.Run.{Parts, refused, parts, withFirst, partsOf, shown, joined, textOfParts, textOf}
 use Rattle.format.proofs.Wire.{fits}
 use Rattle.format.proofs.Run.{more}
-use Rattle.stanza.specs.declared.FieldDesc.{FieldDesc}
-use Rattle.stanza.specs.Stanza.{noField, fieldsFrom}
+use Rattle.types.specs.declared.FieldDesc.{FieldDesc}
+use Rattle.types.specs.Fields.{noField, fieldsFrom}
 use Rattle.types.specs.Types.{kindOf, intWidth, symbolsIn, orNone}
 use Rattle.wire.specs.declared.Take.{Take}
 use Rattle.wire.specs.declared.Take.the-variants.{Short, Bad, Took}

@@ -8,8 +8,8 @@ use Rattle.format.specs.Field.{Kind}
 use Rattle.format.specs.Run.{refused, parts, partsOf}
 use Rattle.format.specs.Demands.{tailsLast, soundKind}
 use Rattle.types.specs.Types.{kindIn}
-use Rattle.stanza.specs.declared.FieldDesc.{FieldDesc}
-use Rattle.stanza.specs.Stanza.{Placed, noField}
+use Rattle.types.specs.declared.FieldDesc.{FieldDesc}
+use Rattle.types.specs.Fields.{Placed, noField}
 use Rattle.run.specs.declared.Checked.{Checked}
 use Rattle.run.specs.declared.Checked.the-variants.{Good, Refused}
 

@@ -3,7 +3,7 @@ ghost use Prim.Native.Nat.{ℕ, _+_, _≤_};
 ghost use mathlib.Core.List.{List};
 ghost use lib.ListN.{length};
 ghost use Rattle.run.specs.Run.{kindsFrom, Checks};
-use stanza::FieldDesc;
+use types::FieldDesc;
 use wire::Take;
 
 // What a run makes of RDATA: its fields take it all, or a refusal's number and place.

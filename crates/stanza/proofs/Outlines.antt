@@ -1,36 +1,37 @@
 -- The fields that the judge has kept, and the lines that are left.
 use Prim.Native.Nat.{ℕ, zero, suc, _+_, _-_, _≤_, _<_}
-use mathlib.Core.Path.{_≡_, refl, sym, ap, ap₂, _∙_, subst}
-use mathlib.Core.Bool.{Bool, true, false, not, cond, _&&_, _||_, true≢false}
+use mathlib.Core.Path.{_≡_, refl, sym, ap, _∙_, subst}
+use mathlib.Core.Bool.{Bool, true, false, not, cond, _||_, true≢false}
 use mathlib.Core.List.{List, [], _∷_, _++_}
 use native.Mathlib.Omega.{arith}
 use native.Mathlib.Numerals.{add-one}
 use native.Mathlib.Decide.{decLt}
-use lib.ListN.{length, take, drop, getD, set, length-append, length-set}
-use lib.Seq.{slice, getD-set-same, getD-set-other}
-use lib.Dec.{leb, eqb}
+use lib.ListN.{length, getD, set, length-set}
+use lib.Seq.{getD-set-same, getD-set-other}
+use lib.Dec.{leb}
 use borrow.Author.Tests.{le-leb, lt-leb, ne-eqb}
 use mathlib.Core.Option.{Option, none, some}
-use Rattle.format.specs.Lists.{anyOf, null, Spanned, span}
+use Rattle.format.specs.Lists.{anyOf, null, span}
 use Rattle.format.specs.Octets.{blank, inRange}
 use Rattle.format.specs.Grammar.{Header, FieldLine, headerLine, fieldLine}
 use Rattle.format.specs.Types.{Meaning, unknown, forbidden, means, meaning}
 use Rattle.format.specs.Field.{Part, Field, tail}
 use Rattle.format.specs.Lines.{lines}
-use Rattle.format.specs.Judge.{Description, Progress, beforeHeader, afterHeader, Verdict, faulty, goesOn, afterTail, sameName, withField, ofMeaning, ofFieldLine, ofHeader, contentLine, ignored, lineVerdict, Judged, rejected, described, atEnd, afterLine, judgedFrom, judged}
+use Rattle.format.specs.Judge.{Description, Progress, beforeHeader, afterHeader, Verdict, faulty, goesOn, afterTail, sameName, withField, ofMeaning, ofFieldLine, ofHeader, contentLine, ignored, lineVerdict, rejected, described, atEnd, afterLine, judgedFrom, judged}
 use Rattle.octets.specs.Octets.{inClass, lineEnd, partIn}
 use Rattle.octets.specs.declared.Class.the-variants.{NotNewline}
 use Rattle.octets.proofs.Slices.{front-within}
 use Rattle.octets.proofs.Lines.{linesFrom, next-line, no-line}
-use Rattle.types.specs.declared.Form.{Form}
+use Rattle.types.specs.declared.FieldDesc.{FieldDesc}
 use Rattle.types.specs.Types.{kindIn}
-use Rattle.stanza.specs.declared.FieldDesc.{FieldDesc}
-use Rattle.stanza.specs.declared.HeaderDesc.{HeaderDesc}
-use Rattle.stanza.specs.declared.NewField.{NewField}
+use Rattle.types.specs.Fields.{fieldOf, Placed, noField, fieldsFrom}
+use Rattle.verdict.specs.declared.HeaderDesc.{HeaderDesc}
+use Rattle.verdict.specs.declared.NewField.{NewField}
+use Rattle.verdict.specs.declared.Step.{Step}
+use Rattle.verdict.specs.declared.Step.the-variants.{Skip, Refuse, Head, Add}
+use Rattle.verdict.specs.Verdict.{headerOf, namedFrom, progressOf, Stands, stepOf, Due}
 use Rattle.stanza.specs.declared.Outline.{Outline}
-use Rattle.stanza.specs.declared.Step.{Step}
-use Rattle.stanza.specs.declared.Step.the-variants.{Skip, Refuse, Head, Add}
-use Rattle.stanza.specs.Stanza.{headerOf, fieldOf, Placed, noField, fieldsFrom, namedFrom, progressOf, Stands, withMore, stepOf, Due, outlineOf, AllPlaced, Outlined}
+use Rattle.stanza.specs.Stanza.{AllPlaced, Outlined}
 
 -- m fields from number k on
 module _ (s : List ℕ) (fs : List FieldDesc) (names ends : List ℕ) where
@@ -54,7 +55,7 @@ module _ (s : List ℕ) (fs : List FieldDesc) (names ends : List ℕ) (n : ℕ) 
   fields-more k zero q = let r : k ≡ n = omega arith in rw (r) (ap (λ z. z ∷ []) new-field)
   fields-more k (suc m) q = let t : suc m + 1 ≡ suc (m + 1) = omega arith in rw (t, old-field k (omega arith), fields-more (k + 1) m (omega arith))
 
-  pub one-field-more : fieldsFrom s (set fs n f) (set names n x) (set ends n y) 0 (n + 1) ≡ fieldsFrom s fs names ends 0 n ++ fieldOf s f x y ∷ []
+  one-field-more : fieldsFrom s (set fs n f) (set names n x) (set ends n y) 0 (n + 1) ≡ fieldsFrom s fs names ends 0 n ++ fieldOf s f x y ∷ []
   one-field-more = fields-more 0 n (omega arith)
 
 -- and its qualifiers are placed as theirs are
@@ -78,19 +79,16 @@ tail-snoc (g ∷ fs) f = by (tail (g .kind)) (tail-snoc fs f)
     by false e = e
 
 -- How things stand after some lines: the description so far, and the lines from a place on come to what all of them do.
-abbrev pub soFar : List ℕ → HeaderDesc → List FieldDesc → List ℕ → List ℕ → ℕ → Description
+abbrev soFar : List ℕ → HeaderDesc → List FieldDesc → List ℕ → List ℕ → ℕ → Description
 soFar s h fs names ends n = record { header = headerOf s h; fields = fieldsFrom s fs names ends 0 n }
 
 pub record Kept (s : List ℕ) (h : HeaderDesc) (fs : List FieldDesc) (names ends : List ℕ) (n : ℕ) (have last : Bool) (at line : ℕ) : Type 0 where
-  pub all-fields : length fs ≡ 64
-  pub all-names : length names ≡ 64
-  pub all-ends : length ends ≡ 64
   pub none-yet : have ≡ false → n ≡ 0
   pub tails : afterTail (fieldsFrom s fs names ends 0 n) ≡ last
   pub placed : AllPlaced s fs n
   pub left : judgedFrom line (progressOf have (soFar s h fs names ends n)) (linesFrom s at) ≡ judgedFrom 1 beforeHeader (lines s)
 
-pub stands : {s : List ℕ} {h : HeaderDesc} {fs : List FieldDesc} {names ends : List ℕ} {n : ℕ} {have last : Bool} {at line : ℕ}
+stands : {s : List ℕ} {h : HeaderDesc} {fs : List FieldDesc} {names ends : List ℕ} {n : ℕ} {have last : Bool} {at line : ℕ}
     → Kept s h fs names ends n have last at line → Stands s (soFar s h fs names ends n) last names ends n
 stands {s} {h} {fs} {names} {ends} {n} k = record { many = fields-many s fs names ends 0 n; tails = k .tails; named = λ f a e p. fields-named s fs names ends 0 n f a e p }
 
@@ -100,10 +98,10 @@ module _ (s : List ℕ) (p : Progress) (at line : ℕ) (l : at < length s) where
   unfolding judgedFrom
   one-line = rw (next-line s at l, add-one line)
 
-  pub after-step : (r : Step) (q : Progress) → stepOf s p r ≡ lineVerdict p (partIn s at (lineEnd s at)) → stepOf s p r ≡ goesOn q → judgedFrom (line + 1) q (linesFrom s (lineEnd s at + 1)) ≡ judgedFrom line p (linesFrom s at)
+  after-step : (r : Step) (q : Progress) → stepOf s p r ≡ lineVerdict p (partIn s at (lineEnd s at)) → stepOf s p r ≡ goesOn q → judgedFrom (line + 1) q (linesFrom s (lineEnd s at + 1)) ≡ judgedFrom line p (linesFrom s at)
   after-step r q e g = sym (one-line ∙ ap (λ v. afterLine v line (λ t. judgedFrom (line + 1) t (linesFrom s (lineEnd s at + 1)))) (sym e ∙ g))
 
-  pub after-refusal : (n : ℕ) → stepOf s p (Refuse n) ≡ lineVerdict p (partIn s at (lineEnd s at)) → judgedFrom line p (linesFrom s at) ≡ rejected n line
+  after-refusal : (n : ℕ) → stepOf s p (Refuse n) ≡ lineVerdict p (partIn s at (lineEnd s at)) → judgedFrom line p (linesFrom s at) ≡ rejected n line
   after-refusal n e = one-line ∙ ap (λ v. afterLine v line (λ t. judgedFrom (line + 1) t (linesFrom s (lineEnd s at + 1)))) (sym e)
 
 -- a faulty line's number is not 0
@@ -144,7 +142,7 @@ line-numbered p l =
     numbered-cond (ignored (span blank (l .octets) .rest)) (goesOn p) _ tt
     (content-numbered p (not (null (span blank (l .octets) .front))) (l .place + length (l .octets)) (span blank (l .octets) .rest))
 
-pub fault-number : (n : ℕ) (p : Progress) (l : Part) → faulty n ≡ lineVerdict p l → 1 ≤ n
+fault-number : (n : ℕ) (p : Progress) (l : Part) → faulty n ≡ lineVerdict p l → 1 ≤ n
 fault-number n p l e = by (lineVerdict p l) (line-numbered p l) e
   where
     by : (v : Verdict) → Numbered v → faulty n ≡ v → 1 ≤ n
@@ -152,27 +150,21 @@ fault-number n p l e = by (lineVerdict p l) (line-numbered p l) e
     by (goesOn t) h q = let z : _≡_ {A = ℕ} 0 1 = cc in absurd (omega arith)
 
 -- from one line to the next
-pub kept-start : (s : List ℕ) (h : HeaderDesc) (fs : List FieldDesc) (names ends : List ℕ) → length fs ≡ 64 → length names ≡ 64 → length ends ≡ 64 → Kept s h fs names ends 0 false false 0 1
-kept-start s h fs names ends a b c = record { all-fields = a; all-names = b; all-ends = c; none-yet = λ q. refl; tails = refl; placed = λ k q. absurd (omega arith); left = refl }
+kept-start : (s : List ℕ) (h : HeaderDesc) (fs : List FieldDesc) (names ends : List ℕ) → Kept s h fs names ends 0 false false 0 1
+kept-start s h fs names ends = record { none-yet = λ q. refl; tails = refl; placed = λ k q. absurd (omega arith); left = refl }
 
 module _ {s : List ℕ} {h : HeaderDesc} {fs : List FieldDesc} {names ends : List ℕ} {n : ℕ} {have last : Bool} {at line : ℕ} (k : Kept s h fs names ends n have last at line) (l : at < length s) where
-  pub kept-skip : goesOn (progressOf have (soFar s h fs names ends n)) ≡ lineVerdict (progressOf have (soFar s h fs names ends n)) (partIn s at (lineEnd s at)) → Kept s h fs names ends n have last (lineEnd s at + 1) (line + 1)
+  kept-skip : goesOn (progressOf have (soFar s h fs names ends n)) ≡ lineVerdict (progressOf have (soFar s h fs names ends n)) (partIn s at (lineEnd s at)) → Kept s h fs names ends n have last (lineEnd s at + 1) (line + 1)
   kept-skip e = record {
-    all-fields = k .all-fields;
-    all-names = k .all-names;
-    all-ends = k .all-ends;
     none-yet = k .none-yet;
     tails = k .tails;
     placed = k .placed;
     left = after-step s (progressOf have (soFar s h fs names ends n)) at line l Skip (progressOf have (soFar s h fs names ends n)) e refl ∙ k .left;
   }
 
-  pub kept-head : (x : HeaderDesc) → have ≡ false → stepOf s (progressOf have (soFar s h fs names ends n)) (Head x) ≡ lineVerdict (progressOf have (soFar s h fs names ends n)) (partIn s at (lineEnd s at))
+  kept-head : (x : HeaderDesc) → have ≡ false → stepOf s (progressOf have (soFar s h fs names ends n)) (Head x) ≡ lineVerdict (progressOf have (soFar s h fs names ends n)) (partIn s at (lineEnd s at))
       → Kept s x fs names ends n true last (lineEnd s at + 1) (line + 1)
   kept-head x q e = record {
-    all-fields = k .all-fields;
-    all-names = k .all-names;
-    all-ends = k .all-ends;
     none-yet = λ z. absurd (true≢false z);
     tails = k .tails;
     placed = k .placed;
@@ -182,16 +174,13 @@ module _ {s : List ℕ} {h : HeaderDesc} {fs : List FieldDesc} {names ends : Lis
       none-so-far : fieldsFrom s fs names ends 0 n ≡ []
       none-so-far = rw (k .none-yet q)
 
-  pub kept-add : (f : NewField) (b : Bool) → n < 64 → have ≡ true → Placed s (f .field) → b ≡ last || tail (kindIn s (f .field .«qualifiers_at») (f .field .«qualifiers_end») (f .field .form))
+  kept-add : (f : NewField) (b : Bool) → n < length fs → n < length names → n < length ends → have ≡ true → Placed s (f .field) → b ≡ last || tail (kindIn s (f .field .«qualifiers_at») (f .field .«qualifiers_end») (f .field .form))
       → stepOf s (progressOf have (soFar s h fs names ends n)) (Add f) ≡ lineVerdict (progressOf have (soFar s h fs names ends n)) (partIn s at (lineEnd s at))
       → Kept s h (set fs n (f .field)) (set names n (f .«name_at»)) (set ends n (f .«name_end»)) (n + 1) have b (lineEnd s at + 1) (line + 1)
-  kept-add f b m q g t e = record {
-    all-fields = length-set fs n (f .field) ∙ k .all-fields;
-    all-names = length-set names n (f .«name_at») ∙ k .all-names;
-    all-ends = length-set ends n (f .«name_end») ∙ k .all-ends;
-    none-yet = λ z. absurd (true≢false (sym q ∙ z));
+  kept-add f b x y z q g t e = record {
+    none-yet = λ c. absurd (true≢false (sym q ∙ c));
     tails = ap afterTail more ∙ tail-snoc (fieldsFrom s fs names ends 0 n) new ∙ ap (λ c. c || tail (new .kind)) (k .tails) ∙ sym t;
-    placed = more-placed s fs n (f .field) (omega (arith, k .all-fields)) (k .placed) g;
+    placed = more-placed s fs n (f .field) x (k .placed) g;
     left = ap (λ gs. judgedFrom (line + 1) (progressOf have (record { header = headerOf s h; fields = gs })) (linesFrom s (lineEnd s at + 1))) more
         ∙ after-step s (progressOf have (soFar s h fs names ends n)) at line l (Add f) (progressOf have (record { header = headerOf s h; fields = fieldsFrom s fs names ends 0 n ++ new ∷ [] })) e added ∙ k .left;
   }
@@ -200,12 +189,12 @@ module _ {s : List ℕ} {h : HeaderDesc} {fs : List FieldDesc} {names ends : Lis
       new = fieldOf s (f .field) (f .«name_at») (f .«name_end»)
 
       more : fieldsFrom s (set fs n (f .field)) (set names n (f .«name_at»)) (set ends n (f .«name_end»)) 0 (n + 1) ≡ fieldsFrom s fs names ends 0 n ++ new ∷ []
-      more = one-field-more s fs names ends n (f .field) (f .«name_at») (f .«name_end») (omega (arith, k .all-fields)) (omega (arith, k .all-names)) (omega (arith, k .all-ends))
+      more = one-field-more s fs names ends n (f .field) (f .«name_at») (f .«name_end») x y z
 
       added : stepOf s (progressOf have (soFar s h fs names ends n)) (Add f) ≡ goesOn (progressOf have (record { header = headerOf s h; fields = fieldsFrom s fs names ends 0 n ++ new ∷ [] }))
       added = rw q
 
-  pub kept-refused : (m : ℕ) → faulty m ≡ lineVerdict (progressOf have (soFar s h fs names ends n)) (partIn s at (lineEnd s at)) → rejected m line ≡ judgedFrom 1 beforeHeader (lines s)
+  kept-refused : (m : ℕ) → faulty m ≡ lineVerdict (progressOf have (soFar s h fs names ends n)) (partIn s at (lineEnd s at)) → rejected m line ≡ judgedFrom 1 beforeHeader (lines s)
   kept-refused m e = sym (after-refusal s (progressOf have (soFar s h fs names ends n)) at line l m e) ∙ k .left
 
 -- at the end
@@ -214,14 +203,14 @@ module _ {s : List ℕ} {h : HeaderDesc} {fs : List FieldDesc} {names ends : Lis
   unfolding judgedFrom
   at-the-end = rw (no-line s at l) at (k .left)
 
-  pub no-fields : n ≡ 0 → rejected 2 0 ≡ judgedFrom 1 beforeHeader (lines s)
+  no-fields : n ≡ 0 → rejected 2 0 ≡ judgedFrom 1 beforeHeader (lines s)
   no-fields q = by have (rw q at at-the-end)
     where
       by : (b : Bool) → atEnd (progressOf b (soFar s h fs names ends 0)) ≡ judgedFrom 1 beforeHeader (lines s) → rejected 2 0 ≡ judgedFrom 1 beforeHeader (lines s)
       by true e = e
       by false e = e
 
-  pub some-fields : (n ≡ 0 → ⊥) → described (soFar s h fs names ends n) ≡ judgedFrom 1 beforeHeader (lines s)
+  some-fields : (n ≡ 0 → ⊥) → described (soFar s h fs names ends n) ≡ judgedFrom 1 beforeHeader (lines s)
   some-fields q = by have refl n refl
     where
       by : (b : Bool) → have ≡ b → (m : ℕ) → n ≡ m → described (soFar s h fs names ends n) ≡ judgedFrom 1 beforeHeader (lines s)
@@ -230,45 +219,138 @@ module _ {s : List ℕ} {h : HeaderDesc} {fs : List FieldDesc} {names ends : Lis
       by true e (suc m) z = rw z (rw (e, z) at at-the-end)
 
 -- the whole stanza
-pub judged-lines : (s : List ℕ) → length s ≤ 8192 → judged s ≡ judgedFrom 1 beforeHeader (lines s)
+judged-lines : (s : List ℕ) → length s ≤ 8192 → judged s ≡ judgedFrom 1 beforeHeader (lines s)
 unfolding judged
 judged-lines s h = rw (le-leb (length s) 8192 h)
 
-pub judged-long : (s : List ℕ) → 8192 < length s → judged s ≡ rejected 1 0
+judged-long : (s : List ℕ) → 8192 < length s → judged s ≡ rejected 1 0
 unfolding judged
 judged-long s h = rw (lt-leb (length s) 8192 h)
 
--- a turn of the loop: what the line from `at` to e does
-module _ {s : List ℕ} {h : HeaderDesc} {fs : List FieldDesc} {names ends : List ℕ} {n : ℕ} {have last : Bool} {at line : ℕ} (k : Kept s h fs names ends n have last at line) (l : at < length s)
-    (e : ℕ) (w : e ≡ lineEnd s at) (r : Step) (u : Due s have n r)
-    (g : (d : Description) → Stands s d last names ends n → stepOf s (progressOf have d) r ≡ lineVerdict (progressOf have d) (partIn s at e)) where
-  here : stepOf s (progressOf have (soFar s h fs names ends n)) r ≡ lineVerdict (progressOf have (soFar s h fs names ends n)) (partIn s at (lineEnd s at))
-  here = rw w at (g (soFar s h fs names ends n) (stands k))
-
-  pub turn-skip : r ≡ Skip → Kept s h fs names ends n have last (e + 1) (line + 1)
-  turn-skip q = rw w (kept-skip k l (rw q at here))
-
-  pub turn-head : {x : HeaderDesc} → r ≡ Head x → Kept s x fs names ends n true last (e + 1) (line + 1)
-  turn-head {x} q = rw w (kept-head k l x (subst (Due s have n) q u) (rw q at here))
-
-  pub turn-add : {f : NewField} → r ≡ Add f → (b : Bool) → b ≡ last || tail (kindIn s (f .field .«qualifiers_at») (f .field .«qualifiers_end») (f .field .form))
-      → Kept s h (set fs n (f .field)) (set names n (f .«name_at»)) (set ends n (f .«name_end»)) (n + 1) have b (e + 1) (line + 1)
-  turn-add {f} q b t = let z : Due s have n (Add f) = subst (Due s have n) q u in rw w (kept-add k l f b (z .0) (z .1) (z .2) t (rw q at here))
-
-  pub add-room : {f : NewField} → r ≡ Add f → n < 64
-  add-room {f} q = let z : Due s have n (Add f) = subst (Due s have n) q u in z .0
-
-  pub turn-refuse : {m : ℕ} → r ≡ Refuse m → (1 ≤ m) × (rejected m line ≡ judgedFrom 1 beforeHeader (lines s))
-  turn-refuse {m} q =
-      let z : faulty m ≡ lineVerdict (progressOf have (soFar s h fs names ends n)) (partIn s at (lineEnd s at)) = rw q at here in
-      (fault-number m (progressOf have (soFar s h fs names ends n)) (partIn s at (lineEnd s at)) z, kept-refused k l m z)
-
-pub line-within : (s : List ℕ) (at e : ℕ) → at < length s → e ≡ lineEnd s at → (at ≤ e) × (e ≤ length s)
-line-within s at e h w = (omega arith, rw w (front-within (inClass NotNewline) s at (length s) (omega arith) (omega arith)))
-
 -- an outline of a refusal
-refused-outline : (s : List ℕ) (o : Outline) (number line : ℕ) → (o .number ≡ number) × (o .line ≡ line) → 1 ≤ number → outlineOf s o ≡ rejected number line
-refused-outline s o number line q h = rw (q .0, q .1, ne-eqb number 0 (λ z. omega arith))
+refused-outlined : (s : List ℕ) (o : Outline) (number line : ℕ) → (o .number ≡ number) × (o .line ≡ line) → 1 ≤ number → rejected number line ≡ judged s → Outlined s o
+refused-outlined s o number line q h j = record { judges = rw (q .0, q .1, ne-eqb number 0 (λ z. omega arith)) j; placed = λ z. absurd (omega (arith, q .0)) }
 
-pub refused-outlined : (s : List ℕ) (o : Outline) (number line : ℕ) → (o .number ≡ number) × (o .line ≡ line) → 1 ≤ number → rejected number line ≡ judged s → Outlined s o
-refused-outlined s o number line q h j = record { judges = refused-outline s o number line q h ∙ j; placed = λ z. absurd (omega (arith, q .0)) }
+-- What is told after `line` lines: nothing so far, and how things stand; or a refusal's number and place.
+pub record Judging (s : List ℕ) (h : HeaderDesc) (fs : List FieldDesc) (names ends : List ℕ) (n : ℕ) (have last : Bool) (number place at line : ℕ) : Type 0 where
+  pub within : at ≤ length s + 1
+  pub few : n ≤ 64
+  pub all-fields : length fs ≡ 64
+  pub all-names : length names ≡ 64
+  pub all-ends : length ends ≡ 64
+  pub counted : line ≤ at
+  pub short : number ≡ 0 → length s ≤ 8192
+  pub no-place : number ≡ 0 → place ≡ 0
+  pub kept : number ≡ 0 → Kept s h fs names ends n have last at (line + 1)
+  pub told : 1 ≤ number → rejected number place ≡ judged s
+
+pub judging-start : (s : List ℕ) (h : HeaderDesc) (fs : List FieldDesc) (names ends : List ℕ) → length fs ≡ 64 → length names ≡ 64 → length ends ≡ 64
+    → (r : ℕ) → (length s ≤ 8192 → r ≡ 0) × (8192 < length s → r ≡ 1) → Judging s h fs names ends 0 false false r 0 0 0
+judging-start s h fs names ends a b c r (f, g) = by (decLt 8192 (length s))
+  where
+    by : Dec (8192 < length s) → Judging s h fs names ends 0 false false r 0 0 0
+    by (yes l) = record {
+      within = omega arith;
+      few = omega arith;
+      all-fields = a;
+      all-names = b;
+      all-ends = c;
+      counted = omega arith;
+      short = λ z. absurd (omega (arith, g l));
+      no-place = λ z. refl;
+      kept = λ z. absurd (omega (arith, g l));
+      told = λ z. rw (g l) (sym (judged-long s l));
+    }
+    by (no l) = record {
+      within = omega arith;
+      few = omega arith;
+      all-fields = a;
+      all-names = b;
+      all-ends = c;
+      counted = omega arith;
+      short = λ z. omega arith;
+      no-place = λ z. refl;
+      kept = λ z. kept-start s h fs names ends;
+      told = λ z. absurd (omega (arith, f (omega arith)));
+    }
+
+-- a turn of the loop, at a line that is left
+module _ {s : List ℕ} {h : HeaderDesc} {fs : List FieldDesc} {names ends : List ℕ} {n : ℕ} {have last : Bool} {number place at line : ℕ}
+    (j : Judging s h fs names ends n have last number place at line) (m : (number ≡ 0) × (at < length s)) where
+  pub line-count : line + 1 ≤ 8192
+  line-count = omega (arith, j .short (m .0), j .counted)
+
+  -- the line from `at` to e
+  module _ (e : ℕ) (w : e ≡ lineEnd s at) where
+    pub line-within : (at ≤ e) × (e ≤ length s) × (length s ≤ 8192) × (n ≤ length names) × (n ≤ length ends)
+    line-within =
+        (omega arith, rw w (front-within (inClass NotNewline) s at (length s) (omega (arith, m .1)) (omega arith)), j .short (m .0), omega (arith, j .few, j .all-names), omega (arith, j .few, j .all-ends))
+
+    pub turn-less : length s + 1 - (e + 1) < length s + 1 - at
+    turn-less = omega (arith, line-within .0, m .1)
+
+    -- what it does
+    module _ (r : Step) (u : Due s have n r)
+        (g : (d : Description) → Stands s d last names ends n → stepOf s (progressOf have d) r ≡ lineVerdict (progressOf have d) (partIn s at e)) where
+      here : stepOf s (progressOf have (soFar s h fs names ends n)) r ≡ lineVerdict (progressOf have (soFar s h fs names ends n)) (partIn s at (lineEnd s at))
+      here = rw w at (g (soFar s h fs names ends n) (stands (j .kept (m .0))))
+
+      going : {x : HeaderDesc} {gs : List FieldDesc} {ns es : List ℕ} {k : ℕ} {a b : Bool} → k ≤ 64 → length gs ≡ 64 → length ns ≡ 64 → length es ≡ 64 → Kept s x gs ns es k a b (lineEnd s at + 1) (line + 1 + 1) → Judging s x gs ns es k a b number place (e + 1) (line + 1)
+      going l x y z k = record {
+        within = omega (arith, line-within .1);
+        few = l;
+        all-fields = x;
+        all-names = y;
+        all-ends = z;
+        counted = omega (arith, line-within .0, j .counted);
+        short = j .short;
+        no-place = j .no-place;
+        kept = λ i. rw w k;
+        told = j .told;
+      }
+
+      pub turn-skip : r ≡ Skip → Judging s h fs names ends n have last number place (e + 1) (line + 1)
+      turn-skip q = going (j .few) (j .all-fields) (j .all-names) (j .all-ends) (kept-skip (j .kept (m .0)) (m .1) (rw q at here))
+
+      pub turn-head : {x : HeaderDesc} → r ≡ Head x → Judging s x fs names ends n true last number place (e + 1) (line + 1)
+      turn-head {x} q = going (j .few) (j .all-fields) (j .all-names) (j .all-ends) (kept-head (j .kept (m .0)) (m .1) x (subst (Due s have n) q u) (rw q at here))
+
+      pub add-room : {f : NewField} → r ≡ Add f → n < 64
+      add-room {f} q = let z : Due s have n (Add f) = subst (Due s have n) q u in z .0
+
+      pub turn-add : {f : NewField} → r ≡ Add f → (b : Bool) → b ≡ last || tail (kindIn s (f .field .«qualifiers_at») (f .field .«qualifiers_end») (f .field .form))
+          → Judging s h (set fs n (f .field)) (set names n (f .«name_at»)) (set ends n (f .«name_end»)) (n + 1) have b number place (e + 1) (line + 1)
+      turn-add {f} q b t =
+          let z : Due s have n (Add f) = subst (Due s have n) q u in
+          going (omega (arith, z .0)) (length-set fs n (f .field) ∙ j .all-fields) (length-set names n (f .«name_at») ∙ j .all-names) (length-set ends n (f .«name_end») ∙ j .all-ends)
+          (kept-add (j .kept (m .0)) (m .1) f b (omega (arith, z .0, j .all-fields)) (omega (arith, z .0, j .all-names)) (omega (arith, z .0, j .all-ends)) (z .1) (z .2) t (rw q at here))
+
+      pub turn-refuse : {k : ℕ} → r ≡ Refuse k → Judging s h fs names ends n have last k (line + 1) (e + 1) (line + 1)
+      turn-refuse {k} q =
+          let v : faulty k ≡ lineVerdict (progressOf have (soFar s h fs names ends n)) (partIn s at (lineEnd s at)) = rw q at here in
+          let f = fault-number k (progressOf have (soFar s h fs names ends n)) (partIn s at (lineEnd s at)) v in
+          record {
+            within = omega (arith, line-within .1);
+            few = j .few;
+            all-fields = j .all-fields;
+            all-names = j .all-names;
+            all-ends = j .all-ends;
+            counted = omega (arith, line-within .0, j .counted);
+            short = λ z. absurd (omega (arith, f, z));
+            no-place = λ z. absurd (omega (arith, f, z));
+            kept = λ z. absurd (omega (arith, f, z));
+            told = λ z. kept-refused (j .kept (m .0)) (m .1) k v ∙ sym (judged-lines s (j .short (m .0)));
+          }
+
+-- after the last turn: the outline
+pub judging-end : {s : List ℕ} {h : HeaderDesc} {fs : List FieldDesc} {names ends : List ℕ} {n : ℕ} {have last : Bool} {number place at line : ℕ}
+    → Judging s h fs names ends n have last number place at line → (number ≡ 0 → length s ≤ at) → (r : ℕ) → (1 ≤ number → r ≡ number) × (number ≡ 0 → 1 ≤ n → r ≡ 0) × (number ≡ 0 → n ≡ 0 → r ≡ 2)
+    → Outlined s (record { number = r; line = place; header = h; fields = fs; names = names; ends = ends; count = n })
+judging-end {s} {h} {fs} {names} {ends} {n} {number = number} {place = place} j m r q = by number refl n refl
+  where
+    by : (k : ℕ) → number ≡ k → (i : ℕ) → n ≡ i → Outlined s (record { number = r; line = place; header = h; fields = fs; names = names; ends = ends; count = n })
+    by (suc k) z i y = refused-outlined s _ number place (q .0 (omega arith), refl) (omega arith) (j .told (omega arith))
+    by zero z zero y = refused-outlined s _ 2 0 (q .2 z y, j .no-place z) (omega arith) (no-fields (j .kept z) (m z) y ∙ sym (judged-lines s (j .short z)))
+    by zero z (suc i) y =
+        let e : r ≡ 0 = q .1 z (omega arith) in
+        record { judges = rw e (some-fields (j .kept z) (m z) (λ x. omega arith) ∙ sym (judged-lines s (j .short z))); placed = λ x. j .kept z .placed }

@@ -33,6 +33,15 @@ pub enum Form {
     Time,
 }
 
+// A field of a description: its form, and where its qualifiers and its free text lie.
+pub struct FieldDesc {
+    pub form: Form,
+    pub qualifiers_at: u16,
+    pub qualifiers_end: u16,
+    pub text_at: u16,
+    pub text_end: u16,
+}
+
 // A type: unknown; an integer, which takes symbols; one that takes no qualifier; or R, N, S, X.
 pub enum FieldType {
     NoType,

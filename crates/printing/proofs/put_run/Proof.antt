@@ -3,7 +3,7 @@ use Rattle.printing.specs.Printing.{lead}
 use Rattle.run.proofs.Laws.{all-kinds, no-kind}
 use Rattle.run.specs.Run.{kindFor, kindsFrom}
 use Rattle.writing.proofs.Laws.{Left, left-all, left-none}
-use Rattle.stanza.specs.Stanza.{noField}
+use Rattle.types.specs.Fields.{noField}
 use Rattle.format.specs.Run.{shown, parts, partsOf, textOf}
 use lib.Seq.{slice}
 use lib.ListN.{length, drop, getD}

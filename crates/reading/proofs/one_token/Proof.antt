@@ -11,8 +11,8 @@ use Rattle.reading.proofs.one_token.Reads as reads
 use Rattle.reading.proofs.one_token.Lts as lts
 use Rattle.reading.proofs.before.Reads as before-reads
 use Rattle.reading.proofs.none_left.Reads as none-left-reads
-use Rattle.reading.proofs.value.of_bare.Reads as of-bare-reads
-use Rattle.reading.proofs.value.of_quoted.Reads as of-quoted-reads
+use Rattle.values.proofs.of_bare.Reads as of-bare-reads
+use Rattle.values.proofs.of_quoted.Reads as of-quoted-reads
 use Rattle.tokens.proofs.next_token.Reads as next-token-reads
 
 -- src/lib.rt:77:9

@@ -1,0 +1,74 @@
+// The value of the one token that a field takes, from a to e of the text.
+ghost use Prim.Native.Nat.{ℕ, _^_, _<_, _≤_};
+ghost use mathlib.Core.Path.{_≡_};
+ghost use mathlib.Core.Bool.{true};
+ghost use mathlib.Core.List.{List};
+ghost use lib.ListN.{length};
+ghost use lib.Seq.{slice};
+ghost use Rattle.format.specs.Field.{Symbol};
+ghost use Rattle.format.specs.Token.{bare, quoted};
+ghost use Rattle.format.specs.Name.{isWireName};
+ghost use Rattle.types.specs.Types.{kindOf};
+ghost use Rattle.writing.specs.Writing.{Values};
+ghost use Rattle.run.specs.Run.{kindFor, Usable};
+ghost use Rattle.values.specs.Values.{tokenValue};
+use read_address::address;
+use read_address::eui;
+use read_base::base32;
+use read_base::hex;
+use read_number::integer;
+use read_number::rrtype;
+use types::FieldDesc;
+use types::Form;
+use writing::Value;
+
+// Of a bare token.
+pub fn of_bare(
+    out: &mut [u8],
+    n: usize,
+    d: FieldDesc,
+    s: &[u8],
+    origin: &[u8],
+    t: &[u8],
+    a: usize,
+    e: usize,
+) -> Value
+    requires { ⌜ (n < 2 ^ 30) × Usable (now s) d × (length (now s) ≤ 8192) × (isWireName (now origin) ≡ true) × (a ≤ e) × (e ≤ length (now t)) × (length (now t) ≤ 1048576) ⌝ }
+    ensures { λ r. ⌜ Values (now (out .entry)) (now (out .exit)) n r (tokenValue (kindFor (now (s .entry)) d) (now (origin .entry)) (bare (slice a e (now (t .entry))))) ⌝ }
+{
+    let f = d.form;
+    let i = d.qualifiers_at as usize;
+    let j = d.qualifiers_end as usize;
+    match f {
+        Form::Int(w) => integer::field(out, n, w as usize, s, i, j, t, a, e),
+        Form::Rrtype => rrtype::field(out, n, t, a, e),
+        Form::Bitmap => Value::Fault,
+        Form::Dotted => address::dotted(out, n, t, a, e),
+        Form::Aa => address::four_groups(out, n, t, a, e),
+        Form::Aaaa => address::aaaa(out, n, t, a, e),
+        Form::Name(_) => read_name::name(out, n, t, a, e, origin),
+        Form::Str => text::string(out, n, t, a, e, false),
+        Form::Strs => Value::Fault,
+        Form::Raw => text::raw(out, n, t, a, e, false),
+        Form::Base32 => base32::counted(out, n, t, a, e),
+        Form::Base64 => Value::Fault,
+        Form::Hex => Value::Fault,
+        Form::Hexc => hex::counted(out, n, t, a, e),
+        Form::Eui(w) => eui::field(out, n, w as usize, t, a, e),
+        Form::Time => read_time::field(out, n, t, a, e),
+    }
+}
+
+// Of a quoted token: only strings are.
+pub fn of_quoted(out: &mut [u8], n: usize, f: Form, t: &[u8], a: usize, e: usize) -> Value
+    requires { ⌜ (n < 2 ^ 30) × (a ≤ e) × (e ≤ length (now t)) × (length (now t) ≤ 1048576) ⌝ }
+    ensures { λ r. ⌜ ((l : List Symbol) (o : List ℕ) → Values (now (out .entry)) (now (out .exit)) n r (tokenValue (kindOf l f) o (quoted (slice a e (now (t .entry)))))) ⌝ }
+{
+    if let Form::Str = f {
+        return text::string(out, n, t, a, e, true);
+    }
+    if let Form::Raw = f {
+        return text::raw(out, n, t, a, e, true);
+    }
+    Value::Fault
+}
