@@ -14,11 +14,11 @@ use Rattle.format.specs.Job.{answerLine, fieldCount}
 use Rattle.job_line.proofs.Answers.{Short, reading-short}
 use Rattle.stanza.specs.declared.Outline.{Outline}
 use Rattle.stanza.specs.Stanza.{Outlined}
-use Rattle.extlang.proofs.Laws.{accepted, many}
-use Rattle.extlang.specs.declared.Reply.{Reply}
-use Rattle.extlang.specs.Entries.{Leaves}
-use Rattle.extlang.proofs.Readings.{read-rejected}
-use Rattle.extlang.proofs.Numbers.{read-told, zero-done}
+use Rattle.entry.proofs.Laws.{accepted, many}
+use Rattle.entry.specs.declared.Reply.{Reply}
+use Rattle.entry.specs.Entries.{Leaves}
+use Rattle.read_entry.proofs.Readings.{read-rejected}
+use Rattle.entry.proofs.Numbers.{read-told, zero-done}
 use Rattle.jobs.specs.Answer.{lineUnder}
 
 -- What reading left in a buffer with room for any RDATA is its answer.

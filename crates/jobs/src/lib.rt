@@ -79,7 +79,7 @@ pub fn put_record(
     requires { ⌜ (n < 2 ^ 31) × Outlined (now s) o × (length (now t) ≤ 1048576) × (65535 ≤ length (now rdata)) ⌝ }
     ensures { λ r. ⌜ Wrote (now (out .entry)) (now (out .exit)) n r (lineUnder (now (s .entry)) (now (origin .entry)) (now (t .entry))) ⌝ }
 {
-    let r = extlang::read_judged(s, o, 1, o.count, origin, t, rdata, 0);
+    let r = read_entry::read_judged(s, o, 1, o.count, origin, t, rdata, 0);
     let number = r.number;
     let place = r.place;
     if number == 0 {

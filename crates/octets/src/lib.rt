@@ -1,5 +1,5 @@
 // Octets in a slice: their classes, the longest run of one, decimal numbers, and words.
-ghost use Prim.Native.Nat.{_+_, _-_, _≤_, min};
+ghost use Prim.Native.Nat.{_+_, _-_, _≤_};
 ghost use lib.ListN.{length};
 ghost use lib.Seq.{slice};
 ghost use lib.Dec.{leb};

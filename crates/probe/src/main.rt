@@ -394,7 +394,7 @@ fn put_judged(values: &[u8; 256], word: &mut [u8], out: &mut [u8], taken: usize)
     let stanza = octets(values, word);
     let n = stanza.count;
     if stanza.good {
-        let reply = extlang::judge(&word[0..n]);
+        let reply = entry::judge(&word[0..n]);
         put_reply(out, taken, reply.number, reply.place)
     } else {
         put_unknown(out, taken)
@@ -402,7 +402,7 @@ fn put_judged(values: &[u8; 256], word: &mut [u8], out: &mut [u8], taken: usize)
 }
 
 // Puts the number and the place of a reply, and the octets of its result.
-fn put_result(out: &mut [u8], output: Output, reply: extlang::Reply, octets: &[u8]) -> Output
+fn put_result(out: &mut [u8], output: Output, reply: entry::Reply, octets: &[u8]) -> Output
     requires { ⌜ output .taken + 128 ≤ length (now out) ⌝ }
     ensures { λ r. ⌜ r .taken ≤ length (now (out .entry)) ⌝ }
 {
@@ -435,7 +435,7 @@ fn put_text(
     ensures { λ r. ⌜ r .taken ≤ length (now (out .entry)) ⌝ }
 {
     let most = least(room, text.len());
-    let reply = extlang::print(s, first as usize, many as usize, p, &mut text[0..most], 0);
+    let reply = print_entry::print(s, first as usize, many as usize, p, &mut text[0..most], 0);
     let n = least(reply.place as u64, text.len());
     put_result(out, output, reply, &text[0..n])
 }
@@ -529,7 +529,7 @@ fn put_rdata(
     ensures { λ r. ⌜ r .taken ≤ length (now (out .entry)) ⌝ }
 {
     let most = least(room, text.len());
-    let reply = extlang::read(
+    let reply = read_entry::read(
         s,
         first as usize,
         many as usize,

@@ -47,9 +47,9 @@ pub fn of_bare(
         Form::Aa => address::four_groups(out, n, t, a, e),
         Form::Aaaa => address::aaaa(out, n, t, a, e),
         Form::Name(_) => read_name::name(out, n, t, a, e, origin),
-        Form::Str => text::string(out, n, t, a, e, false),
+        Form::Str => read_text::string(out, n, t, a, e, false),
         Form::Strs => Value::Fault,
-        Form::Raw => text::raw(out, n, t, a, e, false),
+        Form::Raw => read_text::raw(out, n, t, a, e, false),
         Form::Base32 => base32::counted(out, n, t, a, e),
         Form::Base64 => Value::Fault,
         Form::Hex => Value::Fault,
@@ -65,10 +65,10 @@ pub fn of_quoted(out: &mut [u8], n: usize, f: Form, t: &[u8], a: usize, e: usize
     ensures { λ r. ⌜ ((l : List Symbol) (o : List ℕ) → Values (now (out .entry)) (now (out .exit)) n r (tokenValue (kindOf l f) o (quoted (slice a e (now (t .entry)))))) ⌝ }
 {
     if let Form::Str = f {
-        return text::string(out, n, t, a, e, true);
+        return read_text::string(out, n, t, a, e, true);
     }
     if let Form::Raw = f {
-        return text::raw(out, n, t, a, e, true);
+        return read_text::raw(out, n, t, a, e, true);
     }
     Value::Fault
 }

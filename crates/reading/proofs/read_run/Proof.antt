@@ -14,7 +14,7 @@ use Rattle.reading.proofs.read_run.Statement.{statement}
 use Rattle.reading.proofs.read_run.Tie as tie
 use Rattle.reading.proofs.read_run.Reads as reads
 use Rattle.reading.proofs.read_run.Lts as lts
-use Rattle.octets.proofs.least.Reads as least-reads
+use Rattle.writing.proofs.least.Reads as least-reads
 use Rattle.reading.proofs.none_from.Reads as none-from-reads
 use Rattle.reading.proofs.read_field.Reads as read-field-reads
 

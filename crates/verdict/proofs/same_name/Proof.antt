@@ -7,7 +7,7 @@ use Rattle.verdict.proofs.same_name.Tie as tie
 use Rattle.verdict.proofs.same_name.Reads as reads
 use Rattle.verdict.proofs.same_name.Lts as lts
 use Rattle.distinct.proofs.same.Reads as same-reads
-use Rattle.octets.proofs.least.Reads as least-reads
+use Rattle.writing.proofs.least.Reads as least-reads
 
 -- src/lib.rt:181:9
 least-requires : tie.Need-least-requires
