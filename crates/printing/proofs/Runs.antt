@@ -1,15 +1,14 @@
 -- The text of a run, written field by field.
 use Prim.Native.Nat.{ℕ, zero, suc, _+_, _-_, _*_, _≤_, _<_}
 use mathlib.Core.Path.{_≡_, refl, sym, ap, _∙_, subst}
-use mathlib.Core.Bool.{Bool, true, false, _&&_}
 use mathlib.Core.List.{List, [], _∷_, _++_, append-nil}
 use native.Mathlib.Omega.{arith}
-use lib.ListN.{length, take, drop, getD, set, length-append, length-take, length-drop}
+use lib.ListN.{length, take, drop, getD, set, length-drop}
 use lib.Seq.{slice, length-slice, drop-drop}
-use Rattle.format.specs.Octets.{Below, Octets}
+use Rattle.format.specs.Octets.{Octets}
 use Rattle.format.specs.Wire.{took, taken}
 use Rattle.format.specs.Field.{Symbol, Kind, start}
-use Rattle.format.specs.Run.{shown, Parts, refused, parts, withFirst, partsOf, joined, textOfParts, textIn, textOf}
+use Rattle.format.specs.Run.{shown, parts, partsOf, joined, textOfParts, textOf}
 use Rattle.format.proofs.Lists.{below-take, below-drop}
 use Rattle.format.proofs.Wire.{fits, alone}
 use Rattle.format.proofs.Fields.{field-laws}

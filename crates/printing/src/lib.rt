@@ -1,57 +1,15 @@
-// The text of one field, and of a run of fields.
-ghost use Prim.Native.Nat.{ℕ, _-_, _^_, _<_, _≤_, min};
+// The text of a run of fields.
+ghost use Prim.Native.Nat.{_-_, _^_, _<_, _≤_};
 ghost use mathlib.Core.Path.{_≡_};
-ghost use mathlib.Core.List.{List};
 ghost use lib.ListN.{length};
 ghost use lib.Seq.{slice};
 ghost use Rattle.format.specs.Wire.{taken, took};
-ghost use Rattle.format.specs.Field.{Symbol, start};
+ghost use Rattle.format.specs.Field.{start};
 ghost use Rattle.format.specs.Run.{shown, textOf};
 ghost use Rattle.writing.specs.Writing.{Wrote};
-ghost use Rattle.types.specs.Types.{kindOf};
 ghost use Rattle.run.specs.Run.{kindFor, kindsFrom, Usable};
 ghost use Rattle.printing.specs.Printing.{Accepted, lead};
-use print::integer;
-use print::name;
-use print::rrtype;
-use print::text;
 use types::FieldDesc;
-use types::Form;
-use wire::Take;
-
-// The octets of p from i to e as the text of a field, from the start of the buffer on.
-pub fn put_field(out: &mut [u8], d: FieldDesc, s: &[u8], p: &[u8], i: usize, e: usize) -> usize
-    requires { ⌜ Usable (now s) d × (length (now s) ≤ 8192) × (i ≤ e) × (e ≤ length (now p)) × (length (now p) ≤ 65535) × (taken (start (kindFor (now s) d)) (slice i e (now p)) ≡ took (e - i)) ⌝ }
-    ensures { λ r. ⌜ Wrote (now (out .entry)) (now (out .exit)) 0 r (shown (kindFor (now (s .entry)) d) (slice i e (now (p .entry)))) ⌝ }
-{
-    let f = d.form;
-    let a = d.qualifiers_at as usize;
-    let b = d.qualifiers_end as usize;
-    match f {
-        Form::Int(_) => {
-            let v = integer::number(p, i, e);
-            symbols::put_number(out, 0, s, a, b, v)
-        }
-        Form::Rrtype => rrtype::field(out, 0, p, i, e),
-        Form::Bitmap => bitmap::field(out, 0, p, i, e),
-        Form::Dotted => print_address::dotted(out, 0, p, i, e),
-        Form::Aa => print_address::groups(out, 0, p, i, e),
-        Form::Aaaa => print_address::aaaa(out, 0, p, i, e),
-        Form::Name(_) => name::name(out, 0, p, i, e),
-        Form::Str => text::string(out, 0, p, i + 1, e),
-        Form::Strs => text::strings(out, 0, p, i, e),
-        Form::Raw => text::string(out, 0, p, i, e),
-        Form::Base32 => base::base32(out, 0, p, i + 1, e),
-        Form::Base64 => base::base64(out, 0, p, i, e),
-        Form::Hex => put_digits::put_hex_upper(out, 0, &p[i..e]),
-        Form::Hexc => {
-            let j = i + 1;
-            put_digits::put_hex_upper(out, 0, &p[j..e])
-        }
-        Form::Eui(_) => print_eui::field(out, 0, p, i, e),
-        Form::Time => time::field(out, 0, p, i, e),
-    }
-}
 
 // The text of a field after at octets of text: a space comes first, if neither is empty.
 fn put_next(
@@ -67,28 +25,15 @@ fn put_next(
     ensures { λ r. ⌜ Wrote (now (out .entry)) (now (out .exit)) at r (lead at (shown (kindFor (now (s .entry)) d) (slice i e (now (p .entry))))) ⌝ }
 {
     if at == 0 {
-        return put_field(out, d, s, p, i, e);
+        return print_field::put_field(out, d, s, p, i, e);
     }
     let a = writing::least(at + 1, out.len());
-    let w = put_field(&mut out[a..], d, s, p, i, e);
+    let w = print_field::put_field(&mut out[a..], d, s, p, i, e);
     if w == 0 {
         return at;
     }
     writing::put(out, at, 32);
     at + 1 + w
-}
-
-// How many octets a field takes that takes some number of them.
-fn width(f: Form, p: &[u8], i: usize) -> usize
-    requires { ⌜ i ≤ length (now p) ⌝ }
-    ensures { λ r. ⌜ ((l : List Symbol) (w : ℕ) → taken (start (kindOf l f)) (slice i (length (now (p .entry))) (now (p .entry))) ≡ took w → r ≡ w) ⌝ }
-{
-    let t = wire::take_field(f, p, i, p.len());
-    match t {
-        Take::Short => 0,
-        Take::Bad => 0,
-        Take::Took(w) => w,
-    }
 }
 
 // The text of the fields from number first on, so many, of RDATA that they take.
@@ -109,7 +54,7 @@ pub fn put_run(
     while k < many {
         let d = fields[first + k];
         let form = d.form;
-        let e = i + width(form, p, i);
+        let e = i + print_field::width(form, p, i);
         at = put_next(out, at, d, s, p, i, e);
         i = e;
         k = k + 1;

@@ -9,7 +9,7 @@ use Rattle.printing.proofs.put_next.Tie as tie
 use Rattle.printing.proofs.put_next.Reads as reads
 use Rattle.printing.proofs.put_next.Lts as lts
 use Rattle.writing.proofs.least.Reads as least-reads
-use Rattle.printing.proofs.put_field.Reads as put-field-reads
+use Rattle.print_field.proofs.put_field.Reads as put-field-reads
 use Rattle.writing.proofs.put.Reads as put-reads
 
 -- src/lib.rt:64:9

@@ -17,7 +17,7 @@ use Rattle.printing.proofs.put_run.Tie as tie
 use Rattle.printing.proofs.put_run.Reads as reads
 use Rattle.printing.proofs.put_run.Lts as lts
 use Rattle.printing.proofs.put_next.Reads as put-next-reads
-use Rattle.printing.proofs.width.Reads as width-reads
+use Rattle.print_field.proofs.width.Reads as width-reads
 
 abbrev Inv-loop : tie.InvT-loop
 Inv-loop out₀ first many s p fields at₀ i₀ k₀ out at i k = (k ≤ many) × (i ≤ length p) × (at ≤ 4 * i + 655424 * k) × ((ps : List (List ℕ)) × (partsOf (kindsFrom s fields (first + k) (many - k)) (drop i p) ≡ parts ps)) × Left out₀ 0 (textOf (kindsFrom s fields first many) p) out at (lead at (textOf (kindsFrom s fields (first + k) (many - k)) (drop i p)))

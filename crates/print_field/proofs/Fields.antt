@@ -7,7 +7,7 @@ use native.Mathlib.Omega.{arith}
 use native.Mathlib.Decide.{decLt}
 use lib.ListN.{length}
 use lib.Seq.{slice, length-slice}
-use Rattle.format.specs.Wire.{count, labelLength, took, taken, mayEnd}
+use Rattle.format.specs.Wire.{count, labelLength, took, taken}
 use Rattle.format.specs.Field.{anyOctets, start}
 use Rattle.format.proofs.Wire.{at-end, octets-taken}
 use Rattle.octets.proofs.Slices.{none as nothing}

@@ -4,10 +4,10 @@ use mathlib.Core.Path.{_≡_, ap, sym, _∙_}
 use Prim.Native.Nat.{ℕ}
 use native.Mathlib.Omega.{arith}
 use borrow.Author.Needs.{needs}
-use Rattle.printing.proofs.width.Statement.{statement}
-use Rattle.printing.proofs.width.Tie as tie
-use Rattle.printing.proofs.width.Reads as reads
-use Rattle.printing.proofs.width.Lts as lts
+use Rattle.print_field.proofs.width.Statement.{statement}
+use Rattle.print_field.proofs.width.Tie as tie
+use Rattle.print_field.proofs.width.Reads as reads
+use Rattle.print_field.proofs.width.Lts as lts
 use Rattle.wire.proofs.take_field.Reads as take-field-reads
 
 -- src/lib.rt:86:9

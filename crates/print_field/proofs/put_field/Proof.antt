@@ -4,17 +4,17 @@ use Rattle.octets.proofs.Slices.{rest, lent}
 use Rattle.writing.proofs.Laws.{wrote-text}
 use Rattle.format.specs.Hex.{hexText}
 use Rattle.format.specs.Text.{stringText}
-use Rattle.printing.proofs.Fields.{int-wide}
+use Rattle.print_field.proofs.Fields.{int-wide}
 use Rattle.run.proofs.Fields.{symbolsOf, symbols-of, int-four}
 use Rattle.format.specs.Run.{shown}
-use Rattle.printing.proofs.Fields.{octets-wide, counted-some, name-anyhow}
+use Rattle.print_field.proofs.Fields.{octets-wide, counted-some, name-anyhow}
 use mathlib.Core.Path.{_≡_, sym, ap, _∙_}
 use native.Mathlib.Omega.{arith}
 use borrow.Author.Needs.{needs}
-use Rattle.printing.proofs.put_field.Statement.{statement}
-use Rattle.printing.proofs.put_field.Tie as tie
-use Rattle.printing.proofs.put_field.Reads as reads
-use Rattle.printing.proofs.put_field.Lts as lts
+use Rattle.print_field.proofs.put_field.Statement.{statement}
+use Rattle.print_field.proofs.put_field.Tie as tie
+use Rattle.print_field.proofs.put_field.Reads as reads
+use Rattle.print_field.proofs.put_field.Lts as lts
 use Rattle.base.proofs.base32.Reads as base32-reads
 use Rattle.base.proofs.base64.Reads as base64-reads
 use Rattle.bitmap.proofs.field.Reads as field-reads
