@@ -1,76 +1,61 @@
-use lib.ListN.{length}
-use mathlib.Core.Path.{_≡_}
 use Prim.Native.Nat.{_-_, _≤_}
+use mathlib.Core.Path.{_≡_, refl, _∙_}
 use native.Mathlib.Omega.{arith}
+use lib.ListN.{length}
 use borrow.Author.Needs.{needs}
 use Rattle.probe.proofs.answer_lines.Statement.{statement}
 use Rattle.probe.proofs.answer_lines.Tie as tie
-use Rattle.probe.proofs.answer_lines.Reads as reads
-use Rattle.probe.proofs.answer_lines.Lts as lts
-use Rattle.probe.proofs.answer.Reads as answer-reads
-use Rattle.probe.proofs.line_end.Reads as line-end-reads
 
 abbrev Inv-loop : tie.InvT-loop
-Inv-loop values buf₀ kept long text₀ out₀ start₀ skipping₀ output₀ end₀ buf text out start skipping output end = (start ≤ end) × (end ≤ length buf) × (length buf ≡ length buf₀) × (length out ≡ length out₀) × (output .taken ≤ length out) × (length text ≡ length text₀)
+Inv-loop buf₀ kept text₀ out₀ start₀ end₀ buf text out start end = (start ≤ end) × (end ≤ length buf) × (length buf ≡ length buf₀)
 
 abbrev μ-loop : tie.MeasureT-loop
-μ-loop values buf₀ kept long text₀ out₀ start₀ skipping₀ output₀ end₀ buf text out start skipping output end = length buf - end
+μ-loop buf₀ kept text₀ out₀ start₀ end₀ buf text out start end = length buf - end
 
--- src/main.rt:623:9
 line-end-requires : tie.Need-line-end-requires Inv-loop μ-loop
-line-end-requires c κs = search needs
+line-end-requires c κs = c .before .before .pre
 
--- src/main.rt:624:5
 loop-holds : tie.Need-loop-holds Inv-loop μ-loop
-loop-holds c = search needs
+loop-holds c = (omega arith, c .line-end .ensures .1, refl)
 
--- src/main.rt:625:33
 sub-answer : tie.Need-sub-answer Inv-loop μ-loop
 sub-answer c = search needs
 
--- src/main.rt:625:33
 part-answer-start : tie.Need-part-answer-start Inv-loop μ-loop
 part-answer-start c = search needs
 
--- src/main.rt:625:33
 part-answer-end : tie.Need-part-answer-end Inv-loop μ-loop
 part-answer-end c = search needs
 
--- src/main.rt:625:9
 answer-requires : tie.Need-answer-requires Inv-loop μ-loop
 answer-requires c κs = search needs
 
--- src/main.rt:627:17
 add-start : tie.Need-add-start Inv-loop μ-loop
 add-start c = search needs
 
--- src/main.rt:628:9
 line-end-requires-2 : tie.Need-line-end-requires-2 Inv-loop μ-loop
-line-end-requires-2 c κs = search needs
+line-end-requires-2 c κs = omega (arith, c .before .before .before .before .before .before .before .before .loop-test .taken, c .before .before .before .buf .given .1)
 
--- src/main.rt:624:5
 loop-less : tie.Need-loop-less Inv-loop μ-loop
-loop-less c = search needs
+loop-less c = omega (arith, c .line-end2 .ensures, c .before .before .before .before .buf .given .1, c .before .before .before .before .before .before .before .before .before .loop-test .taken)
 
--- src/main.rt:624:5
 loop-again : tie.Need-loop-again Inv-loop μ-loop
-loop-again c = search needs
+loop-again c = (c .line-end2 .ensures .0, c .line-end2 .ensures .1, c .before .before .before .before .buf .given .1 ∙ c .before .before .before .before .before .before .before .before .before .before .loop .inv .2)
 
--- src/main.rt:606:1
 same-length : tie.Need-same-length Inv-loop μ-loop
-same-length c = search needs
+same-length c = c .before .before .buf .given .1 ∙ c .before .before .before .before .before .before .before .before .loop .inv .2
 
--- src/main.rt:606:1
+returns : tie.Need-returns Inv-loop μ-loop
+returns c = search needs
+
+keep-requires : tie.Need-keep-requires Inv-loop μ-loop
+keep-requires c κs = search needs
+
 same-length-2 : tie.Need-same-length-2 Inv-loop μ-loop
 same-length-2 c = search needs
 
--- src/main.rt:606:1
-same-length-3 : tie.Need-same-length-3 Inv-loop μ-loop
-same-length-3 c = search needs
-
--- src/main.rt:606:1
-returns : tie.Need-returns Inv-loop μ-loop
-returns c = search needs
+returns-2 : tie.Need-returns-2 Inv-loop μ-loop
+returns-2 c = search needs
 
 pub answer-lines-spec : {M : Type 1} → statement M
 answer-lines-spec =
@@ -89,6 +74,7 @@ answer-lines-spec =
     loop-less
     loop-again
     same-length
+    returns
+    keep-requires
     same-length-2
-    same-length-3
-    returns)
+    returns-2)

@@ -1,14 +1,13 @@
--- `probe::run` is safe and ends. Invariant: what is kept between two turns is no longer than a line may be. The measure is the number of turns that are left. Assumes nothing.
 use Prim.Native.Nat.{_≤_}
 use borrow.Author.Needs.{needs}
 use Rattle.probe.proofs.run.Statement.{statement}
 use Rattle.probe.proofs.run.Tie as tie
 
 abbrev Inv-loop : tie.InvT-loop
-Inv-loop values buf₀ text₀ out₀ state₀ turns₀ buf text out state turns = state .kept ≤ 2200000
+Inv-loop buf₀ text₀ out₀ state₀ turns₀ buf text out state turns = state .kept ≤ 2200001
 
 abbrev μ-loop : tie.MeasureT-loop
-μ-loop values buf₀ text₀ out₀ state₀ turns₀ buf text out state turns = turns
+μ-loop buf₀ text₀ out₀ state₀ turns₀ buf text out state turns = turns
 
 loop-holds : tie.Need-loop-holds Inv-loop μ-loop
 loop-holds c = search needs

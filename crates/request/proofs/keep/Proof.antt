@@ -1,11 +1,10 @@
--- `probe::move_down` is safe and ends. Invariant: the place lies within what is moved, and the slice stays as long. The measure is how many octets are left. Assumes nothing.
 use mathlib.Core.Path.{_≡_}
 use lib.ListN.{length, length-set}
-use Prim.Native.Nat.{_≤_, _-_}
+use Prim.Native.Nat.{_-_, _≤_}
 use native.Mathlib.Omega.{arith}
 use borrow.Author.Needs.{needs}
-use Rattle.probe.proofs.move_down.Statement.{statement}
-use Rattle.probe.proofs.move_down.Tie as tie
+use Rattle.request.proofs.keep.Statement.{statement}
+use Rattle.request.proofs.keep.Tie as tie
 
 abbrev Inv-loop : tie.InvT-loop
 Inv-loop buf₀ start n i₀ buf i = (i ≤ n) × (length buf ≡ length buf₀)
@@ -13,11 +12,17 @@ Inv-loop buf₀ start n i₀ buf i = (i ≤ n) × (length buf ≡ length buf₀)
 abbrev μ-loop : tie.MeasureT-loop
 μ-loop buf₀ start n i₀ buf i = n - i
 
+sub-least : tie.Need-sub-least Inv-loop μ-loop
+sub-least c = search needs
+
+add-least : tie.Need-add-least Inv-loop μ-loop
+add-least c = search needs
+
+least-requires : tie.Need-least-requires Inv-loop μ-loop
+least-requires c κs = search needs
+
 returns : tie.Need-returns Inv-loop μ-loop
 returns c = search needs
-
-sub-n : tie.Need-sub-n Inv-loop μ-loop
-sub-n c = search needs
 
 loop-holds : tie.Need-loop-holds Inv-loop μ-loop
 loop-holds c = search needs
@@ -46,14 +51,16 @@ same-length c = search needs
 returns-2 : tie.Need-returns-2 Inv-loop μ-loop
 returns-2 c = search needs
 
-pub move-down-spec : {M : Type 1} → statement M
-move-down-spec =
+pub keep-spec : {M : Type 1} → statement M
+keep-spec =
     tie.close
     (tie.spec
     Inv-loop
     μ-loop
+    sub-least
+    add-least
+    least-requires
     returns
-    sub-n
     loop-holds
     add-buf
     slice-read-buf
