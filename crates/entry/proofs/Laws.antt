@@ -1,5 +1,5 @@
 -- What the judged outline answers.
-use Prim.Native.Nat.{ℕ, zero, suc, _≤_, _<_}
+use Prim.Native.Nat.{ℕ, zero, suc, _+_, _*_, _≤_, _<_}
 use mathlib.Core.Path.{_≡_, refl, sym, ap, _∙_}
 use mathlib.Core.Bool.{Bool, true, false, cond}
 use mathlib.Core.List.{List, [], _∷_}
@@ -43,3 +43,7 @@ module _ (s : List ℕ) (o : Outline) (q : outlineOf s o ≡ judged s) where
   pub refused-place : (o .number ≡ 0 → ⊥) → o .line ≡ judge s .place
   unfolding judge
   refused-place h = rw (refused h)
+
+-- an answer in 64 bits
+pub packs : {n a b number place : ℕ} → n ≡ a * 4294967296 + b → a ≡ number → b ≡ place → n ≡ number * 4294967296 + place
+packs e p q = e ∙ rw (p, q)

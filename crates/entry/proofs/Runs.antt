@@ -16,9 +16,10 @@ use Rattle.format.specs.Demands.{tailsLast, soundKind, Sound}
 use Rattle.format.proofs.Lists.{and-left, and-right}
 use Rattle.format.proofs.Judge.{judges}
 use Rattle.format.proofs.Demands.{Fit, run-fit}
-use Rattle.stanza.specs.declared.FieldDesc.{FieldDesc}
+use Rattle.types.specs.declared.FieldDesc.{FieldDesc}
 use Rattle.stanza.specs.declared.Outline.{Outline}
-use Rattle.stanza.specs.Stanza.{noField, descriptionOf, Outlined}
+use Rattle.types.specs.Fields.{noField}
+use Rattle.stanza.specs.Stanza.{descriptionOf, Outlined}
 use Rattle.run.specs.Run.{kindFor, kindsFrom, UsableRun}
 use Rattle.run.proofs.Laws.{kinds-from, kinds-many, kinds-run}
 use Rattle.entry.proofs.Laws.{accepted, accepted-count}

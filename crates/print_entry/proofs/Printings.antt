@@ -21,9 +21,10 @@ use types.Run.{OneOf, miss}
 use Rattle.types.specs.declared.Form.{Form}
 use Rattle.types.specs.declared.Form.the-variants.{Int, Rrtype, Bitmap, Dotted, Aa, Aaaa, Name, Str, Strs, Raw, Base32, Base64, Hex, Hexc, Eui, Time}
 use Rattle.types.specs.Types.{kindOf}
-use Rattle.stanza.specs.declared.FieldDesc.{FieldDesc}
+use Rattle.types.specs.declared.FieldDesc.{FieldDesc}
 use Rattle.stanza.specs.declared.Outline.{Outline}
-use Rattle.stanza.specs.Stanza.{noField, Outlined}
+use Rattle.types.specs.Fields.{noField}
+use Rattle.stanza.specs.Stanza.{Outlined}
 use Rattle.run.specs.Run.{kindFor, kindsFrom}
 use Rattle.run.proofs.Laws.{kinds-many}
 use Rattle.printing.specs.Printing.{Accepted}

@@ -14,7 +14,7 @@ ghost use Rattle.entry.specs.Entries.{Leaves, withRoom, runText};
 ghost use Rattle.print_entry.specs.Needs.{Needs};
 use entry::Reply;
 use run::Checked;
-use stanza::FieldDesc;
+use types::FieldDesc;
 use types::Form;
 
 // Whether the text of so many octets fits the room whatever they are; measuring tells where this does not.

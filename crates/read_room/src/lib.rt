@@ -8,7 +8,7 @@ ghost use Rattle.run.specs.Run.{kindsFrom, UsableRun};
 ghost use Rattle.entry.specs.Entries.{Leaves, withRoom, runOctets, ReadsIn};
 use entry::Reply;
 use reading::Run;
-use stanza::FieldDesc;
+use types::FieldDesc;
 
 // The octets of a text that the run reads, from a place of the buffer on, where there is room: read a second time.
 fn read_again(

@@ -1,5 +1,5 @@
 use Rattle.print_entry.proofs.Printings.{other-form, surely}
-use Rattle.stanza.specs.Stanza.{noField}
+use Rattle.types.specs.Fields.{noField}
 use Rattle.types.specs.Types.{intWidth, symbolsIn, orNone}
 use lib.ListN.{getD, length}
 use Prim.Native.Nat.{_+_, _-_, _*_, _≤_}
