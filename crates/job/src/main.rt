@@ -1,6 +1,6 @@
 // The program: reads a job from standard input, and writes the line that answers each of its records.
+ghost use Prim.Native.Nat.{_≤_};
 ghost use lib.ListN.{length};
-ghost use mathlib.Core.Path.{_≡_};
 use libc::STDIN_FILENO;
 use libc::STDOUT_FILENO;
 
@@ -10,17 +10,21 @@ const LONGEST: usize = 65536;
 // Twice the longest line, so that a turn writes at least half of it.
 const ROOM: usize = 262148;
 
-// Writes turn after turn, unless a write fails.
-fn answer(j: &[u8], out: &mut [u8])
-    requires { ⌜ length (now out) ≡ 262148 ⌝ }
+// Writes the first n octets, and answers whether that went well.
+fn write(out: &[u8], n: usize) -> bool
+    requires { ⌜ n ≤ length (now out) ⌝ }
 {
+    io::write_all(STDOUT_FILENO, &out[0..n])
+}
+
+// Writes turn after turn, unless a write fails.
+fn answer(j: &[u8], out: &mut [u8; ROOM]) {
     let job = jobs::begin(j);
     let mut at = job.places.records;
     let mut more = true;
     while more {
         let turn = jobs::next(out, j, job, at);
-        let taken = turn.taken;
-        if io::write_all(STDOUT_FILENO, &out[0..taken]) {
+        if write(out, turn.taken) {
             more = turn.more;
             at = turn.at;
         } else {
@@ -29,9 +33,20 @@ fn answer(j: &[u8], out: &mut [u8])
     }
 }
 
+// Answers the job that the first n octets are.
+fn answer_first(input: &[u8], n: usize, out: &mut [u8; ROOM])
+    requires { ⌜ n ≤ length (now input) ⌝ }
+{
+    answer(&input[0..n], out);
+}
+
+fn run(input: &mut [u8; LONGEST], out: &mut [u8; ROOM]) {
+    let n = io::read_full(STDIN_FILENO, input);
+    answer_first(input, n, out);
+}
+
 fn main() {
     let mut input = [0u8; LONGEST];
     let mut out = [0u8; ROOM];
-    let n = io::read_full(STDIN_FILENO, &mut input);
-    answer(&input[0..n], &mut out);
+    run(&mut input, &mut out);
 }

@@ -9,8 +9,7 @@
 // the program job writes for a JOB on its standard input. Octets are in hex of
 // either case, '-' for none, and numbers decimal, of at most 64 bits; one space parts two words. A line
 // that is no request, or has more than 2,200,000 octets, answers '?'. The last line may lack its LF.
-ghost use mathlib.Core.Path.{_≡_};
-ghost use Prim.Native.Nat.{_≤_};
+ghost use Prim.Native.Nat.{_+_, _≤_};
 ghost use lib.ListN.{length};
 ghost use Rattle.request.specs.Request.{Within};
 use libc::STDIN_FILENO;
@@ -101,24 +100,44 @@ fn write(out: &[u8], n: usize) -> bool
     io::write_all(STDOUT_FILENO, &out[0..n])
 }
 
-// Writes the turns of a job, '-' where they write nothing, and an LF, unless a write fails.
-fn write_turns(j: &[u8], out: &mut [u8; ROOM]) -> bool {
-    let mut lines = [0u8; LINES];
+// Writes the first n octets of a turn in hex, '-' for none.
+fn write_octets(lines: &[u8], n: usize, out: &mut [u8; ROOM]) -> bool
+    requires { ⌜ (n ≤ length (now lines)) × (length (now lines) ≤ 1048576) ⌝ }
+{
+    let end = request::put_octets(out, 0, &lines[0..n]);
+    write(out, end)
+}
+
+// Writes the turns of a job, unless a write fails.
+fn write_turns(j: &[u8], lines: &mut [u8], out: &mut [u8; ROOM]) -> bool
+    requires { ⌜ (131074 ≤ length (now lines)) × (length (now lines) ≤ 1048576) ⌝ }
+{
     let job = jobs::begin(j);
     let mut at = job.places.records;
     let mut more = true;
     while more {
-        let turn = jobs::next(&mut lines, j, job, at);
-        let taken = turn.taken;
-        let n = request::put_octets(out, 0, &lines[0..taken]);
-        if write(out, n) {
+        let turn = jobs::next(lines, j, job, at);
+        if write_octets(lines, turn.taken, out) {
             more = turn.more;
             at = turn.at;
         } else {
             return false;
         }
     }
-    io::write_all(STDOUT_FILENO, b"\n")
+    true
+}
+
+// Writes the turns of a job and an LF.
+fn write_job(line: &[u8], q: Request, text: &mut [u8], out: &mut [u8; ROOM]) -> bool
+    requires { ⌜ Within (length (now line)) q × (262148 ≤ length (now text)) ⌝ }
+{
+    let a = q.stanza.from;
+    let b = q.stanza.to;
+    let n = writing::least(LINES, text.len());
+    if write_turns(&line[a..b], &mut text[0..n], out) {
+        return io::write_all(STDOUT_FILENO, b"\n");
+    }
+    false
 }
 
 // Puts the answer to a request but a job.
@@ -142,9 +161,7 @@ fn put_answer(line: &[u8], q: Request, text: &mut [u8; TEXT], out: &mut [u8; ROO
 fn answer(line: &mut [u8], text: &mut [u8; TEXT], out: &mut [u8; ROOM]) -> bool {
     let q = request::read(line);
     if q.letter == b'W' {
-        let a = q.stanza.from;
-        let b = q.stanza.to;
-        return write_turns(&line[a..b], out);
+        return write_job(line, q, text, out);
     }
     let n = put_answer(line, q, text, out);
     write(out, n)
@@ -187,14 +204,22 @@ fn finish(line: &mut [u8], text: &mut [u8; TEXT], out: &mut [u8; ROOM]) -> State
     }
 }
 
+// Reads once, after the octets that are kept, and answers how many came.
+fn read_on(buf: &mut [u8], kept: usize) -> usize
+    requires { ⌜ (kept ≤ 2200001) × (2265537 ≤ length (now buf)) ⌝ }
+    ensures { λ r. ⌜ kept + r ≤ length (now (buf .entry)) ⌝ }
+{
+    let most = kept + PIECE;
+    let got = libc::read(STDIN_FILENO, &mut buf[kept..most]);
+    io::count(got, &buf[kept..most])
+}
+
 // Reads once, and answers the lines that are whole by then.
 fn turn(buf: &mut [u8], kept: usize, text: &mut [u8; TEXT], out: &mut [u8; ROOM]) -> State
     requires { ⌜ (kept ≤ 2200001) × (2265537 ≤ length (now buf)) ⌝ }
     ensures { λ r. ⌜ r .kept ≤ 2200001 ⌝ }
 {
-    let most = kept + PIECE;
-    let got = libc::read(STDIN_FILENO, &mut buf[kept..most]);
-    let n = io::count(got, &buf[kept..most]);
+    let n = read_on(buf, kept);
     if n == 0 {
         return finish(&mut buf[0..kept], text, out);
     }
