@@ -5,7 +5,7 @@ use mathlib.Core.Bool.{Bool, true, false, not, cond, _||_, true≢false}
 use mathlib.Core.List.{List, [], _∷_, _++_}
 use native.Mathlib.Omega.{arith}
 use native.Mathlib.Numerals.{add-one}
-use native.Mathlib.Decide.{decLt}
+use native.Mathlib.Decide.{decLt, decLe}
 use lib.ListN.{length, getD, set, length-set}
 use lib.Seq.{getD-set-same, getD-set-other}
 use lib.Dec.{leb}
@@ -231,89 +231,100 @@ judged-long s h = rw (lt-leb (length s) 8192 h)
 refused-outlined : (s : List ℕ) (o : Outline) (number line : ℕ) → (o .number ≡ number) × (o .line ≡ line) → 1 ≤ number → rejected number line ≡ judged s → Outlined s o
 refused-outlined s o number line q h j = record { judges = rw (q .0, q .1, ne-eqb number 0 (λ z. omega arith)) j; placed = λ z. absurd (omega (arith, q .0)) }
 
--- What is told after `line` lines: nothing so far, and how things stand; or a refusal's number and place.
+-- What is told after `line` lines: nothing so far, and how things stand; or a refusal's number and place, and no line is left.
 pub record Judging (s : List ℕ) (h : HeaderDesc) (fs : List FieldDesc) (names ends : List ℕ) (n : ℕ) (have last : Bool) (number place at line : ℕ) : Type 0 where
   pub within : at ≤ length s + 1
   pub few : n ≤ 64
+  pub counted : line ≤ at
   pub all-fields : length fs ≡ 64
   pub all-names : length names ≡ 64
   pub all-ends : length ends ≡ 64
-  pub counted : line ≤ at
   pub short : number ≡ 0 → length s ≤ 8192
   pub no-place : number ≡ 0 → place ≡ 0
   pub kept : number ≡ 0 → Kept s h fs names ends n have last at (line + 1)
-  pub told : 1 ≤ number → rejected number place ≡ judged s
+  pub told : 1 ≤ number → (rejected number place ≡ judged s) × (length s ≤ at)
 
 pub judging-start : (s : List ℕ) (h : HeaderDesc) (fs : List FieldDesc) (names ends : List ℕ) → length fs ≡ 64 → length names ≡ 64 → length ends ≡ 64
-    → (r : ℕ) → (length s ≤ 8192 → r ≡ 0) × (8192 < length s → r ≡ 1) → Judging s h fs names ends 0 false false r 0 0 0
-judging-start s h fs names ends a b c r (f, g) = by (decLt 8192 (length s))
+    → (r : ℕ) → (length s ≤ 8192 → r ≡ 0) × (8192 < length s → r ≡ 1) → (a : ℕ) → (r ≡ 0 → a ≡ 0) × (1 ≤ r → a ≡ length s) → Judging s h fs names ends 0 false false r 0 a 0
+judging-start s h fs names ends x y z r (f, g) a (p, q) = by (decLt 8192 (length s))
   where
-    by : Dec (8192 < length s) → Judging s h fs names ends 0 false false r 0 0 0
+    by : Dec (8192 < length s) → Judging s h fs names ends 0 false false r 0 a 0
     by (yes l) = record {
-      within = omega arith;
+      within = omega (arith, q (omega (arith, g l)));
       few = omega arith;
-      all-fields = a;
-      all-names = b;
-      all-ends = c;
       counted = omega arith;
-      short = λ z. absurd (omega (arith, g l));
-      no-place = λ z. refl;
-      kept = λ z. absurd (omega (arith, g l));
-      told = λ z. rw (g l) (sym (judged-long s l));
+      all-fields = x;
+      all-names = y;
+      all-ends = z;
+      short = λ e. absurd (omega (arith, g l));
+      no-place = λ e. refl;
+      kept = λ e. absurd (omega (arith, g l));
+      told = λ e. (rw (g l) (sym (judged-long s l)), omega (arith, q e));
     }
     by (no l) = record {
-      within = omega arith;
+      within = omega (arith, p (f (omega arith)));
       few = omega arith;
-      all-fields = a;
-      all-names = b;
-      all-ends = c;
       counted = omega arith;
-      short = λ z. omega arith;
-      no-place = λ z. refl;
-      kept = λ z. kept-start s h fs names ends;
-      told = λ z. absurd (omega (arith, f (omega arith)));
+      all-fields = x;
+      all-names = y;
+      all-ends = z;
+      short = λ e. omega arith;
+      no-place = λ e. refl;
+      kept = λ e. rw (p e) (kept-start s h fs names ends);
+      told = λ e. absurd (omega (arith, f (omega arith)));
     }
 
 -- a turn of the loop, at a line that is left
 module _ {s : List ℕ} {h : HeaderDesc} {fs : List FieldDesc} {names ends : List ℕ} {n : ℕ} {have last : Bool} {number place at line : ℕ}
-    (j : Judging s h fs names ends n have last number place at line) (m : (number ≡ 0) × (at < length s)) where
+    (j : Judging s h fs names ends n have last number place at line) (m : at < length s) where
+  nothing : number ≡ 0
+  nothing = by (decLe 1 number)
+    where
+      by : Dec (1 ≤ number) → number ≡ 0
+      by (yes l) = absurd (omega (arith, j .told l .1))
+      by (no l) = omega arith
+
+  so : Kept s h fs names ends n have last at (line + 1)
+  so = j .kept nothing
+
   pub line-count : line + 1 ≤ 8192
-  line-count = omega (arith, j .short (m .0), j .counted)
+  line-count = omega (arith, j .short nothing, j .counted)
 
   -- the line from `at` to e
   module _ (e : ℕ) (w : e ≡ lineEnd s at) where
     pub line-within : (at ≤ e) × (e ≤ length s) × (length s ≤ 8192) × (n ≤ length names) × (n ≤ length ends)
     line-within =
-        (omega arith, rw w (front-within (inClass NotNewline) s at (length s) (omega (arith, m .1)) (omega arith)), j .short (m .0), omega (arith, j .few, j .all-names), omega (arith, j .few, j .all-ends))
+        (omega arith, rw w (front-within (inClass NotNewline) s at (length s) (omega arith) (omega arith)), j .short nothing, omega (arith, j .few, j .all-names), omega (arith, j .few, j .all-ends))
 
     pub turn-less : length s + 1 - (e + 1) < length s + 1 - at
-    turn-less = omega (arith, line-within .0, m .1)
+    turn-less = omega (arith, line-within .0)
 
     -- what it does
     module _ (r : Step) (u : Due s have n r)
         (g : (d : Description) → Stands s d last names ends n → stepOf s (progressOf have d) r ≡ lineVerdict (progressOf have d) (partIn s at e)) where
       here : stepOf s (progressOf have (soFar s h fs names ends n)) r ≡ lineVerdict (progressOf have (soFar s h fs names ends n)) (partIn s at (lineEnd s at))
-      here = rw w at (g (soFar s h fs names ends n) (stands (j .kept (m .0))))
+      here = rw w at (g (soFar s h fs names ends n) (stands so))
 
-      going : {x : HeaderDesc} {gs : List FieldDesc} {ns es : List ℕ} {k : ℕ} {a b : Bool} → k ≤ 64 → length gs ≡ 64 → length ns ≡ 64 → length es ≡ 64 → Kept s x gs ns es k a b (lineEnd s at + 1) (line + 1 + 1) → Judging s x gs ns es k a b number place (e + 1) (line + 1)
+      going : {x : HeaderDesc} {gs : List FieldDesc} {ns es : List ℕ} {k : ℕ} {a b : Bool} → k ≤ 64 → length gs ≡ 64 → length ns ≡ 64 → length es ≡ 64 → Kept s x gs ns es k a b (lineEnd s at + 1) (line + 1 + 1)
+          → Judging s x gs ns es k a b number place (e + 1) (line + 1)
       going l x y z k = record {
         within = omega (arith, line-within .1);
         few = l;
+        counted = omega (arith, line-within .0, j .counted);
         all-fields = x;
         all-names = y;
         all-ends = z;
-        counted = omega (arith, line-within .0, j .counted);
         short = j .short;
         no-place = j .no-place;
         kept = λ i. rw w k;
-        told = j .told;
+        told = λ i. absurd (omega (arith, nothing));
       }
 
       pub turn-skip : r ≡ Skip → Judging s h fs names ends n have last number place (e + 1) (line + 1)
-      turn-skip q = going (j .few) (j .all-fields) (j .all-names) (j .all-ends) (kept-skip (j .kept (m .0)) (m .1) (rw q at here))
+      turn-skip q = going (j .few) (j .all-fields) (j .all-names) (j .all-ends) (kept-skip so m (rw q at here))
 
       pub turn-head : {x : HeaderDesc} → r ≡ Head x → Judging s x fs names ends n true last number place (e + 1) (line + 1)
-      turn-head {x} q = going (j .few) (j .all-fields) (j .all-names) (j .all-ends) (kept-head (j .kept (m .0)) (m .1) x (subst (Due s have n) q u) (rw q at here))
+      turn-head {x} q = going (j .few) (j .all-fields) (j .all-names) (j .all-ends) (kept-head so m x (subst (Due s have n) q u) (rw q at here))
 
       pub add-room : {f : NewField} → r ≡ Add f → n < 64
       add-room {f} q = let z : Due s have n (Add f) = subst (Due s have n) q u in z .0
@@ -323,34 +334,34 @@ module _ {s : List ℕ} {h : HeaderDesc} {fs : List FieldDesc} {names ends : Lis
       turn-add {f} q b t =
           let z : Due s have n (Add f) = subst (Due s have n) q u in
           going (omega (arith, z .0)) (length-set fs n (f .field) ∙ j .all-fields) (length-set names n (f .«name_at») ∙ j .all-names) (length-set ends n (f .«name_end») ∙ j .all-ends)
-          (kept-add (j .kept (m .0)) (m .1) f b (omega (arith, z .0, j .all-fields)) (omega (arith, z .0, j .all-names)) (omega (arith, z .0, j .all-ends)) (z .1) (z .2) t (rw q at here))
+          (kept-add so m f b (omega (arith, z .0, j .all-fields)) (omega (arith, z .0, j .all-names)) (omega (arith, z .0, j .all-ends)) (z .1) (z .2) t (rw q at here))
 
-      pub turn-refuse : {k : ℕ} → r ≡ Refuse k → Judging s h fs names ends n have last k (line + 1) (e + 1) (line + 1)
+      pub turn-refuse : {k : ℕ} → r ≡ Refuse k → Judging s h fs names ends n have last k (line + 1) (length s) (line + 1)
       turn-refuse {k} q =
           let v : faulty k ≡ lineVerdict (progressOf have (soFar s h fs names ends n)) (partIn s at (lineEnd s at)) = rw q at here in
           let f = fault-number k (progressOf have (soFar s h fs names ends n)) (partIn s at (lineEnd s at)) v in
           record {
-            within = omega (arith, line-within .1);
+            within = omega arith;
             few = j .few;
+            counted = omega (arith, j .counted);
             all-fields = j .all-fields;
             all-names = j .all-names;
             all-ends = j .all-ends;
-            counted = omega (arith, line-within .0, j .counted);
             short = λ z. absurd (omega (arith, f, z));
             no-place = λ z. absurd (omega (arith, f, z));
             kept = λ z. absurd (omega (arith, f, z));
-            told = λ z. kept-refused (j .kept (m .0)) (m .1) k v ∙ sym (judged-lines s (j .short (m .0)));
+            told = λ z. (kept-refused so m k v ∙ sym (judged-lines s (j .short nothing)), omega arith);
           }
 
 -- after the last turn: the outline
 pub judging-end : {s : List ℕ} {h : HeaderDesc} {fs : List FieldDesc} {names ends : List ℕ} {n : ℕ} {have last : Bool} {number place at line : ℕ}
-    → Judging s h fs names ends n have last number place at line → (number ≡ 0 → length s ≤ at) → (r : ℕ) → (1 ≤ number → r ≡ number) × (number ≡ 0 → 1 ≤ n → r ≡ 0) × (number ≡ 0 → n ≡ 0 → r ≡ 2)
+    → Judging s h fs names ends n have last number place at line → length s ≤ at → (r : ℕ) → (1 ≤ number → r ≡ number) × (number ≡ 0 → 1 ≤ n → r ≡ 0) × (number ≡ 0 → n ≡ 0 → r ≡ 2)
     → Outlined s (record { number = r; line = place; header = h; fields = fs; names = names; ends = ends; count = n })
 judging-end {s} {h} {fs} {names} {ends} {n} {number = number} {place = place} j m r q = by number refl n refl
   where
     by : (k : ℕ) → number ≡ k → (i : ℕ) → n ≡ i → Outlined s (record { number = r; line = place; header = h; fields = fs; names = names; ends = ends; count = n })
-    by (suc k) z i y = refused-outlined s _ number place (q .0 (omega arith), refl) (omega arith) (j .told (omega arith))
-    by zero z zero y = refused-outlined s _ 2 0 (q .2 z y, j .no-place z) (omega arith) (no-fields (j .kept z) (m z) y ∙ sym (judged-lines s (j .short z)))
+    by (suc k) z i y = refused-outlined s _ number place (q .0 (omega arith), refl) (omega arith) (j .told (omega arith) .0)
+    by zero z zero y = refused-outlined s _ 2 0 (q .2 z y, j .no-place z) (omega arith) (no-fields (j .kept z) m y ∙ sym (judged-lines s (j .short z)))
     by zero z (suc i) y =
         let e : r ≡ 0 = q .1 z (omega arith) in
-        record { judges = rw e (some-fields (j .kept z) (m z) (λ x. omega arith) ∙ sym (judged-lines s (j .short z))); placed = λ x. j .kept z .placed }
+        record { judges = rw e (some-fields (j .kept z) m (λ x. omega arith) ∙ sym (judged-lines s (j .short z))); placed = λ x. j .kept z .placed }

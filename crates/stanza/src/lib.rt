@@ -1,7 +1,6 @@
 // The judge of a stanza, and the description that it finds.
 ghost use Prim.Native.Nat.{_≤_, _<_};
 ghost use mathlib.Core.Path.{_≡_};
-ghost use mathlib.Core.Bool.{true, false};
 ghost use Rattle.stanza.specs.Stanza.{Outlined};
 use types::FieldDesc;
 use types::Form;
@@ -48,14 +47,11 @@ fn at_start(n: usize) -> u8
     if 8192 < n { 1 } else { 0 }
 }
 
-// Whether the line at `at` is to be judged: nothing is refused, and it lies before n.
-fn goes_on(number: u8, at: usize, n: usize) -> bool
-    ensures { λ r. ⌜ (r ≡ true → (number ≡ 0) × (at < n)) × (r ≡ false → number ≡ 0 → n ≤ at) ⌝ }
+// Where the first line of n octets is; the end, if they are refused already.
+fn first_line(number: u8, n: usize) -> usize
+    ensures { λ r. ⌜ (number ≡ 0 → r ≡ 0) × (1 ≤ number → r ≡ n) ⌝ }
 {
-    if number == 0 {
-        return at < n;
-    }
-    false
+    if number == 0 { 0 } else { n }
 }
 
 // What is told after the lines, of which n were fields: a stanza without any is refused.
@@ -84,9 +80,9 @@ pub fn judged_outline(s: &[u8]) -> Outline
     let mut last = false;
     let mut number = at_start(s.len());
     let mut place: u16 = 0;
-    let mut at = 0;
+    let mut at = first_line(number, s.len());
     let mut line: u16 = 0;
-    while goes_on(number, at, s.len()) {
+    while at < s.len() {
         line = line + 1;
         let e = octets::line_end(s, at);
         let step = verdict::line_step(s, at, e, have, last, &names, &ends, n);
@@ -96,6 +92,8 @@ pub fn judged_outline(s: &[u8]) -> Outline
             Step::Refuse(k) => {
                 number = k;
                 place = line;
+                // no line after it is judged
+                at = s.len();
             }
             Step::Head(h) => {
                 header = h;
