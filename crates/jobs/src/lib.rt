@@ -3,10 +3,11 @@ ghost use Prim.Native.Nat.{_^_, _≤_, _<_};
 ghost use mathlib.Core.Path.{_≡_};
 ghost use mathlib.Core.Bool.{true};
 ghost use lib.ListN.{length};
+ghost use lib.Seq.{slice};
 ghost use Rattle.stanza.specs.Stanza.{Outlined};
 ghost use Rattle.writing.specs.Writing.{Wrote};
 ghost use Rattle.jobs.specs.Answer.{lineUnder};
-ghost use Rattle.jobs.specs.Job.{Begins, Turns};
+ghost use Rattle.jobs.specs.Job.{Begins, lineOf, Turns};
 use job_form::form::Form;
 use job_form::form::Places;
 use job_form::form::read_form;
@@ -15,6 +16,9 @@ use job_line::put_bad_job;
 use job_line::put_no;
 use job_line::put_ok;
 use stanza::Outline;
+
+// The longest RDATA.
+const RDATA: usize = 65535;
 
 // A job: whether it keeps the form, its places, its origin, and its judged stanza.
 pub struct Job {
@@ -89,17 +93,40 @@ pub fn put_record(
     put_no(out, n, number, place)
 }
 
-// The lines of the records from a place on, while there is room for the longest.
-fn put_lines(out: &mut [u8], j: &[u8], job: Job, at: usize) -> Turn
-    requires { ⌜ Begins (now j) job × (job .good ≡ true) × (131074 ≤ length (now out)) × (length (now out) ≤ 1048576) ⌝ }
-    ensures { λ r. ⌜ Turns (now (j .entry)) job at (now (out .entry)) (now (out .exit)) r ⌝ }
+// The line of the record that stands from m to e.
+fn put_next(
+    out: &mut [u8],
+    n: usize,
+    j: &[u8],
+    job: Job,
+    m: usize,
+    e: usize,
+    rdata: &mut [u8],
+) -> usize
+    requires { ⌜ (n < 2 ^ 31) × Begins (now j) job × (job .good ≡ true) × (m ≤ e) × (e ≤ length (now j)) × (65535 ≤ length (now rdata)) ⌝ }
+    ensures { λ r. ⌜ Wrote (now (out .entry)) (now (out .exit)) n r (lineOf (now (j .entry)) job (slice m e (now (j .entry)))) ⌝ }
 {
     let origin = job.origin;
     let outline = job.outline;
     let from = job.places.from;
     let to = job.places.to;
     let end = job.places.origin;
-    let mut rdata = [0u8; 65535];
+    put_record(
+        out,
+        n,
+        &j[from..to],
+        outline,
+        &origin[0..end],
+        &j[m..e],
+        rdata,
+    )
+}
+
+// The lines of the records from a place on, while there is room for the longest.
+fn put_lines(out: &mut [u8], j: &[u8], job: Job, at: usize, rdata: &mut [u8; RDATA]) -> Turn
+    requires { ⌜ Begins (now j) job × (job .good ≡ true) × (131074 ≤ length (now out)) × (length (now out) ≤ 1048576) ⌝ }
+    ensures { λ r. ⌜ Turns (now (j .entry)) job at (now (out .entry)) (now (out .exit)) r ⌝ }
+{
     let mut m = at;
     let mut n = 0;
     while m < j.len() {
@@ -111,15 +138,7 @@ fn put_lines(out: &mut [u8], j: &[u8], job: Job, at: usize) -> Turn
             };
         }
         let e = line_end(j, m);
-        n = put_record(
-            out,
-            n,
-            &j[from..to],
-            outline,
-            &origin[0..end],
-            &j[m..e],
-            &mut rdata,
-        );
+        n = put_next(out, n, j, job, m, e, rdata);
         m = e + 1;
     }
     Turn {
@@ -135,7 +154,8 @@ pub fn next(out: &mut [u8], j: &[u8], job: Job, at: usize) -> Turn
     ensures { λ r. ⌜ Turns (now (j .entry)) job at (now (out .entry)) (now (out .exit)) r ⌝ }
 {
     if job.good {
-        return put_lines(out, j, job, at);
+        let mut rdata = [0u8; RDATA];
+        return put_lines(out, j, job, at, &mut rdata);
     }
     let n = put_bad_job(out, 0);
     Turn {
