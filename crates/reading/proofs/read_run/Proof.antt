@@ -1,5 +1,5 @@
 use mathlib.Core.Path.{_≡_, sym, ap, subst, _∙_}
-use mathlib.Core.List.{List, []}
+use mathlib.Core.List.{List, [], _++_}
 use Prim.Native.Nat.{ℕ, _+_, _-_, _≤_}
 use lib.ListN.{length, drop, getD}
 use Rattle.format.specs.Token.{tokens}
@@ -102,7 +102,7 @@ loop-less c = search needs
 
 -- src/lib.rt:203:5
 loop-again : tie.Need-loop-again Inv-loop μ-loop
-loop-again c = let g = rw (c .before .before .r .given .1) at (c .before .before .before .before .before .before .read-field .ensures) in (search needs, g .3, omega (arith, c .least .ensures), search needs, (_, stands-next _ (c .before .before .before .before .before .before .before .before .before .before .loop .inv .4 .1) (g .2) (c .least .ensures), ahead-got _ (c .before .before .before .before .before .before .before .before .before .before .loop .inv .4 .2) _ _ (next-kind (c .before .before .before .before .before .before .before .before .before .before .before .before .before .before .before .args .s .now) (c .before .before .before .before .before .before .before .before .before .before .before .before .before .before .before .args .t2) (c .before .before .before .before .before .before .before .before .before .before .before .before .before .before .before .args .first) (c .before .before .before .before .before .before .before .before .before .before .before .before .before .before .before .args .many) (c .before .before .before .before .before .before .before .before .before .before .loop .k) (c .before .before .before .before .before .before .before .before .before .loop-test .taken)) _ _ (g .1)))
+loop-again c = let g = rw (c .before .before .r .given .1) at (c .before .before .before .before .before .before .read-field .ensures) in (search needs, g .3, omega (arith, c .least .ensures), search needs, (c .before .before .before .before .before .before .before .before .before .before .loop .inv .4 .0 ++ g .0, stands-next {p = g .0} _ (c .before .before .before .before .before .before .before .before .before .before .loop .inv .4 .1) (g .2) (c .least .ensures), ahead-got _ (c .before .before .before .before .before .before .before .before .before .before .loop .inv .4 .2) _ _ (next-kind (c .before .before .before .before .before .before .before .before .before .before .before .before .before .before .before .args .s .now) (c .before .before .before .before .before .before .before .before .before .before .before .before .before .before .before .args .t2) (c .before .before .before .before .before .before .before .before .before .before .before .before .before .before .before .args .first) (c .before .before .before .before .before .before .before .before .before .before .before .before .before .before .before .args .many) (c .before .before .before .before .before .before .before .before .before .before .loop .k) (c .before .before .before .before .before .before .before .before .before .loop-test .taken)) (g .0) _ (g .1)))
 
 -- src/lib.rt:220:8
 none-from-requires : tie.Need-none-from-requires Inv-loop μ-loop

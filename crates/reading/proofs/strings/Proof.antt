@@ -67,7 +67,7 @@ loop-less c = let g = rw (c .before .r .given .1) at (c .before .before .before 
 
 -- src/lib.rt:107:5
 loop-again : tie.Need-loop-again Inv-loop μ-loop
-loop-again c = let g = rw (c .before .r .given .1) at (c .before .before .before .before .before .string .ensures) in let s = next-string (tokens (drop (c .before .before .before .before .before .before .before .loop .j) (c .before .before .before .before .before .before .before .before .before .before .args .t .now))) _ _ (g .0 .1) in (omega (arith, c .before .before .before .before .before .before .before .loop .inv .0, g .0 .2 .count), omega (arith, c .before .before .before .before .before .before .before .loop .inv .1, g .1), g .0 .3, omega (arith, c .before .before .before .before .before .before .before .loop .inv .3, c .before .before .before .before .before .before .before .loop .inv .1, g .0 .2 .count, s .most, g .1), before-next (c .before .before .before .before .before .before .before .loop .inv .4) (c .before .before .before .before .before .before .before .loop .inv .0) _ _ _ _ (g .0 .1) (g .0 .2), search needs)
+loop-again c = let g = rw (c .before .r .given .1) at (c .before .before .before .before .before .string .ensures) in let s = next-string (tokens (drop (c .before .before .before .before .before .before .before .loop .j) (c .before .before .before .before .before .before .before .before .before .before .args .t .now))) (g .0 .0) _ (g .0 .1) in (omega (arith, c .before .before .before .before .before .before .before .loop .inv .0, g .0 .2 .count), omega (arith, c .before .before .before .before .before .before .before .loop .inv .1, g .1), g .0 .3, omega (arith, c .before .before .before .before .before .before .before .loop .inv .3, c .before .before .before .before .before .before .before .loop .inv .1, g .0 .2 .count, s .most, g .1), before-next (c .before .before .before .before .before .before .before .loop .inv .4) (c .before .before .before .before .before .before .before .loop .inv .0) _ _ (g .0 .0) _ (g .0 .1) (g .0 .2), search needs)
 
 pub strings-spec : {M : Type 1} → statement M
 strings-spec =
