@@ -15,30 +15,34 @@ use Rattle.format.specs.Octets.{digit, letter, lowered}
 use Rattle.format.specs.Digits.{numberFrom, number, digitValue}
 use Rattle.format.specs.Number.{decimalOf}
 
--- the number of the digits so far, which is v, and of those that follow
-unfoldable pub valueFrom : ℕ → List ℕ → Option ℕ
-valueFrom v [] = some v
-valueFrom v (x ∷ xs) = digitValue 10 x >>= λ d. valueFrom (v * 10 + d) xs
+-- the number in a base of the digits so far, which is v, and of those that follow
+unfoldable pub valueIn : ℕ → ℕ → List ℕ → Option ℕ
+valueIn base v [] = some v
+valueIn base v (x ∷ xs) = digitValue base x >>= λ d. valueIn base (v * base + d) xs
 
-value-each : (v : ℕ) (xs : List ℕ) → valueFrom v xs ≡ (eachOf (digitValue 10) xs >>= λ ds. some (numberFrom 10 v ds))
-unfolding valueFrom
-value-each v [] = refl
-value-each v (x ∷ xs) = by (digitValue 10 x) (λ w. value-each w xs)
+pub value-each : (base v : ℕ) (xs : List ℕ) → valueIn base v xs ≡ (eachOf (digitValue base) xs >>= λ ds. some (numberFrom base v ds))
+unfolding valueIn
+value-each base v [] = refl
+value-each base v (x ∷ xs) = by (digitValue base x) (λ w. value-each base w xs)
   where
-    on : (d : ℕ) (o : Option (List ℕ)) → (o >>= λ ds. some (numberFrom 10 (v * 10 + d) ds)) ≡ (consBoth (some d) o >>= λ ds. some (numberFrom 10 v ds))
+    on : (d : ℕ) (o : Option (List ℕ)) → (o >>= λ ds. some (numberFrom base (v * base + d) ds)) ≡ (consBoth (some d) o >>= λ ds. some (numberFrom base v ds))
     on d none = refl
     on d (some ds) = refl
 
-    by : (o : Option ℕ) → ((w : ℕ) → valueFrom w xs ≡ (eachOf (digitValue 10) xs >>= λ ds. some (numberFrom 10 w ds)))
-        → (o >>= λ d. valueFrom (v * 10 + d) xs) ≡ (consBoth o (eachOf (digitValue 10) xs) >>= λ ds. some (numberFrom 10 v ds))
+    by : (o : Option ℕ) → ((w : ℕ) → valueIn base w xs ≡ (eachOf (digitValue base) xs >>= λ ds. some (numberFrom base w ds)))
+        → (o >>= λ d. valueIn base (v * base + d) xs) ≡ (consBoth o (eachOf (digitValue base) xs) >>= λ ds. some (numberFrom base v ds))
     by none ih = refl
-    by (some d) ih = ih (v * 10 + d) ∙ on d (eachOf (digitValue 10) xs)
+    by (some d) ih = ih (v * base + d) ∙ on d (eachOf (digitValue base) xs)
+
+-- in decimal
+abbrev pub valueFrom : ℕ → List ℕ → Option ℕ
+valueFrom v xs = valueIn 10 v xs
 
 -- of a part with 1 to 10 octets, and with none or more
 pub decimal-value : (s : List ℕ) (i e : ℕ) → e ≤ length s → 1 ≤ e - i → e - i ≤ 10 → decimalOf (slice i e s) ≡ valueFrom 0 (slice i e s)
 decimal-value s i e l h k =
     let n : length (slice i e s) ≡ e - i = length-slice i e s l in
-    rw (le-leb 1 (length (slice i e s)) (omega arith), le-leb (length (slice i e s)) 10 (omega arith)) (sym (value-each 0 (slice i e s)))
+    rw (le-leb 1 (length (slice i e s)) (omega arith), le-leb (length (slice i e s)) 10 (omega arith)) (sym (value-each 10 0 (slice i e s)))
 
 pub no-decimal : (s : List ℕ) (i e : ℕ) → e ≤ length s → e - i < 1 → decimalOf (slice i e s) ≡ none
 no-decimal s i e l h = let n : length (slice i e s) ≡ e - i = length-slice i e s l in rw (lt-leb 1 (length (slice i e s)) (omega arith))
@@ -50,11 +54,11 @@ long-decimal s i e l h =
 
 -- one digit more, and an octet that is none
 pub digit-on : (v x : ℕ) (xs : List ℕ) → 48 ≤ x → x ≤ 57 → valueFrom v (x ∷ xs) ≡ valueFrom (v * 10 + (x - 48)) xs
-unfolding valueFrom
+unfolding valueIn
 digit-on v x xs h l = let k : x - 48 < 10 = omega arith in rw (le-leb 48 x h, le-leb x 57 l, lt-ltb (x - 48) 10 k)
 
 not-digit : (v x : ℕ) (xs : List ℕ) → digit x ≡ false → valueFrom v (x ∷ xs) ≡ none
-unfolding valueFrom
+unfolding valueIn
 not-digit v x xs h = rw h (by (letter x))
   where
     by : (b : Bool) → (cond b (provided (ltb (lowered x - 97 + 10) 10) (lowered x - 97 + 10)) none >>= λ d. valueFrom (v * 10 + d) xs) ≡ none
@@ -78,5 +82,5 @@ pub nothing-yet : (i : ℕ) → 0 < 10 ^ (i - i)
 nothing-yet i = let e : i - i ≡ 0 = omega arith in rw e (omega arith)
 
 pub nothing-left : (v : ℕ) → valueFrom v [] ≡ some v
-unfolding valueFrom
+unfolding valueIn
 nothing-left v = refl

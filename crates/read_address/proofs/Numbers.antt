@@ -23,6 +23,7 @@ use Rattle.octets.proofs.Slices.{next, none as no-octet}
 use Rattle.octets.specs.declared.Number.{Number}
 use Rattle.octets.specs.declared.Number.the-variants.{Value, Fault}
 use Rattle.octets.specs.Octets.{numberOf}
+use Rattle.octets.proofs.Numbers.{valueIn, value-each}
 use Rattle.read_address.specs.declared.part.Form.{Form}
 use Rattle.read_address.specs.declared.part.Form.the-variants.{Pair, Small, Group}
 use Rattle.read_address.specs.Part.{hexOf, hexNumber, zeroFirst, widthOf, valueOf, pieceOf}
@@ -46,38 +47,23 @@ hex-digit b h =
     same-option (digitValue 16 b) (provided (ltb (hexOf b) 16) (hexOf b)) (at-each (λ b. sameOption (digitValue 16 b) (provided (ltb (hexOf b) 16) (hexOf b))) 256 refl b h)
 
 -- the number of the digits so far, which is v, and of those that follow
-unfoldable pub hexFrom : ℕ → List ℕ → Option ℕ
-hexFrom v [] = some v
-hexFrom v (x ∷ xs) = digitValue 16 x >>= λ d. hexFrom (v * 16 + d) xs
-
-hex-each : (v : ℕ) (xs : List ℕ) → hexFrom v xs ≡ (eachOf (digitValue 16) xs >>= λ ds. some (numberFrom 16 v ds))
-unfolding hexFrom
-hex-each v [] = refl
-hex-each v (x ∷ xs) = by (digitValue 16 x) (λ w. hex-each w xs)
-  where
-    on : (d : ℕ) (o : Option (List ℕ)) → (o >>= λ ds. some (numberFrom 16 (v * 16 + d) ds)) ≡ (consBoth (some d) o >>= λ ds. some (numberFrom 16 v ds))
-    on d none = refl
-    on d (some ds) = refl
-
-    by : (o : Option ℕ) → ((w : ℕ) → hexFrom w xs ≡ (eachOf (digitValue 16) xs >>= λ ds. some (numberFrom 16 w ds)))
-        → (o >>= λ d. hexFrom (v * 16 + d) xs) ≡ (consBoth o (eachOf (digitValue 16) xs) >>= λ ds. some (numberFrom 16 v ds))
-    by none ih = refl
-    by (some d) ih = ih (v * 16 + d) ∙ on d (eachOf (digitValue 16) xs)
+abbrev pub hexFrom : ℕ → List ℕ → Option ℕ
+hexFrom v xs = valueIn 16 v xs
 
 pub hex-start : (xs : List ℕ) → hexFrom 0 xs ≡ hexNumber xs
-hex-start xs = hex-each 0 xs
+hex-start xs = value-each 16 0 xs
 
 module _ (s : List ℕ) (j e v d : ℕ) (h : j < e) (l : e ≤ length s) (b : getD s j 0 < 256) (q : d ≡ hexOf (getD s j 0)) where
   pub hex-off : 15 < d → hexFrom v (slice j e s) ≡ none
-  unfolding hexFrom
+  unfolding valueIn
   hex-off k = rw (next s j e h l, hex-digit (getD s j 0) b, ← q, le-ltb d 16 (omega arith))
 
   pub hex-on : d ≤ 15 → hexFrom v (slice j e s) ≡ hexFrom (v * 16 + d) (slice (j + 1) e s)
-  unfolding hexFrom
+  unfolding valueIn
   hex-on k = rw (next s j e h l, hex-digit (getD s j 0) b, ← q, lt-ltb d 16 (omega arith))
 
 pub hex-end : (s : List ℕ) (j e v : ℕ) → e ≤ j → hexFrom v (slice j e s) ≡ some v
-unfolding hexFrom
+unfolding valueIn
 hex-end s j e v h = rw (no-octet s j e h)
 
 -- the value so far fits

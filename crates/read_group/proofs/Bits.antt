@@ -18,14 +18,11 @@ use Rattle.format.proofs.Lists.{below-take, below-drop}
 use Rattle.format.proofs.Digits.{digits-below, digits-length, number-digits, digits-number, number-bound}
 use Rattle.format.proofs.Base.{bits-below, bits-length}
 use Rattle.put_digits.proofs.Hex.{flat-append}
+use Rattle.put_digits.proofs.Bits.{number-append, bits-number, power, regrouped}
 use borrow.Author.Tests.{lt-ltb, le-ltb, ne-eqb}
 use Rattle.writing.specs.Writing.{Wrote, Values}
 use Rattle.writing.specs.declared.Value.the-variants.{Upto}
 use Rattle.read_group.specs.Group.{after}
-
-number-append : (b a : ℕ) (ds es : List ℕ) → numberFrom b a (ds ++ es) ≡ numberFrom b (numberFrom b a ds) es
-number-append b a [] es = refl
-number-append b a (d ∷ ds) es = number-append b (a * b + d) ds es
 
 pub number-last : (b : ℕ) (ds : List ℕ) (d : ℕ) → number b (ds ++ d ∷ []) ≡ number b ds * b + d
 number-last b ds d = number-append b 0 ds (d ∷ [])
@@ -36,31 +33,6 @@ number-from a [] = omega (arith, pow-zero 2)
 number-from a (b ∷ bs) =
     let e : 2 ^ suc (length bs) ≡ 2 ^ length bs * 2 = pow-suc 2 (length bs) in
     number-from (a * 2 + b) bs ∙ sym (rw e (ap (λ x. a * (2 ^ length bs * 2) + x) (number-from (0 * 2 + b) bs) ∙ omega arith))
-
-bits-after : (w a d : ℕ) → d < 2 ^ w → numberFrom 2 a (digits 2 w d) ≡ a * 2 ^ w + d
-bits-after w a d h =
-    number-from a (digits 2 w d) ∙ ap (λ x. a * 2 ^ x + number 2 (digits 2 w d)) (digits-length 2 w d) ∙ ap (λ x. a * 2 ^ w + x) (number-digits 2 w d (omega arith) h)
-
--- the bits of digits are the bits of the number whose digits they are
-bits-number : (w a : ℕ) (ds : List ℕ) → Below (2 ^ w) ds → numberFrom 2 a (bits w ds) ≡ numberFrom (2 ^ w) a ds
-bits-number w a [] h = refl
-bits-number w a (d ∷ ds) h =
-    number-append 2 a (digits 2 w d) (bits w ds) ∙ ap (λ x. numberFrom 2 x (bits w ds)) (bits-after w a d (h .0)) ∙ bits-number w (a * 2 ^ w + d) ds (h .1)
-
-power : (w k : ℕ) → 2 ^ (w * k) ≡ (2 ^ w) ^ k
-power w zero = let e : w * 0 ≡ 0 = omega arith in rw (e, pow-zero (2 ^ w))
-power w (suc k) = rw (mul-suc w k, pow-add 2 (w * k) w, power w k, pow-suc (2 ^ w) k)
-
--- bits are the bits of digits of w bits
-regrouped : (w k : ℕ) (bs : List ℕ) → Below 2 bs → length bs ≡ w * k → bits w (digits (2 ^ w) k (number 2 bs)) ≡ bs
-regrouped w k bs b e =
-    let v : ℕ = number 2 bs in
-    let ds : List ℕ = digits (2 ^ w) k v in
-    let pos : 0 < 2 ^ w = one-le-pow w 2 (omega arith) in
-    let l : length (bits w ds) ≡ length bs = bits-length w ds ∙ ap (λ x. w * x) (digits-length (2 ^ w) k v) ∙ sym e in
-    let s : v < (2 ^ w) ^ k = subst (λ x. v < x) (ap (λ x. 2 ^ x) e ∙ power w k) (number-bound 2 bs b) in
-    let q : number 2 (bits w ds) ≡ v = bits-number w 0 ds (digits-below (2 ^ w) k v pos) ∙ number-digits (2 ^ w) k v pos s in
-    sym (digits-number 2 (bits w ds) (bits-below w ds)) ∙ ap (λ x. digits 2 x (number 2 (bits w ds))) l ∙ ap (digits 2 (length bs)) q ∙ digits-number 2 bs b
 
 -- digits are known by how many they are and by their number
 pub digits-bits : (w : ℕ) (ds : List ℕ) → Below (2 ^ w) ds → bits w ds ≡ digits 2 (w * length ds) (number (2 ^ w) ds)
