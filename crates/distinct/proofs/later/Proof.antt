@@ -19,35 +19,27 @@ Inv-loop ignoring s a n h b i₀ i = (i ≤ b) × (anyOf (λ p. sameBy ignoring 
 abbrev μ-loop : tie.MeasureT-loop
 μ-loop ignoring s a n h b i₀ i = b - i
 
--- src/lib.rt:311:5
 loop-holds : tie.Need-loop-holds Inv-loop μ-loop
 loop-holds c = (search needs, refl)
 
--- src/lib.rt:312:13
 skip-requires : tie.Need-skip-requires Inv-loop μ-loop
 skip-requires c κs = search needs
 
--- src/lib.rt:313:12
 names-requires : tie.Need-names-requires Inv-loop μ-loop
 names-requires c κs = let z = within _ _ _ _ (c .before .loop .inv .0) (c .before .before .before .pre .3) (c .skip .ensures) in (c .before .before .before .pre .0, c .before .before .before .pre .1, omega arith, omega (arith, z))
 
--- src/lib.rt:314:13
 returns : tie.Need-returns Inv-loop μ-loop
 returns c = sym (any-found _ _ _ _ (c .before .before .before .loop .inv .0) (c .before .before .before .before .before .pre .3) (c .before .before .skip .ensures) (λ p. sameBy (c .before .before .before .before .before .args .ignoring) (slice (c .before .before .before .before .before .args .a) (c .before .before .before .before .before .args .n) (c .before .before .before .before .before .args .s .now)) (nameIn p)) (sym (c .before .names .ensures) ∙ c .if1 .taken)) ∙ c .before .before .before .loop .inv .1
 
--- src/lib.rt:317:13
 returns-2 : tie.Need-returns-2 Inv-loop μ-loop
 returns-2 c = sym (any-last _ _ _ _ (c .before .before .before .before .loop .inv .0) (c .before .before .before .before .before .before .pre .3) (c .before .before .before .skip .ensures) (λ p. sameBy (c .before .before .before .before .before .before .args .ignoring) (slice (c .before .before .before .before .before .before .args .a) (c .before .before .before .before .before .before .args .n) (c .before .before .before .before .before .before .args .s .now)) (nameIn p)) (c .if2 .taken) (sym (c .before .before .names .ensures) ∙ c .before .if1 .left)) ∙ c .before .before .before .before .loop .inv .1
 
--- src/lib.rt:319:13
 add-i : tie.Need-add-i Inv-loop μ-loop
 add-i c = omega (arith, within _ _ _ _ (c .before .before .before .before .loop .inv .0) (c .before .before .before .before .before .before .pre .3) (c .before .before .before .skip .ensures))
 
--- src/lib.rt:311:5
 loop-less : tie.Need-loop-less Inv-loop μ-loop
 loop-less c = omega (arith, within _ _ _ _ (c .before .before .before .before .loop .inv .0) (c .before .before .before .before .before .before .pre .3) (c .before .before .before .skip .ensures))
 
--- src/lib.rt:311:5
 loop-again : tie.Need-loop-again Inv-loop μ-loop
 loop-again c = (omega (arith, within _ _ _ _ (c .before .before .before .before .loop .inv .0) (c .before .before .before .before .before .before .pre .3) (c .before .before .before .skip .ensures)), any-next _ _ _ _ (c .before .before .before .before .loop .inv .0) (c .before .before .before .before .before .before .pre .3) (c .before .before .before .skip .ensures) (λ p. sameBy (c .before .before .before .before .before .before .args .ignoring) (slice (c .before .before .before .before .before .before .args .a) (c .before .before .before .before .before .before .args .n) (c .before .before .before .before .before .before .args .s .now)) (nameIn p)) (c .if2 .left) (sym (c .before .before .names .ensures) ∙ c .before .if1 .left) ∙ c .before .before .before .before .loop .inv .1)
 

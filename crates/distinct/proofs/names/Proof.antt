@@ -10,23 +10,18 @@ use Rattle.octets.proofs.skip.Reads as skip-reads
 use Rattle.distinct.proofs.same.Reads as same-reads
 use Rattle.distinct.proofs.starts_other.Reads as starts-other-reads
 
--- src/lib.rt:298:8
 starts-other-requires : tie.Need-starts-other-requires
 starts-other-requires c κs = search needs
 
--- src/lib.rt:299:9
 returns : tie.Need-returns
 returns c = sym (c .before .starts-other .ensures (c .if1 .taken))
 
--- src/lib.rt:301:9
 skip-requires : tie.Need-skip-requires
 skip-requires c κs = search needs
 
--- src/lib.rt:302:5
 same-requires : tie.Need-same-requires
 same-requires c κs = let z = front-in (c .before .before .before .before .args .s .now) (c .before .before .before .before .args .i) (c .before .before .before .before .args .z) (c .skip .result) (c .before .before .before .before .pre .2) (c .before .before .before .before .pre .3) (c .skip .ensures) in (c .before .before .before .before .pre .0, c .before .before .before .before .pre .1, z .0, omega (arith, z .1))
 
--- src/lib.rt:294:1
 returns-2 : tie.Need-returns-2
 returns-2 c = named-in (c .before .before .before .before .before .args .ignoring) (c .before .before .before .before .before .args .s .now) (c .before .before .before .before .before .args .i) (c .before .before .before .before .before .args .z) (c .before .skip .result) (c .before .before .before .before .before .pre .2) (c .before .before .before .before .before .pre .3) (c .before .skip .ensures) _ _ (c .same .ensures)
 

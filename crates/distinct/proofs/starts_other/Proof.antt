@@ -10,31 +10,24 @@ use Rattle.distinct.proofs.starts_other.Reads as reads
 use Rattle.distinct.proofs.starts_other.Lts as lts
 use Rattle.distinct.proofs.fold.Reads as fold-reads
 
--- src/lib.rt:285:9
 returns : tie.Need-returns
 returns c = λ e. absurd (true≢false (sym e))
 
--- src/lib.rt:288:9
 returns-2 : tie.Need-returns-2
 returns-2 c = λ e. absurd (true≢false (sym e))
 
--- src/lib.rt:290:20
 shared-slice-read-fold : tie.Need-shared-slice-read-fold
 shared-slice-read-fold c = search needs
 
--- src/lib.rt:290:5
 fold-requires : tie.Need-fold-requires
 fold-requires c κs = search needs
 
--- src/lib.rt:290:44
 shared-slice-read-fold-2 : tie.Need-shared-slice-read-fold-2
 shared-slice-read-fold-2 c = search needs
 
--- src/lib.rt:290:29
 fold-requires-2 : tie.Need-fold-requires-2
 fold-requires-2 c κs = search needs
 
--- src/lib.rt:280:1
 returns-3 : tie.Need-returns-3
 returns-3 c = λ e. first-other (c .before .before .before .before .before .before .before .args .ignoring) (c .before .before .before .before .before .before .before .args .s .now) (c .before .before .before .before .before .before .before .args .a) (c .before .before .before .before .before .before .before .args .n) (c .before .before .before .before .before .before .before .args .i) (c .before .before .before .before .before .before .before .args .z) (c .before .before .fold .result) (c .fold2 .result) (c .before .before .before .before .before .if1 .left) (c .before .before .before .before .before .before .before .pre .0) (c .before .before .before .before .if2 .left) (c .before .before .before .before .before .before .before .pre .1) (c .before .before .fold .ensures) (c .fold2 .ensures) (λ q. true≢false (sym e ∙ ap not (eq-eqb (c .before .before .fold .result) (c .fold2 .result) q)))
 

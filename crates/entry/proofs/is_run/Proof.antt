@@ -9,15 +9,12 @@ use Rattle.entry.proofs.is_run.Tie as tie
 use Rattle.entry.proofs.is_run.Reads as reads
 use Rattle.entry.proofs.is_run.Lts as lts
 
--- src/lib.rt:48:9
 returns : tie.Need-returns
 returns c = rw (lt-leb 1 (c .before .args .first) (c .if1 .taken))
 
--- src/lib.rt:51:9
 returns-2 : tie.Need-returns-2
 returns-2 c = rw (le-leb 1 (c .before .before .args .first) (c .before .if1 .left), lt-leb (c .before .before .args .first - 1 + c .before .before .args .many) (c .before .before .args .count) (omega arith))
 
--- src/lib.rt:44:1
 returns-3 : tie.Need-returns-3
 returns-3 c = run-test (c .before .before .args .first) (c .before .before .args .many) (c .before .before .args .count) (c .before .if1 .left) (c .if2 .left)
 

@@ -7,27 +7,21 @@ use Rattle.entry.proofs.judge.Reads as reads
 use Rattle.entry.proofs.judge.Lts as lts
 use Rattle.stanza.proofs.judged_outline.Reads as judged-outline-reads
 
--- src/lib.rt:17:9
 judged-outline-requires : tie.Need-judged-outline-requires
 judged-outline-requires c κs = search needs
 
--- src/lib.rt:20:42
 cast-t5 : tie.Need-cast-t5
 cast-t5 c = omega (arith, accepted-count (c .before .before .before .before .args .s .now) (c .before .before .judged-outline .result) (c .before .before .judged-outline .ensures .judges) (c .before .if1 .taken))
 
--- src/lib.rt:20:9
 returns : tie.Need-returns
 returns c = record { numbers = accepted-number (c .before .before .before .before .args .s .now) (c .before .before .judged-outline .result) (c .before .before .judged-outline .ensures .judges) (c .before .if1 .taken); places = accepted-place (c .before .before .before .before .args .s .now) (c .before .before .judged-outline .result) (c .before .before .judged-outline .ensures .judges) (c .before .if1 .taken) }
 
--- src/lib.rt:22:21
 cast-t6 : tie.Need-cast-t6
 cast-t6 c = search needs
 
--- src/lib.rt:22:38
 cast-t7 : tie.Need-cast-t7
 cast-t7 c = search needs
 
--- src/lib.rt:14:1
 returns-2 : tie.Need-returns-2
 returns-2 c = record { numbers = refused-number (c .before .before .before .before .args .s .now) (c .before .before .judged-outline .result) (c .before .before .judged-outline .ensures .judges) (c .before .if1 .left); places = refused-place (c .before .before .before .before .args .s .now) (c .before .before .judged-outline .result) (c .before .before .judged-outline .ensures .judges) (c .before .if1 .left) }
 

@@ -18,63 +18,48 @@ Inv-loop s i e v₀ j₀ v j = (i ≤ j) × (j ≤ e) × (v < 10 ^ (j - i)) × (
 abbrev μ-loop : tie.MeasureT-loop
 μ-loop s i e v₀ j₀ v j = e - j
 
--- src/lib.rt:134:8
 sub-if1 : tie.Need-sub-if1 Inv-loop μ-loop
 sub-if1 c = search needs
 
--- src/lib.rt:135:9
 returns : tie.Need-returns Inv-loop μ-loop
 returns c = ap numberOf (sym (no-decimal _ _ _ (c .before .pre .1) (c .if1 .taken)))
 
--- src/lib.rt:137:13
 sub-if2 : tie.Need-sub-if2 Inv-loop μ-loop
 sub-if2 c = search needs
 
--- src/lib.rt:138:9
 returns-2 : tie.Need-returns-2 Inv-loop μ-loop
 returns-2 c = ap numberOf (sym (long-decimal _ _ _ (c .before .before .pre .1) (c .if2 .taken)))
 
--- src/lib.rt:142:5
 loop-holds : tie.Need-loop-holds Inv-loop μ-loop
 loop-holds c = (search needs, c .before .before .pre .0, nothing-yet (c .before .before .args .i), refl)
 
--- src/lib.rt:143:17
 shared-slice-read-b : tie.Need-shared-slice-read-b Inv-loop μ-loop
 shared-slice-read-b c = search needs
 
--- src/lib.rt:145:13
 returns-3 : tie.Need-returns-3 Inv-loop μ-loop
 returns-3 c = ap numberOf (sym (decimal-value _ _ _ (c .before .before .before .before .before .before .pre .1) (c .before .before .before .before .before .if1 .left) (c .before .before .before .before .if2 .left) ∙ sym (c .before .before .before .loop .inv .3) ∙ ap (valueFrom _) (next _ _ _ (c .before .before .loop-test .taken) (c .before .before .before .before .before .before .pre .1)) ∙ digit-low _ _ _ (c .if3 .taken)))
 
--- src/lib.rt:148:13
 returns-4 : tie.Need-returns-4 Inv-loop μ-loop
 returns-4 c = ap numberOf (sym (decimal-value _ _ _ (c .before .before .before .before .before .before .before .pre .1) (c .before .before .before .before .before .before .if1 .left) (c .before .before .before .before .before .if2 .left) ∙ sym (c .before .before .before .before .loop .inv .3) ∙ ap (valueFrom _) (next _ _ _ (c .before .before .before .loop-test .taken) (c .before .before .before .before .before .before .before .pre .1)) ∙ digit-high _ _ _ (c .before .if3 .left) (c .if4 .taken)))
 
--- src/lib.rt:150:13
 mul-v : tie.Need-mul-v Inv-loop μ-loop
 mul-v c = omega (arith, digits-fit (c .before .before .before .before .loop .v) (c .before .before .before .before .loop .j - c .before .before .before .before .before .before .before .args .i) (omega arith) (c .before .before .before .before .loop .inv .2))
 
--- src/lib.rt:150:22
 cast-v : tie.Need-cast-v Inv-loop μ-loop
 cast-v c = search needs
 
--- src/lib.rt:150:13
 add-v : tie.Need-add-v Inv-loop μ-loop
 add-v c = omega (arith, digits-fit (c .before .before .before .before .loop .v) (c .before .before .before .before .loop .j - c .before .before .before .before .before .before .before .args .i) (omega arith) (c .before .before .before .before .loop .inv .2))
 
--- src/lib.rt:151:13
 add-j : tie.Need-add-j Inv-loop μ-loop
 add-j c = search needs
 
--- src/lib.rt:142:5
 loop-less : tie.Need-loop-less Inv-loop μ-loop
 loop-less c = search needs
 
--- src/lib.rt:142:5
 loop-again : tie.Need-loop-again Inv-loop μ-loop
 loop-again c = (search needs, search needs, digit-more _ _ _ _ (c .before .before .before .before .loop .inv .0) (c .before .before .before .before .loop .inv .2) (omega arith), sym (digit-on _ _ _ (c .before .if3 .left) (c .if4 .left)) ∙ ap (valueFrom (c .before .before .before .before .loop .v)) (sym (next _ _ _ (c .before .before .before .loop-test .taken) (c .before .before .before .before .before .before .before .pre .1))) ∙ c .before .before .before .before .loop .inv .3)
 
--- src/lib.rt:130:1
 returns-5 : tie.Need-returns-5 Inv-loop μ-loop
 returns-5 c = ap numberOf (sym (decimal-value _ _ _ (c .before .before .before .before .pre .1) (c .before .before .before .if1 .left) (c .before .before .if2 .left) ∙ sym (c .before .loop .inv .3) ∙ ap (valueFrom _) (none _ _ _ (c .loop-test .left)) ∙ nothing-left _))
 

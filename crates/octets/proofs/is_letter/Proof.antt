@@ -6,11 +6,9 @@ use Rattle.octets.proofs.is_letter.Tie as tie
 use Rattle.octets.proofs.is_letter.Reads as reads
 use Rattle.octets.proofs.is_letter.Lts as lts
 
--- src/lib.rt:49:9
 returns : tie.Need-returns
 returns c = no-letter (c .before .args .b) (omega arith) (c .if1 .taken)
 
--- src/lib.rt:44:1
 returns-2 : tie.Need-returns-2
 returns-2 c = maybe-letter (c .before .args .b) (omega arith) (c .if1 .left)
 

@@ -9,19 +9,15 @@ use Rattle.octets.proofs.octet_at.Reads as reads
 use Rattle.octets.proofs.octet_at.Lts as lts
 use Rattle.octets.proofs.wide.Reads as wide-reads
 
--- src/lib.rt:117:14
 shared-slice-read-wide : tie.Need-shared-slice-read-wide
 shared-slice-read-wide c = search needs
 
--- src/lib.rt:117:9
 wide-requires : tie.Need-wide-requires
 wide-requires c κs = search needs
 
--- src/lib.rt:112:1
 returns : tie.Need-returns
 returns c = c .wide .ensures ∙ ap firstOr (sym (next _ _ _ (c .before .before .if1 .taken) (c .before .before .before .before .pre)))
 
--- src/lib.rt:112:1
 returns-2 : tie.Need-returns-2
 returns-2 c = ap firstOr (sym (none _ _ _ (c .if1 .left)))
 

@@ -17,35 +17,27 @@ Inv-loop s i e c j₀ j = (i ≤ j) × (j ≤ e) × (frontEnd (inClass c) s j e 
 abbrev μ-loop : tie.MeasureT-loop
 μ-loop s i e c j₀ j = e - j
 
--- src/lib.rt:95:5
 loop-holds : tie.Need-loop-holds Inv-loop μ-loop
 loop-holds c = (search needs, c .before .pre .0, refl)
 
--- src/lib.rt:96:21
 shared-slice-read-is-in : tie.Need-shared-slice-read-is-in Inv-loop μ-loop
 shared-slice-read-is-in c = search needs
 
--- src/lib.rt:96:12
 is-in-requires : tie.Need-is-in-requires Inv-loop μ-loop
 is-in-requires c κs = search needs
 
--- src/lib.rt:97:17
 add-j : tie.Need-add-j Inv-loop μ-loop
 add-j c = search needs
 
--- src/lib.rt:95:5
 loop-less : tie.Need-loop-less Inv-loop μ-loop
 loop-less c = search needs
 
--- src/lib.rt:95:5
 loop-again : tie.Need-loop-again Inv-loop μ-loop
 loop-again c = (search needs, search needs, front-on (inClass (c .before .before .before .before .before .before .args .c)) _ _ _ (c .before .before .before .loop-test .taken) (c .before .before .before .before .before .before .pre .1) (sym (c .before .is-in .ensures) ∙ c .if1 .taken) ∙ c .before .before .before .before .loop .inv .2)
 
--- src/lib.rt:99:13
 returns : tie.Need-returns Inv-loop μ-loop
 returns c = front-off (inClass (c .before .before .before .before .before .before .args .c)) _ _ _ (c .before .before .before .loop-test .taken) (c .before .before .before .before .before .before .pre .1) (sym (c .before .is-in .ensures) ∙ c .if1 .left) ∙ c .before .before .before .before .loop .inv .2
 
--- src/lib.rt:90:1
 returns-2 : tie.Need-returns-2 Inv-loop μ-loop
 returns-2 c = front-end (inClass (c .before .before .before .args .c)) _ _ _ (c .loop-test .left) ∙ c .before .loop .inv .2
 

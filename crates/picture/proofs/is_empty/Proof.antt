@@ -19,27 +19,21 @@ Inv-loop r all₀ k₀ all k = (k ≤ length r) × (all && allOf zeroOctet (slic
 abbrev μ-loop : tie.MeasureT-loop
 μ-loop r all₀ k₀ all k = length r - k
 
--- src/picture.rt:56:5
 loop-holds : tie.Need-loop-holds Inv-loop μ-loop
 loop-holds c = (search needs, refl)
 
--- src/picture.rt:57:22
 shared-slice-read-all : tie.Need-shared-slice-read-all Inv-loop μ-loop
 shared-slice-read-all c = search needs
 
--- src/picture.rt:58:13
 add-k : tie.Need-add-k Inv-loop μ-loop
 add-k c = search needs
 
--- src/picture.rt:56:5
 loop-less : tie.Need-loop-less Inv-loop μ-loop
 loop-less c = search needs
 
--- src/picture.rt:56:5
 loop-again : tie.Need-loop-again Inv-loop μ-loop
 loop-again c = (search needs, all-next zeroOctet (c .before .before .before .args .r .now) (c .before .before .loop .k) (length (c .before .before .before .args .r .now)) (c .before .before .loop .all) (c .before .loop-test .taken) (omega arith) ∙ c .before .before .loop .inv .1)
 
--- src/picture.rt:51:1
 returns : tie.Need-returns Inv-loop μ-loop
 returns c = sym (all-none zeroOctet (c .before .before .args .r .now) (c .before .loop .k) (length (c .before .before .args .r .now)) (c .before .loop .all) (c .loop-test .left)) ∙ c .before .loop .inv .1 ∙ ap (allOf zeroOctet) (take-length (c .before .before .args .r .now))
 

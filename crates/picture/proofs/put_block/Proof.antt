@@ -14,55 +14,42 @@ use Rattle.picture.proofs.is_empty.Reads as is-empty-reads
 use Rattle.writing.proofs.put_all.Reads as put-all-reads
 use Rattle.writing.proofs.put_octet.Reads as put-octet-reads
 
--- src/picture.rt:68:8
 is-empty-requires : tie.Need-is-empty-requires
 is-empty-requires c κs = search needs
 
--- src/picture.rt:69:9
 returns : tie.Need-returns
 returns c = wrote-text _ _ (empty-block (c .before .before .before .before .args .w) (c .before .before .before .before .args .r .now) (sym (c .before .is-empty .ensures) ∙ c .if1 .taken)) (wrote-none _ _)
 
--- src/picture.rt:71:9
 count-requires : tie.Need-count-requires
 count-requires c κs = search needs
 
--- src/picture.rt:73:9
 returns-2 : tie.Need-returns-2
 returns-2 c = wrote-text _ _ (no-block (c .before .before .before .before .before .before .args .w) _ (c .before .before .before .before .before .before .args .r .now) (c .before .count .ensures) (c .if2 .taken)) (wrote-none _ _)
 
--- src/picture.rt:75:9
 put-octet-requires : tie.Need-put-octet-requires
 put-octet-requires c κs = search needs
 
--- src/picture.rt:76:31
 cast-put-octet : tie.Need-cast-put-octet
 cast-put-octet c = omega (arith, front-length (c .before .before .before .before .before .before .before .before .before .before .before .args .r .now), c .before .before .before .before .before .before .count .ensures)
 
--- src/picture.rt:76:9
 put-octet-requires-2 : tie.Need-put-octet-requires-2
 put-octet-requires-2 c κs = search needs
 
--- src/picture.rt:77:21
 sub-put-all : tie.Need-sub-put-all
 sub-put-all c = search needs
 
--- src/picture.rt:77:21
 part-put-all-start : tie.Need-part-put-all-start
 part-put-all-start c = search needs
 
--- src/picture.rt:77:21
 part-put-all-end : tie.Need-part-put-all-end
 part-put-all-end c = omega (arith, front-length (c .before .before .before .before .before .before .before .before .before .before .before .before .before .before .before .args .r .now), c .before .before .before .before .before .before .before .before .before .before .count .ensures)
 
--- src/picture.rt:77:5
 put-all-requires : tie.Need-put-all-requires
 put-all-requires c κs = (omega (arith, c .before .before .before .before .before .before .before .before .put-octet .ensures .count, c .before .before .before .before .put-octet2 .ensures .count), omega (arith, length-take (c .before .before .before .before .before .before .before .before .before .before .before .count .result - 0) (c .before .before .before .before .before .before .before .before .before .before .before .before .before .before .before .before .args .r .now)))
 
--- src/picture.rt:64:1
 same-length : tie.Need-same-length
 same-length c = search needs
 
--- src/picture.rt:64:1
 returns-3 : tie.Need-returns-3
 returns-3 c = wrote-text _ _ (some-block (c .before .before .before .before .before .before .before .before .before .before .before .before .before .before .before .before .before .before .before .args .w) (c .before .before .before .before .before .before .before .before .before .before .before .before .before .before .count .result) (c .before .before .before .before .before .before .before .before .before .before .before .before .before .before .before .before .before .before .before .args .r .now) (c .before .before .before .before .before .before .before .before .before .before .before .before .before .before .count .ensures) (c .before .before .before .before .before .before .before .before .before .before .before .before .before .if2 .left)) (wrote-append (c .before .before .before .before .before .before .before .before .before .before .before .put-octet .ensures) (wrote-append (c .before .before .before .before .before .before .before .put-octet2 .ensures) (c .before .before .put-all .ensures)))
 

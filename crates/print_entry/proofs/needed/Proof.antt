@@ -11,35 +11,27 @@ use Rattle.print_entry.proofs.needed.Lts as lts
 use Rattle.print_entry.proofs.surely_fits.Reads as surely-fits-reads
 use Rattle.printing.proofs.put_run.Reads as put-run-reads
 
--- src/lib.rt:58:8
 surely-fits-requires : tie.Need-surely-fits-requires
 surely-fits-requires c κs = search needs
 
--- src/lib.rt:59:9
 returns : tie.Need-returns
 returns c = (refl, fitting-needs _ _ (c .before .surely-fits .ensures (c .if1 .taken) (c .before .before .before .before .before .args .s .now) (c .before .before .before .before .before .args .p .now) (octets-all (c .before .before .before .before .before .args .p .now) (λ j. omega (arith, c .before .before .before .shared-slice-known2 .given j))) refl (c .before .before .before .before .before .pre)) (text-short (c .before .before .before .before .before .args .s .now) (c .before .before .before .before .before .args .fields) (c .before .before .before .before .before .args .first) (c .before .before .before .before .before .args .many) (c .before .before .before .before .before .args .p .now) (octets-all (c .before .before .before .before .before .args .p .now) (λ j. omega (arith, c .before .before .before .shared-slice-known2 .given j))) (c .before .before .before .before .before .pre)))
 
--- src/lib.rt:62:23
 sub-put-run : tie.Need-sub-put-run
 sub-put-run c = search needs
 
--- src/lib.rt:62:23
 part-put-run-start : tie.Need-part-put-run-start
 part-put-run-start c = search needs
 
--- src/lib.rt:62:23
 part-put-run-end : tie.Need-part-put-run-end
 part-put-run-end c = search needs
 
--- src/lib.rt:62:5
 put-run-requires : tie.Need-put-run-requires
 put-run-requires c κs = search needs
 
--- src/lib.rt:46:1
 same-length : tie.Need-same-length
 same-length c = search needs
 
--- src/lib.rt:46:1
 returns-2 : tie.Need-returns-2
 returns-2 c = (measured _ _ _ _ (c .before .before .put-run .ensures), measured-needs _ _ _ (c .before .before .put-run .ensures .count) (text-short (c .before .before .before .before .before .before .before .before .before .args .s .now) (c .before .before .before .before .before .before .before .before .before .args .fields) (c .before .before .before .before .before .before .before .before .before .args .first) (c .before .before .before .before .before .before .before .before .before .args .many) (c .before .before .before .before .before .before .before .before .before .args .p .now) (octets-all (c .before .before .before .before .before .before .before .before .before .args .p .now) (λ j. omega (arith, c .before .before .before .before .before .before .before .shared-slice-known2 .given j))) (c .before .before .before .before .before .before .before .before .before .pre)))
 

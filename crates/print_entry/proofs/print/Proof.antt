@@ -14,50 +14,39 @@ use Rattle.entry.proofs.is_run.Reads as is-run-reads
 use Rattle.print_entry.proofs.print_run.Reads as print-run-reads
 use Rattle.stanza.proofs.judged_outline.Reads as judged-outline-reads
 
--- src/lib.rt:130:9
 returns : tie.Need-returns
 unfolding print
 returns c = leaves-refused _ (c .before .before .before .before .args .at) _ _ _ _ (print-long (c .before .before .before .before .args .s .now) (c .before .before .before .before .args .first) (c .before .before .before .before .args .many) (c .before .before .before .before .args .p .now) (c .if1 .taken)) refl refl
 
--- src/lib.rt:135:9
 judged-outline-requires : tie.Need-judged-outline-requires
 judged-outline-requires c κs = search needs
 
--- src/lib.rt:139:21
 cast-t13 : tie.Need-cast-t13
 cast-t13 c = search needs
 
--- src/lib.rt:140:20
 cast-t14 : tie.Need-cast-t14
 cast-t14 c = search needs
 
--- src/lib.rt:138:9
 returns-2 : tie.Need-returns-2
 unfolding print
 returns-2 c = leaves-refused _ (c .before .before .before .before .before .before .before .args .at) _ _ _ _ (print-rejected (c .before .before .before .before .before .before .before .args .s .now) (c .before .before .judged-outline .result) (c .before .before .judged-outline .ensures) (c .before .before .before .before .before .before .before .args .first) (c .before .before .before .before .before .before .before .args .many) (c .before .before .before .before .before .before .before .args .p .now) (c .before .before .before .if1 .left) (c .before .if2 .taken)) refl refl
 
--- src/lib.rt:144:8
 is-run-requires : tie.Need-is-run-requires
 is-run-requires c κs = search needs
 
--- src/lib.rt:146:37
 sub-print-run : tie.Need-sub-print-run
 sub-print-run c = omega (arith, from-one (c .before .before .before .before .before .before .before .before .before .args .s .now) (c .before .before .before .before .judged-outline .result) (c .before .before .before .before .judged-outline .ensures) (omega arith) (c .before .before .before .before .before .before .before .before .before .args .first) (c .before .before .before .before .before .before .before .before .before .args .many) (sym (c .before .if3 .taken) ∙ c .before .before .is-run .ensures))
 
--- src/lib.rt:146:9
 print-run-requires : tie.Need-print-run-requires
 print-run-requires c κs = (usable-run (c .before .before .before .before .before .before .before .before .before .before .args .s .now) (c .before .before .before .before .before .judged-outline .result) (c .before .before .before .before .before .judged-outline .ensures) (omega arith) (c .before .before .before .before .before .before .before .before .before .before .args .first) (c .before .before .before .before .before .before .before .before .before .before .args .many) (sym (c .before .before .if3 .taken) ∙ c .before .before .before .is-run .ensures) (judged-short (c .before .before .before .before .before .before .before .before .before .before .args .s .now) _ (accepted (c .before .before .before .before .before .before .before .before .before .before .args .s .now) (c .before .before .before .before .before .judged-outline .result) (c .before .before .before .before .before .judged-outline .ensures .judges) (omega arith))), c .before .before .before .before .before .before .if1 .left)
 
--- src/lib.rt:146:9
 same-length : tie.Need-same-length
 same-length c = search needs
 
--- src/lib.rt:146:9
 returns-3 : tie.Need-returns-3
 unfolding print
 returns-3 c = rw (print-runs (c .before .before .before .before .before .before .before .before .before .before .before .before .before .args .s .now) (c .before .before .before .before .before .before .before .before .judged-outline .result) (c .before .before .before .before .before .before .before .before .judged-outline .ensures) (omega arith) (c .before .before .before .before .before .before .before .before .before .before .before .before .before .args .first) (c .before .before .before .before .before .before .before .before .before .before .before .before .before .args .many) (sym (c .before .before .before .before .before .if3 .taken) ∙ c .before .before .before .before .before .before .is-run .ensures) (c .before .before .before .before .before .before .before .before .before .before .before .before .before .args .p .now) (c .before .before .before .before .before .before .before .before .before .if1 .left)) (c .before .before .print-run .ensures)
 
--- src/lib.rt:126:1
 returns-4 : tie.Need-returns-4
 unfolding print
 returns-4 c = leaves-refused _ (c .before .before .before .before .before .before .before .before .args .at) _ _ _ _ (print-no-run (c .before .before .before .before .before .before .before .before .args .s .now) (c .before .before .before .judged-outline .result) (c .before .before .before .judged-outline .ensures) (omega arith) (c .before .before .before .before .before .before .before .before .args .first) (c .before .before .before .before .before .before .before .before .args .many) (c .before .before .before .before .before .before .before .before .args .p .now) (c .before .before .before .before .if1 .left) (sym (c .if3 .left) ∙ c .before .is-run .ensures)) refl refl

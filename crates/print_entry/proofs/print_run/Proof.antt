@@ -11,31 +11,24 @@ use Rattle.print_entry.proofs.print_run.Lts as lts
 use Rattle.print_entry.proofs.put_text.Reads as put-text-reads
 use Rattle.run.proofs.check.Reads as check-reads
 
--- src/lib.rt:114:9
 check-requires : tie.Need-check-requires
 check-requires c κs = search needs
 
--- src/lib.rt:116:26
 enum-known-c : tie.Need-enum-known-c
 enum-known-c c = search needs
 
--- src/lib.rt:120:62
 enum-told : tie.Need-enum-told
 enum-told c = search needs
 
--- src/lib.rt:120:26
 put-text-requires : tie.Need-put-text-requires
 put-text-requires c κs = record { usable = c .before .before .before .before .before .before .before .pre .0; short = c .before .before .before .before .before .before .before .pre .1; taken-all = subst (Checks (kindsFrom (c .before .before .before .before .before .before .before .args .s .now) (c .before .before .before .before .before .before .before .args .fields) (c .before .before .before .before .before .before .before .args .first) (c .before .before .before .before .before .before .before .args .many)) (c .before .before .before .before .before .before .before .args .p .now)) (c .before .enum-told .given .1) (c .before .before .before .check .ensures (c .before .before .before .before .before .before .before .args .s .now)) }
 
--- src/lib.rt:110:1
 returns : tie.Need-returns
 returns c = leaves-refused _ (c .before .before .before .before .before .before .before .args .at) _ _ _ _ (no-answer _ _ _ _ (subst (Checks (kindsFrom (c .before .before .before .before .before .before .before .args .s .now) (c .before .before .before .before .before .before .before .args .fields) (c .before .before .before .before .before .before .before .args .first) (c .before .before .before .before .before .before .before .args .many)) (c .before .before .before .before .before .before .before .args .p .now)) (c .before .c .given .1) (c .before .before .before .check .ensures (c .before .before .before .before .before .before .before .args .s .now)))) refl refl
 
--- src/lib.rt:110:1
 same-length : tie.Need-same-length
 same-length c = search needs
 
--- src/lib.rt:110:1
 returns-2 : tie.Need-returns-2
 returns-2 c = let z = subst (Checks (kindsFrom (c .before .before .before .before .before .before .before .before .before .before .args .s .now) (c .before .before .before .before .before .before .before .before .before .before .args .fields) (c .before .before .before .before .before .before .before .before .before .before .args .first) (c .before .before .before .before .before .before .before .before .before .before .args .many)) (c .before .before .before .before .before .before .before .before .before .before .args .p .now)) (c .before .before .before .before .enum-told .given .1) (c .before .before .before .before .before .before .check .ensures (c .before .before .before .before .before .before .before .before .before .before .args .s .now)) in rw (text-answer _ _ (z .0) (z .1)) (c .before .before .put-text .ensures)
 

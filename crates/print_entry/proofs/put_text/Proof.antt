@@ -12,59 +12,45 @@ use Rattle.print_entry.proofs.needed.Reads as needed-reads
 use Rattle.printing.proofs.put_run.Reads as put-run-reads
 use Rattle.writing.proofs.least.Reads as least-reads
 
--- src/lib.rt:79:9
 least-requires : tie.Need-least-requires
 least-requires c κs = search needs
 
--- src/lib.rt:80:55
 sub-needed : tie.Need-sub-needed
 sub-needed c = search needs
 
--- src/lib.rt:80:9
 needed-requires : tie.Need-needed-requires
 needed-requires c κs = search needs
 
--- src/lib.rt:81:8
 sub-if1 : tie.Need-sub-if1
 sub-if1 c = search needs
 
--- src/lib.rt:84:20
 cast-t16 : tie.Need-cast-t16
 cast-t16 c = omega (arith, c .before .before .before .needed .ensures .1 .told (c .if1 .taken), c .before .before .before .needed .ensures .1 .short)
 
--- src/lib.rt:82:9
 same-length : tie.Need-same-length
 same-length c = search needs
 
--- src/lib.rt:82:9
 returns : tie.Need-returns
 returns c = leaves-measured (c .before .before .before .before .before .before .before .before .before .args .out .now) _ (c .before .before .before .before .before .before .before .before .before .args .at) (c .before .before .before .needed .result) (textOf (kindsFrom (c .before .before .before .before .before .before .before .before .before .args .s .now) (c .before .before .before .before .before .before .before .before .before .args .fields) (c .before .before .before .before .before .before .before .before .before .args .first) (c .before .before .before .before .before .before .before .before .before .args .many)) (c .before .before .before .before .before .before .before .before .before .args .p .now)) _ (c .before .before .before .needed .ensures .0) (omega (arith, c .before .before .before .needed .ensures .1 .told (c .if1 .taken))) (omega (arith, c .before .before .before .before .before .least .ensures, c .if1 .taken)) refl refl
 
--- src/lib.rt:87:31
 sub-put-run : tie.Need-sub-put-run
 sub-put-run c = search needs
 
--- src/lib.rt:87:31
 part-put-run-start : tie.Need-part-put-run-start
 part-put-run-start c = search needs
 
--- src/lib.rt:87:31
 part-put-run-end : tie.Need-part-put-run-end
 part-put-run-end c = search needs
 
--- src/lib.rt:87:9
 put-run-requires : tie.Need-put-run-requires
 put-run-requires c κs = search needs
 
--- src/lib.rt:90:16
 cast-t20 : tie.Need-cast-t20
 cast-t20 c = omega (arith, c .before .before .put-run .ensures .count, c .before .before .before .before .before .before .before .needed .ensures .1 .short)
 
--- src/lib.rt:66:1
 same-length-2 : tie.Need-same-length-2
 same-length-2 c = search needs
 
--- src/lib.rt:66:1
 returns-2 : tie.Need-returns-2
 returns-2 c = leaves-done _ (c .before .before .before .before .before .before .before .before .before .before .before .before .before .args .out .now) _ (c .before .before .before .before .before .before .before .before .before .before .before .before .before .args .at) _ _ (textOf (kindsFrom (c .before .before .before .before .before .before .before .before .before .before .before .before .before .args .s .now) (c .before .before .before .before .before .before .before .before .before .before .before .before .before .args .fields) (c .before .before .before .before .before .before .before .before .before .before .before .before .before .args .first) (c .before .before .before .before .before .before .before .before .before .before .before .before .before .args .many)) (c .before .before .before .before .before .before .before .before .before .before .before .before .before .args .p .now)) _ (c .before .before .before .before .before .before .before .needed .ensures .0) (c .before .before .before .before .before .before .before .before .before .least .ensures) (omega (arith, c .before .before .before .before .before .before .before .before .before .least .ensures, c .before .before .before .before .before .before .before .needed .ensures .1 .fits (c .before .before .before .before .if1 .left))) (c .before .before .put-run .ensures) refl refl
 

@@ -12,51 +12,39 @@ use Rattle.print_entry.proofs.surely_fits.Tie as tie
 use Rattle.print_entry.proofs.surely_fits.Reads as reads
 use Rattle.print_entry.proofs.surely_fits.Lts as lts
 
--- src/lib.rt:68:9
 returns : tie.Need-returns
 returns c = λ e s xs b n a. absurd (true≢false (sym e))
 
--- src/lib.rt:70:15
 mul-if2 : tie.Need-mul-if2
 mul-if2 c = search needs
 
--- src/lib.rt:70:28
 mul-if2-2 : tie.Need-mul-if2-2
 mul-if2-2 c = search needs
 
--- src/lib.rt:70:15
 add-if2 : tie.Need-add-if2
 add-if2 c = search needs
 
--- src/lib.rt:71:9
 returns-2 : tie.Need-returns-2
 returns-2 c = λ e s xs b n a. absurd (true≢false (sym e))
 
--- src/lib.rt:73:20
 add-d : tie.Need-add-d
 add-d c = search needs
 
--- src/lib.rt:73:20
 sub-d : tie.Need-sub-d
 sub-d c = search needs
 
--- src/lib.rt:73:13
 mul-d : tie.Need-mul-d
 mul-d c = search needs
 
--- src/lib.rt:73:13
 array-copy-out-d : tie.Need-array-copy-out-d
 array-copy-out-d c = search needs
 
--- src/lib.rt:76:9
 enum-told : tie.Need-enum-told
 enum-told c = search needs
 
--- src/lib.rt:76:9
 returns-3 : tie.Need-returns-3
 returns-3 c = λ e s xs b n a. absurd (true≢false (sym e))
 
--- src/lib.rt:63:1
 returns-4 : tie.Need-returns-4
 returns-4 c = λ e s xs b n a. surely s (c .before .before .before .before .args .t1) (c .before .before .before .before .args .first) (c .before .before .before .before .args .many) xs b a (omega arith) (other-form (getD (c .before .before .before .before .args .t1) (c .before .before .before .before .args .first + c .before .before .before .before .args .many - 1) noField .form) (c .match .keys2) _) (c .before .before .before .before .args .room) (omega arith)
 

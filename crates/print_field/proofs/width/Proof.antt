@@ -10,31 +10,24 @@ use Rattle.print_field.proofs.width.Reads as reads
 use Rattle.print_field.proofs.width.Lts as lts
 use Rattle.wire.proofs.take_field.Reads as take-field-reads
 
--- src/lib.rt:86:9
 take-field-requires : tie.Need-take-field-requires
 take-field-requires c κs = search needs
 
--- src/lib.rt:88:24
 enum-told : tie.Need-enum-told
 enum-told c = search needs
 
--- src/lib.rt:89:22
 enum-told-2 : tie.Need-enum-told-2
 enum-told-2 c = search needs
 
--- src/lib.rt:90:20
 enum-known-t : tie.Need-enum-known-t
 enum-known-t c = search needs
 
--- src/lib.rt:82:1
 returns : tie.Need-returns
 returns c = λ l w e. let z : _≡_ {A = Taken} short (took w) = sym (ap takenIn (c .enum-told .given .1)) ∙ c .before .before .take-field .ensures l ∙ e in cc
 
--- src/lib.rt:82:1
 returns-2 : tie.Need-returns-2
 returns-2 c = λ l w e. let z : _≡_ {A = Taken} bad (took w) = sym (ap takenIn (c .enum-told2 .given .1)) ∙ c .before .before .take-field .ensures l ∙ e in cc
 
--- src/lib.rt:82:1
 returns-3 : tie.Need-returns-3
 returns-3 c = λ l w e. let z : _≡_ {A = Taken} (took (c .before .t .given .0 .0)) (took w) = sym (ap takenIn (c .before .t .given .1)) ∙ c .before .before .before .take-field .ensures l ∙ e in cc
 

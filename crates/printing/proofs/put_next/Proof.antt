@@ -12,67 +12,51 @@ use Rattle.writing.proofs.least.Reads as least-reads
 use Rattle.print_field.proofs.put_field.Reads as put-field-reads
 use Rattle.writing.proofs.put.Reads as put-reads
 
--- src/lib.rt:64:9
 put-field-requires : tie.Need-put-field-requires
 put-field-requires c κs = search needs
 
--- src/lib.rt:64:9
 same-length : tie.Need-same-length
 same-length c = search needs
 
--- src/lib.rt:64:9
 returns : tie.Need-returns
 returns c = rw (c .before .before .before .before .if1 .taken) (c .before .before .put-field .ensures)
 
--- src/lib.rt:66:19
 add-least : tie.Need-add-least
 add-least c = search needs
 
--- src/lib.rt:66:9
 least-requires : tie.Need-least-requires
 least-requires c κs = search needs
 
--- src/lib.rt:67:23
 sub-put-field : tie.Need-sub-put-field
 sub-put-field c = search needs
 
--- src/lib.rt:67:23
 part-put-field-start : tie.Need-part-put-field-start
 part-put-field-start c = search needs
 
--- src/lib.rt:67:23
 part-put-field-end : tie.Need-part-put-field-end
 part-put-field-end c = search needs
 
--- src/lib.rt:67:9
 put-field-requires-2 : tie.Need-put-field-requires-2
 put-field-requires-2 c κs = search needs
 
--- src/lib.rt:69:9
 same-length-2 : tie.Need-same-length-2
 same-length-2 c = search needs
 
--- src/lib.rt:69:9
 returns-2 : tie.Need-returns-2
 returns-2 c = lead-none (c .before .before .before .before .before .before .if1 .left) (c .if2 .taken) (part-wrote _ _ (c .before .before .before .before .before .before .before .before .before .before .args .at + 1) _ _ _ (c .before .before .before .before .before .least .ensures) (c .before .before .before .put-field2 .ensures))
 
--- src/lib.rt:71:5
 put-requires : tie.Need-put-requires
 put-requires c κs = search needs
 
--- src/lib.rt:72:5
 add-result : tie.Need-add-result
 add-result c = search needs
 
--- src/lib.rt:72:5
 add-result-2 : tie.Need-add-result-2
 add-result-2 c = omega (arith, c .before .before .before .before .before .before .before .put-field2 .ensures .count, field-short (c .before .before .before .before .before .before .before .before .before .before .before .before .before .before .args .s .now) (c .before .before .before .before .before .before .before .before .before .before .before .before .before .before .args .d) (c .before .before .before .before .before .before .before .before .before .before .before .before .before .before .pre .1) (c .before .before .before .before .before .before .before .before .before .before .before .before .before .before .args .p .now) (c .before .before .before .before .before .before .before .before .before .before .before .before .before .before .args .i) (c .before .before .before .before .before .before .before .before .before .before .before .before .before .before .args .e) (λ j. omega (arith, c .before .before .before .before .before .before .before .before .before .before .before .shared-slice-known2 .given j)) (c .before .before .before .before .before .before .before .before .before .before .before .before .before .before .pre .4) (c .before .before .before .before .before .before .before .before .before .before .before .before .before .before .pre .6))
 
--- src/lib.rt:59:1
 same-length-3 : tie.Need-same-length-3
 same-length-3 c = search needs
 
--- src/lib.rt:59:1
 returns-3 : tie.Need-returns-3
 returns-3 c = lead-some _ (c .before .before .before .before .before .before .before .before .before .before .if1 .left) (c .before .before .before .before .if2 .left) (part-wrote _ _ (c .before .before .before .before .before .before .before .before .before .before .before .before .before .before .args .at + 1) _ _ _ (c .before .before .before .before .before .before .before .before .before .least .ensures) (c .before .before .before .before .before .before .before .put-field2 .ensures)) (c .before .before .put .ensures)
 

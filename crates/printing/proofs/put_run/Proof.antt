@@ -25,51 +25,39 @@ Inv-loop out₀ first many s p fields at₀ i₀ k₀ out at i k = (k ≤ many) 
 abbrev μ-loop : tie.MeasureT-loop
 μ-loop out₀ first many s p fields at₀ i₀ k₀ out at i k = many - k
 
--- src/lib.rt:102:5
 loop-holds : tie.Need-loop-holds Inv-loop μ-loop
 loop-holds c = (search needs, search needs, omega arith, subst (λ ks. (ps : List (List ℕ)) × (partsOf ks (c .before .before .before .args .p .now) ≡ parts ps)) (sym (all-kinds (c .before .before .before .args .s .now) (c .before .before .before .args .t2) (c .before .before .before .args .first) (c .before .before .before .args .many))) (c .before .before .before .pre .taken-all), subst (λ ks. Left (c .before .before .before .args .out .now) 0 (textOf (kindsFrom (c .before .before .before .args .s .now) (c .before .before .before .args .t2) (c .before .before .before .args .first) (c .before .before .before .args .many)) (c .before .before .before .args .p .now)) (c .before .before .before .args .out .now) 0 (textOf ks (c .before .before .before .args .p .now))) (sym (all-kinds (c .before .before .before .args .s .now) (c .before .before .before .args .t2) (c .before .before .before .args .first) (c .before .before .before .args .many))) (left-all _ _ _))
 
--- src/lib.rt:103:24
 add-d : tie.Need-add-d Inv-loop μ-loop
 add-d c = omega (arith, c .before .before .before .before .before .pre .usable .within)
 
--- src/lib.rt:103:17
 mul-d : tie.Need-mul-d Inv-loop μ-loop
 mul-d c = search needs
 
--- src/lib.rt:103:17
 array-copy-out-d : tie.Need-array-copy-out-d Inv-loop μ-loop
 array-copy-out-d c = omega (arith, c .before .before .before .before .before .pre .usable .within)
 
--- src/lib.rt:105:21
 width-requires : tie.Need-width-requires Inv-loop μ-loop
 width-requires c κs = search needs
 
--- src/lib.rt:105:17
 add-e : tie.Need-add-e Inv-loop μ-loop
 add-e c = omega (arith, turn (c .before .before .before .before .before .before .before .args .s .now) (c .before .before .before .before .before .before .before .args .t2) (c .before .before .before .before .before .before .before .args .first) (c .before .before .before .before .before .before .before .args .many) (c .before .before .before .before .before .before .before .args .p .now) (c .before .before .before .loop .k) (c .before .before .before .loop .i) (c .before .before .loop-test .taken) (c .before .before .before .loop .inv .1) (c .before .before .before .loop .inv .3) (c .width .result) (c .width .ensures) .within)
 
--- src/lib.rt:106:9
 put-next-requires : tie.Need-put-next-requires Inv-loop μ-loop
 put-next-requires c κs = let z = turn (c .before .before .before .before .before .before .before .before .args .s .now) (c .before .before .before .before .before .before .before .before .args .t2) (c .before .before .before .before .before .before .before .before .args .first) (c .before .before .before .before .before .before .before .before .args .many) (c .before .before .before .before .before .before .before .before .args .p .now) (c .before .before .before .before .loop .k) (c .before .before .before .before .loop .i) (c .before .before .before .loop-test .taken) (c .before .before .before .before .loop .inv .1) (c .before .before .before .before .loop .inv .3) (c .before .width .result) (c .before .width .ensures) in (omega (arith, c .before .before .before .before .loop .inv .2, c .before .before .before .before .loop .inv .1, c .before .before .before .before .before .before .before .before .pre .short, c .before .before .before .before .before .before .before .before .pre .usable .within), c .before .before .before .before .before .before .before .before .pre .usable .fields (c .before .before .before .before .loop .k) (c .before .before .before .loop-test .taken), c .before .before .before .before .before .before .before .before .pre .usable .short, omega arith, z .within, c .before .before .before .before .before .before .before .before .pre .short, z .takes)
 
--- src/lib.rt:108:13
 add-k : tie.Need-add-k Inv-loop μ-loop
 add-k c = search needs
 
--- src/lib.rt:102:5
 loop-less : tie.Need-loop-less Inv-loop μ-loop
 loop-less c = search needs
 
--- src/lib.rt:102:5
 loop-again : tie.Need-loop-again Inv-loop μ-loop
 loop-again c = let z = turn (c .before .before .before .before .before .before .before .before .before .before .before .args .s .now) (c .before .before .before .before .before .before .before .before .before .before .before .args .t2) (c .before .before .before .before .before .before .before .before .before .before .before .args .first) (c .before .before .before .before .before .before .before .before .before .before .before .args .many) (c .before .before .before .before .before .before .before .before .before .before .before .args .p .now) (c .before .before .before .before .before .before .before .loop .k) (c .before .before .before .before .before .before .before .loop .i) (c .before .before .before .before .before .before .loop-test .taken) (c .before .before .before .before .before .before .before .loop .inv .1) (c .before .before .before .before .before .before .before .loop .inv .3) (c .before .before .before .before .width .result) (c .before .before .before .before .width .ensures) in (search needs, z .within, omega (arith, c .before .before .before .before .before .before .before .loop .inv .2, went-bound (shown (kindFor (c .before .before .before .before .before .before .before .before .before .before .before .args .s .now) (getD (c .before .before .before .before .before .before .before .before .before .before .before .args .t2) (c .before .before .before .before .before .before .before .before .before .before .before .args .first + c .before .before .before .before .before .before .before .loop .k) noField)) (slice (c .before .before .before .before .before .before .before .loop .i) (c .before .before .before .before .before .before .before .loop .i + c .before .before .before .before .width .result) (c .before .before .before .before .before .before .before .before .before .before .before .args .p .now))) _ (field-short (c .before .before .before .before .before .before .before .before .before .before .before .args .s .now) (getD (c .before .before .before .before .before .before .before .before .before .before .before .args .t2) (c .before .before .before .before .before .before .before .before .before .before .before .args .first + c .before .before .before .before .before .before .before .loop .k) noField) (c .before .before .before .before .before .before .before .before .before .before .before .pre .usable .fields (c .before .before .before .before .before .before .before .loop .k) (c .before .before .before .before .before .before .loop-test .taken)) (c .before .before .before .before .before .before .before .before .before .before .before .args .p .now) (c .before .before .before .before .before .before .before .loop .i) (c .before .before .before .before .before .before .before .loop .i + c .before .before .before .before .width .result) (λ j. omega (arith, c .before .before .before .before .before .before .before .before .shared-slice-known2 .given j)) (z .within) (z .takes)) (c .before .before .put-next .ensures)), z .others, text-went _ _ _ _ _ (c .before .before .before .before .before .before .before .loop .inv .4) (z .text) (c .before .before .put-next .ensures))
 
--- src/lib.rt:95:1
 same-length : tie.Need-same-length Inv-loop μ-loop
 same-length c = search needs
 
--- src/lib.rt:95:1
 returns : tie.Need-returns Inv-loop μ-loop
 returns c = left-none (c .before .loop .inv .4) (run-done (c .before .before .before .before .before .args .s .now) (c .before .before .before .before .before .args .t2) (c .before .before .before .before .before .args .first) (c .before .before .before .before .before .args .many) (c .before .loop .k) (drop (c .before .loop .i) (c .before .before .before .before .before .args .p .now)) (c .before .loop .at) (c .loop-test .left) (c .before .loop .inv .3))
 

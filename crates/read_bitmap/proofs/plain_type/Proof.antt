@@ -9,43 +9,33 @@ use Rattle.read_bitmap.proofs.last_type.Reads as last-type-reads
 use Rattle.read_number.proofs.rrtype.plain_front.Reads as plain-front-reads
 use Rattle.tokens.proofs.parted_at.Reads as parted-at-reads
 
--- src/read.rt:73:8
 sub-if1 : tie.Need-sub-if1
 sub-if1 c = search needs
 
--- src/read.rt:74:9
 last-type-requires : tie.Need-last-type-requires
 last-type-requires c κs = search needs
 
--- src/read.rt:74:9
 returns : tie.Need-returns
 returns c = search needs
 
--- src/read.rt:76:9
 plain-front-requires : tie.Need-plain-front-requires
 plain-front-requires c κs = search needs
 
--- src/read.rt:78:25
 enum-told : tie.Need-enum-told
 enum-told c = search needs
 
--- src/read.rt:79:22
 enum-known-f : tie.Need-enum-known-f
 enum-known-f c = search needs
 
--- src/read.rt:80:16
 parted-at-requires : tie.Need-parted-at-requires
 parted-at-requires c κs = search needs
 
--- src/read.rt:81:17
 returns-2 : tie.Need-returns-2
 returns-2 c = let w = rw (c .before .before .before .f .given .1) at (c .before .before .before .before .before .plain-front .ensures) in (w .0, w .1, w .2, sym (c .before .parted-at .ensures) ∙ c .if2 .taken)
 
--- src/read.rt:69:1
 returns-3 : tie.Need-returns-3
 returns-3 c = search needs
 
--- src/read.rt:69:1
 returns-4 : tie.Need-returns-4
 returns-4 c = search needs
 

@@ -8,31 +8,24 @@ use Rattle.read_entry.proofs.is_name.Reads as reads
 use Rattle.read_entry.proofs.is_name.Lts as lts
 use Rattle.wire.proofs.name.Reads as name-reads
 
--- src/lib.rt:262:9
 name-requires : tie.Need-name-requires
 name-requires c κs = search needs
 
--- src/lib.rt:264:24
 enum-told : tie.Need-enum-told
 enum-told c = search needs
 
--- src/lib.rt:265:22
 enum-told-2 : tie.Need-enum-told-2
 enum-told-2 c = search needs
 
--- src/lib.rt:266:20
 enum-known-t : tie.Need-enum-known-t
 enum-known-t c = search needs
 
--- src/lib.rt:259:1
 returns : tie.Need-returns
 returns c = rw (c .enum-told .given .1) at (whole-name (c .before .before .before .before .args .p .now) (c .before .before .name .result) (c .before .before .name .ensures))
 
--- src/lib.rt:259:1
 returns-2 : tie.Need-returns-2
 returns-2 c = rw (c .enum-told2 .given .1) at (whole-name (c .before .before .before .before .args .p .now) (c .before .before .name .result) (c .before .before .name .ensures))
 
--- src/lib.rt:259:1
 returns-3 : tie.Need-returns-3
 returns-3 c = rw (c .before .t .given .1) at (whole-name (c .before .before .before .before .before .args .p .now) (c .before .before .before .name .result) (c .before .before .before .name .ensures))
 

@@ -11,24 +11,19 @@ use Rattle.read_entry.proofs.read.Lts as lts
 use Rattle.read_entry.proofs.read_judged.Reads as read-judged-reads
 use Rattle.stanza.proofs.judged_outline.Reads as judged-outline-reads
 
--- src/lib.rt:322:9
 returns : tie.Need-returns
 unfolding read
 returns c = leaves-refused _ (c .before .before .before .before .before .args .at) _ _ _ _ (read-long (c .before .before .before .before .before .args .s .now) (c .before .before .before .before .before .args .first) (c .before .before .before .before .before .args .many) (c .before .before .before .before .before .args .origin .now) (c .before .before .before .before .before .args .t .now) (c .if1 .taken)) refl refl
 
--- src/lib.rt:327:9
 judged-outline-requires : tie.Need-judged-outline-requires
 judged-outline-requires c κs = search needs
 
--- src/lib.rt:328:5
 read-judged-requires : tie.Need-read-judged-requires
 read-judged-requires c κs = search needs
 
--- src/lib.rt:310:1
 same-length : tie.Need-same-length
 same-length c = search needs
 
--- src/lib.rt:310:1
 returns-2 : tie.Need-returns-2
 returns-2 c = search needs
 

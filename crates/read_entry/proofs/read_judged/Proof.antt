@@ -14,50 +14,39 @@ use Rattle.read_entry.proofs.is_name.Reads as is-name-reads
 use Rattle.entry.proofs.is_run.Reads as is-run-reads
 use Rattle.read_room.proofs.read_run.Reads as read-run-reads
 
--- src/lib.rt:287:21
 cast-t12 : tie.Need-cast-t12
 cast-t12 c = search needs
 
--- src/lib.rt:288:20
 cast-t13 : tie.Need-cast-t13
 cast-t13 c = search needs
 
--- src/lib.rt:286:9
 returns : tie.Need-returns
 unfolding read
 returns c = leaves-refused _ (c .before .before .before .before .before .before .args .at) _ _ _ _ (read-rejected (c .before .before .before .before .before .before .args .s .now) (c .before .before .before .before .before .before .args .o) (c .before .before .before .before .before .before .pre .0) (c .before .before .before .before .before .before .args .origin .now) (c .before .before .before .before .before .before .args .t .now) (c .before .before .before .before .before .before .pre .1) (c .before .before .before .before .before .before .args .first) (c .before .before .before .before .before .before .args .many) (c .before .if1 .taken)) refl refl
 
--- src/lib.rt:291:8
 is-run-requires : tie.Need-is-run-requires
 is-run-requires c κs = search needs
 
--- src/lib.rt:292:12
 is-name-requires : tie.Need-is-name-requires
 is-name-requires c κs = search needs
 
--- src/lib.rt:294:40
 sub-read-run : tie.Need-sub-read-run
 sub-read-run c = omega (arith, from-one (c .before .before .before .before .before .before .before .before .before .before .args .s .now) (c .before .before .before .before .before .before .before .before .before .before .args .o) (c .before .before .before .before .before .before .before .before .before .before .pre .0) (omega (arith, c .before .before .before .before .before .if1 .left)) (c .before .before .before .before .before .before .before .before .before .before .args .first) (c .before .before .before .before .before .before .before .before .before .before .args .many) (sym (c .before .before .before .if2 .taken) ∙ c .before .before .before .before .is-run .ensures))
 
--- src/lib.rt:294:13
 read-run-requires : tie.Need-read-run-requires
 read-run-requires c κs = (usable-run (c .before .before .before .before .before .before .before .before .before .before .before .args .s .now) (c .before .before .before .before .before .before .before .before .before .before .before .args .o) (c .before .before .before .before .before .before .before .before .before .before .before .pre .0) (omega (arith, c .before .before .before .before .before .before .if1 .left)) (c .before .before .before .before .before .before .before .before .before .before .before .args .first) (c .before .before .before .before .before .before .before .before .before .before .before .args .many) (sym (c .before .before .before .before .if2 .taken) ∙ c .before .before .before .before .before .is-run .ensures) (judged-short _ _ (accepted (c .before .before .before .before .before .before .before .before .before .before .before .args .s .now) (c .before .before .before .before .before .before .before .before .before .before .before .args .o) (c .before .before .before .before .before .before .before .before .before .before .before .pre .0 .judges) (omega (arith, c .before .before .before .before .before .before .if1 .left)))), sym (c .before .before .before .is-name .ensures) ∙ c .before .before .if3 .taken, c .before .before .before .before .before .before .before .before .before .before .before .pre .1)
 
--- src/lib.rt:294:13
 same-length : tie.Need-same-length
 same-length c = search needs
 
--- src/lib.rt:294:13
 returns-2 : tie.Need-returns-2
 unfolding read
 returns-2 c = rw (read-runs (c .before .before .before .before .before .before .before .before .before .before .before .before .before .before .args .s .now) (c .before .before .before .before .before .before .before .before .before .before .before .before .before .before .args .o) (c .before .before .before .before .before .before .before .before .before .before .before .before .before .before .pre .0) (c .before .before .before .before .before .before .before .before .before .before .before .before .before .before .args .origin .now) (c .before .before .before .before .before .before .before .before .before .before .before .before .before .before .args .t .now) (c .before .before .before .before .before .before .before .before .before .before .before .before .before .before .pre .1) (omega (arith, c .before .before .before .before .before .before .before .before .before .if1 .left)) (c .before .before .before .before .before .before .before .before .before .before .before .before .before .before .args .first) (c .before .before .before .before .before .before .before .before .before .before .before .before .before .before .args .many) (sym (c .before .before .before .before .before .before .before .if2 .taken) ∙ c .before .before .before .before .before .before .before .before .is-run .ensures) (sym (c .before .before .before .before .before .before .is-name .ensures) ∙ c .before .before .before .before .before .if3 .taken)) (c .before .before .read-run .ensures)
 
--- src/lib.rt:296:9
 returns-3 : tie.Need-returns-3
 unfolding read
 returns-3 c = leaves-refused _ (c .before .before .before .before .before .before .before .before .before .args .at) _ _ _ _ (read-no-origin (c .before .before .before .before .before .before .before .before .before .args .s .now) (c .before .before .before .before .before .before .before .before .before .args .o) (c .before .before .before .before .before .before .before .before .before .pre .0) (c .before .before .before .before .before .before .before .before .before .args .origin .now) (c .before .before .before .before .before .before .before .before .before .args .t .now) (c .before .before .before .before .before .before .before .before .before .pre .1) (omega (arith, c .before .before .before .before .if1 .left)) (c .before .before .before .before .before .before .before .before .before .args .first) (c .before .before .before .before .before .before .before .before .before .args .many) (sym (c .before .before .if2 .taken) ∙ c .before .before .before .is-run .ensures) (sym (c .before .is-name .ensures) ∙ c .if3 .left)) refl refl
 
--- src/lib.rt:271:1
 returns-4 : tie.Need-returns-4
 unfolding read
 returns-4 c = leaves-refused _ (c .before .before .before .before .before .before .before .args .at) _ _ _ _ (read-no-run (c .before .before .before .before .before .before .before .args .s .now) (c .before .before .before .before .before .before .before .args .o) (c .before .before .before .before .before .before .before .pre .0) (c .before .before .before .before .before .before .before .args .origin .now) (c .before .before .before .before .before .before .before .args .t .now) (c .before .before .before .before .before .before .before .pre .1) (omega (arith, c .before .before .if1 .left)) (c .before .before .before .before .before .before .before .args .first) (c .before .before .before .before .before .before .before .args .many) (sym (c .if2 .left) ∙ c .before .is-run .ensures)) refl refl

@@ -10,67 +10,51 @@ use Rattle.read_group.proofs.counted.Lts as lts
 use Rattle.read_group.proofs.lettered.Reads as lettered-reads
 use Rattle.writing.proofs.put.Reads as put-reads
 
--- src/group.rt:237:27
 add-lettered : tie.Need-add-lettered
 add-lettered c = search needs
 
--- src/group.rt:237:9
 lettered-requires : tie.Need-lettered-requires
 lettered-requires c κs = search needs
 
--- src/group.rt:239:25
 enum-told : tie.Need-enum-told
 enum-told c = search needs
 
--- src/group.rt:240:21
 enum-known-v : tie.Need-enum-known-v
 enum-known-v c = search needs
 
--- src/group.rt:241:30
 add-count : tie.Need-add-count
 add-count c = search needs
 
--- src/group.rt:241:25
 sub-count : tie.Need-sub-count
 sub-count c = omega (arith, count-is (c .before .before .before .before .before .before .before .before .before .args .out .now) (c .before .before .before .before .before .lettered .last .0) (c .before .before .before .before .before .before .before .before .before .args .n) (c .before .v .given .0 .0) (octetsBy letters 100 (c .before .before .before .before .before .before .before .before .before .args .w) (c .before .before .before .before .before .before .before .before .before .args .base) (slice (c .before .before .before .before .before .before .before .before .before .args .i) (c .before .before .before .before .before .before .before .before .before .args .e) (c .before .before .before .before .before .before .before .before .before .args .t .now))) (rw (c .before .v .given .1) at (c .before .before .before .before .before .lettered .ensures)))
 
--- src/group.rt:243:17
 same-length : tie.Need-same-length
 same-length c = search needs
 
--- src/group.rt:243:17
 returns : tie.Need-returns
 returns c = too-short (c .before .before .before .before .before .before .before .before .before .before .args .out .now) (c .before .before .before .before .before .before .lettered .last .0) (c .before .before .before .before .before .before .before .before .before .before .args .n) (c .before .before .v .given .0 .0) (octetsBy letters 100 (c .before .before .before .before .before .before .before .before .before .before .args .w) (c .before .before .before .before .before .before .before .before .before .before .args .base) (slice (c .before .before .before .before .before .before .before .before .before .before .args .i) (c .before .before .before .before .before .before .before .before .before .before .args .e) (c .before .before .before .before .before .before .before .before .before .before .args .t .now))) (rw (c .before .before .v .given .1) at (c .before .before .before .before .before .before .lettered .ensures)) (c .if1 .taken)
 
--- src/group.rt:246:17
 same-length-2 : tie.Need-same-length-2
 same-length-2 c = search needs
 
--- src/group.rt:246:17
 returns-2 : tie.Need-returns-2
 returns-2 c = too-long (c .before .before .before .before .before .before .before .before .before .before .before .args .out .now) (c .before .before .before .before .before .before .before .lettered .last .0) (c .before .before .before .before .before .before .before .before .before .before .before .args .n) (c .before .before .before .v .given .0 .0) (octetsBy letters 100 (c .before .before .before .before .before .before .before .before .before .before .before .args .w) (c .before .before .before .before .before .before .before .before .before .before .before .args .base) (slice (c .before .before .before .before .before .before .before .before .before .before .before .args .i) (c .before .before .before .before .before .before .before .before .before .before .before .args .e) (c .before .before .before .before .before .before .before .before .before .before .before .args .t .now))) (rw (c .before .before .before .v .given .1) at (c .before .before .before .before .before .before .before .lettered .ensures)) (c .before .if1 .left) (c .if2 .taken)
 
--- src/group.rt:248:25
 cast-put : tie.Need-cast-put
 cast-put c = search needs
 
--- src/group.rt:248:13
 put-requires : tie.Need-put-requires
 put-requires c κs = search needs
 
--- src/group.rt:223:1
 same-length-3 : tie.Need-same-length-3
 same-length-3 c = search needs
 
--- src/group.rt:223:1
 returns-3 : tie.Need-returns-3
 returns-3 c = rw (rw (c .enum-told .given .1) at (c .before .before .before .before .lettered .ensures))
 
--- src/group.rt:223:1
 same-length-4 : tie.Need-same-length-4
 same-length-4 c = search needs
 
--- src/group.rt:223:1
 returns-4 : tie.Need-returns-4
 returns-4 c = counted-value (c .before .before .before .before .before .before .before .before .before .before .before .before .before .before .before .args .out .now) (c .before .before .before .before .before .before .before .before .before .before .before .lettered .last .0) (c .before .before .before .before .before .before .before .before .before .before .before .before .before .before .before .args .n) (c .before .before .before .before .before .before .before .v .given .0 .0) (octetsBy letters 100 (c .before .before .before .before .before .before .before .before .before .before .before .before .before .before .before .args .w) (c .before .before .before .before .before .before .before .before .before .before .before .before .before .before .before .args .base) (slice (c .before .before .before .before .before .before .before .before .before .before .before .before .before .before .before .args .i) (c .before .before .before .before .before .before .before .before .before .before .before .before .before .before .before .args .e) (c .before .before .before .before .before .before .before .before .before .before .before .before .before .before .before .args .t .now))) (rw (c .before .before .before .before .before .before .before .v .given .1) at (c .before .before .before .before .before .before .before .before .before .before .before .lettered .ensures)) _ (c .before .before .before .before .before .if1 .left) (c .before .before .before .before .if2 .left) (c .before .before .put .ensures)
 

@@ -8,43 +8,33 @@ use Rattle.read_group.proofs.finish.Lts as lts
 use Rattle.read_group.proofs.power.Reads as power-reads
 use Rattle.put_digits.proofs.put_octets.Reads as put-octets-reads
 
--- src/group.rt:121:13
 mul-z : tie.Need-mul-z
 mul-z c = omega (arith, few-bits (c .before .args .w) (c .before .args .q) (c .before .pre .2) (c .before .pre .3))
 
--- src/group.rt:123:9
 returns : tie.Need-returns
 returns c = many-left (c .before .before .args .w) (c .before .before .args .q) (c .before .before .args .v) (c .before .before .pre .4) (c .if1 .taken)
 
--- src/group.rt:125:9
 power-requires : tie.Need-power-requires
 power-requires c κs = search needs
 
--- src/group.rt:126:8
 rem-if2 : tie.Need-rem-if2
 rem-if2 c = omega (arith, power-some (c .before .before .before .args .w) (c .before .before .before .args .q) (c .before .before .before .args .v) (c .before .before .before .pre .4) _ (c .power .ensures))
 
--- src/group.rt:127:9
 returns-2 : tie.Need-returns-2
 returns-2 c = bits-left (c .before .before .before .before .args .w) (c .before .before .before .before .args .q) (c .before .before .before .before .args .v) (c .before .before .before .before .pre .4) _ (c .before .power .ensures) (c .before .before .if1 .left) (c .if2 .taken)
 
--- src/group.rt:129:36
 mul-put-octets : tie.Need-mul-put-octets
 mul-put-octets c = omega (arith, few-bits (c .before .before .before .before .before .args .w) (c .before .before .before .before .before .args .q) (c .before .before .before .before .before .pre .2) (c .before .before .before .before .before .pre .3))
 
--- src/group.rt:129:47
 div-put-octets : tie.Need-div-put-octets
 div-put-octets c = omega (arith, power-some (c .before .before .before .before .before .args .w) (c .before .before .before .before .before .args .q) (c .before .before .before .before .before .args .v) (c .before .before .before .before .before .pre .4) _ (c .before .before .power .ensures))
 
--- src/group.rt:129:17
 put-octets-requires : tie.Need-put-octets-requires
 put-octets-requires c κs = (search needs, omega (arith, few-bits (c .before .before .before .before .before .args .w) (c .before .before .before .before .before .args .q) (c .before .before .before .before .before .pre .2) (c .before .before .before .before .before .pre .3)))
 
--- src/group.rt:117:1
 same-length : tie.Need-same-length
 same-length c = search needs
 
--- src/group.rt:117:1
 returns-3 : tie.Need-returns-3
 returns-3 c = none-left (c .before .before .before .before .before .before .before .before .args .w) (c .before .before .before .before .before .before .before .before .args .q) (c .before .before .before .before .before .before .before .before .args .v) (c .before .before .before .before .before .before .before .before .pre .4) _ (c .before .before .before .before .before .power .ensures) (c .before .before .before .before .before .before .if1 .left) _ _ _ _ (c .before .before .before .before .if2 .left) (c .before .before .put-octets .ensures)
 

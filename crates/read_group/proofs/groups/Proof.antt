@@ -17,35 +17,27 @@ Inv-loop out₀ n t i e a skip w base k g m₀ j₀ q₀ v₀ out m j q v = Begu
 abbrev μ-loop : tie.MeasureT-loop
 μ-loop out₀ n t i e a skip w base k g m₀ j₀ q₀ v₀ out m j q v = e - j + q
 
--- src/group.rt:158:9
 take-digits-requires : tie.Need-take-digits-requires Inv-loop μ-loop
 take-digits-requires c κs = (c .before .before .before .pre .1, c .before .before .before .pre .2, base-small _ _ _ _ (c .before .before .before .pre .5), c .before .before .before .pre .5 .few-digits, c .before .before .before .pre .4)
 
--- src/group.rt:162:5
 loop-holds : tie.Need-loop-holds Inv-loop μ-loop
 loop-holds c = begun-none _ _ _ _ _ _ _ _ (c .before .before .before .before .pre .5) _ _ _ (c .before .before .before .before .pre .1) (c .before .before .before .before .pre .2) _ _ _ (c .take-digits .ensures)
 
--- src/group.rt:163:9
 put-group-requires : tie.Need-put-group-requires Inv-loop μ-loop
 put-group-requires c κs = (omega (arith, c .before .before .loop .inv .bound, c .before .before .loop .inv .within), omega (arith, c .before .before .before .before .before .before .before .pre .5 .less, c .before .before .before .before .before .before .before .pre .5 .few-digits))
 
--- src/group.rt:164:13
 take-digits-requires-2 : tie.Need-take-digits-requires-2 Inv-loop μ-loop
 take-digits-requires-2 c κs = (c .before .before .before .before .before .loop .inv .within, c .before .before .before .before .before .before .before .before .before .before .pre .2, base-small _ _ _ _ (c .before .before .before .before .before .before .before .before .before .before .pre .5), c .before .before .before .before .before .before .before .before .before .before .pre .5 .few-digits, c .before .before .before .before .before .before .before .before .before .before .pre .4)
 
--- src/group.rt:162:5
 loop-less : tie.Need-loop-less Inv-loop μ-loop
 loop-less c = omega (arith, c .take-digits2 .ensures .from, c .take-digits2 .ensures .within, c .before .before .before .before .before .before .before .before .before .before .before .pre .5 .some-digits, c .before .before .before .before .before .loop-test .taken, c .before .before .before .before .before .before .loop .inv .within)
 
--- src/group.rt:162:5
 loop-again : tie.Need-loop-again Inv-loop μ-loop
 loop-again c = begun-group _ _ _ _ _ _ _ _ (c .before .before .before .before .before .before .before .before .before .before .before .pre .5) _ _ _ (c .before .before .before .before .before .before .before .before .before .before .before .pre .1) (c .before .before .before .before .before .before .before .before .before .before .before .pre .2) _ _ _ _ _ _ _ _ _ _ (c .before .before .before .before .before .before .loop .inv) (c .before .before .before .before .before .loop-test .taken) (c .before .before .before .put-group .ensures) (c .take-digits2 .ensures)
 
--- src/group.rt:141:1
 same-length : tie.Need-same-length Inv-loop μ-loop
 same-length c = wrote-length (c .before .loop .inv .wrote)
 
--- src/group.rt:141:1
 returns : tie.Need-returns Inv-loop μ-loop
 returns c = (c .before .loop .inv, search needs)
 

@@ -19,35 +19,27 @@ Inv-loop t i e a skip j₀ j = (i ≤ j) × (j ≤ e) × (keptFrom a skip t j e 
 abbrev μ-loop : tie.MeasureT-loop
 μ-loop t i e a skip j₀ j = e - j
 
--- src/group.rt:43:5
 loop-holds : tie.Need-loop-holds Inv-loop μ-loop
 loop-holds c = (search needs, search needs, refl)
 
--- src/group.rt:44:25
 shared-slice-read-number-of : tie.Need-shared-slice-read-number-of Inv-loop μ-loop
 shared-slice-read-number-of c = search needs
 
--- src/group.rt:44:12
 number-of-requires : tie.Need-number-of-requires Inv-loop μ-loop
 number-of-requires c κs = search needs
 
--- src/group.rt:45:13
 returns : tie.Need-returns Inv-loop μ-loop
 returns c = front-off (leftOut (c .before .before .before .before .before .before .before .args .a .now) (c .before .before .before .before .before .before .before .args .skip)) _ _ _ (c .before .before .before .loop-test .taken) (c .before .before .before .before .before .before .before .pre .1) (ne-eqb _ _ (λ q. c .if1 .taken (c .before .number-of .ensures ∙ q))) ∙ c .before .before .before .before .loop .inv .2
 
--- src/group.rt:47:13
 add-j : tie.Need-add-j Inv-loop μ-loop
 add-j c = search needs
 
--- src/group.rt:43:5
 loop-less : tie.Need-loop-less Inv-loop μ-loop
 loop-less c = search needs
 
--- src/group.rt:43:5
 loop-again : tie.Need-loop-again Inv-loop μ-loop
 loop-again c = (search needs, search needs, front-on (leftOut (c .before .before .before .before .before .before .before .args .a .now) (c .before .before .before .before .before .before .before .args .skip)) _ _ _ (c .before .before .before .loop-test .taken) (c .before .before .before .before .before .before .before .pre .1) (eq-eqb _ _ (sym (c .before .number-of .ensures) ∙ c .if1 .left)) ∙ c .before .before .before .before .loop .inv .2)
 
--- src/group.rt:38:1
 returns-2 : tie.Need-returns-2 Inv-loop μ-loop
 returns-2 c = front-end (leftOut (c .before .before .before .before .args .a .now) (c .before .before .before .before .args .skip)) _ _ _ (c .loop-test .left) ∙ c .before .loop .inv .2
 

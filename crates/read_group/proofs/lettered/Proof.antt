@@ -7,15 +7,12 @@ use Rattle.read_group.proofs.lettered.Reads as reads
 use Rattle.read_group.proofs.lettered.Lts as lts
 use Rattle.read_group.proofs.octets.Reads as octets-reads
 
--- src/group.rt:219:5
 octets-requires : tie.Need-octets-requires
 octets-requires c κs = search needs
 
--- src/group.rt:203:1
 same-length : tie.Need-same-length
 same-length c = search needs
 
--- src/group.rt:203:1
 returns : tie.Need-returns
 unfolding letters
 returns c = c .before .before .octets .ensures

@@ -14,51 +14,39 @@ Inv-loop t i a base k v₀ q₀ v q = (q ≤ k) × ((skip : ℕ) → base ≤ sk
 abbrev μ-loop : tie.MeasureT-loop
 μ-loop t i a base k v₀ q₀ v q = k - q
 
--- src/group.rt:59:5
 loop-holds : tie.Need-loop-holds Inv-loop μ-loop
 loop-holds c = (search needs, λ skip h. quick-none (c .before .before .args .a .now) skip (c .before .before .args .base) (c .before .before .args .t .now) (c .before .before .args .i))
 
--- src/group.rt:60:32
 add-number-of : tie.Need-add-number-of Inv-loop μ-loop
 add-number-of c = search needs
 
--- src/group.rt:60:30
 shared-slice-read-number-of : tie.Need-shared-slice-read-number-of Inv-loop μ-loop
 shared-slice-read-number-of c = search needs
 
--- src/group.rt:60:13
 number-of-requires : tie.Need-number-of-requires Inv-loop μ-loop
 number-of-requires c κs = search needs
 
--- src/group.rt:62:13
 returns : tie.Need-returns Inv-loop μ-loop
 returns c = λ h skip k e l. absurd (omega arith)
 
--- src/group.rt:68:13
 mul-v : tie.Need-mul-v Inv-loop μ-loop
 mul-v c = omega (arith, taking-room (c .before .before .before .before .before .before .before .args .a .now) (c .before .before .before .before .before .before .before .args .base) (c .before .before .before .before .before .before .before .args .base) (c .before .before .before .before .before .before .before .args .t .now) (c .before .before .before .before .before .before .before .args .i + c .before .before .before .before .loop .q) (omega arith) (c .before .before .before .before .before .before .before .args .i) (c .before .before .before .before .loop .q) (c .before .before .before .before .loop .v) (c .before .before .before .before .before .before .before .args .i + c .before .before .before .before .loop .q) (c .before .before .before .before .loop .inv .1 (c .before .before .before .before .before .before .before .args .base) (omega arith)) (c .before .before .before .before .before .before .before .pre .1) (omega arith))
 
--- src/group.rt:68:13
 add-v : tie.Need-add-v Inv-loop μ-loop
 add-v c = omega (arith, taking-room (c .before .before .before .before .before .before .before .args .a .now) (c .before .before .before .before .before .before .before .args .base) (c .before .before .before .before .before .before .before .args .base) (c .before .before .before .before .before .before .before .args .t .now) (c .before .before .before .before .before .before .before .args .i + c .before .before .before .before .loop .q) (omega arith) (c .before .before .before .before .before .before .before .args .i) (c .before .before .before .before .loop .q) (c .before .before .before .before .loop .v) (c .before .before .before .before .before .before .before .args .i + c .before .before .before .before .loop .q) (c .before .before .before .before .loop .inv .1 (c .before .before .before .before .before .before .before .args .base) (omega arith)) (c .before .before .before .before .before .before .before .pre .1) (omega arith))
 
--- src/group.rt:69:13
 add-q : tie.Need-add-q Inv-loop μ-loop
 add-q c = search needs
 
--- src/group.rt:59:5
 loop-less : tie.Need-loop-less Inv-loop μ-loop
 loop-less c = search needs
 
--- src/group.rt:59:5
 loop-again : tie.Need-loop-again Inv-loop μ-loop
 loop-again c = (search needs, λ skip h. quick-next (c .before .before .before .before .before .before .before .args .a .now) skip (c .before .before .before .before .before .before .before .args .base) (c .before .before .before .before .before .before .before .args .t .now) (c .before .before .before .before .before .before .before .args .i) (c .before .before .before .before .loop .q) (c .before .before .before .before .loop .v) (c .before .number-of .result) (c .before .before .before .before .loop .inv .1 skip h) (omega arith) (c .before .number-of .ensures) (c .if1 .left) h)
 
--- src/group.rt:72:13
 add-t13 : tie.Need-add-t13 Inv-loop μ-loop
 add-t13 c = search needs
 
--- src/group.rt:53:1
 returns-2 : tie.Need-returns-2 Inv-loop μ-loop
 returns-2 c = λ h skip u e l. quick-taken (c .before .before .before .before .args .a .now) skip (c .before .before .before .before .args .base) (c .before .before .before .before .args .t .now) (c .before .before .before .before .args .i) (c .before .before .before .before .args .k) (c .before .loop .q) (c .before .loop .v) e (c .before .loop .inv .1 skip u) (c .before .loop .inv .0) (c .loop-test .left) l
 

@@ -8,27 +8,21 @@ use Rattle.read_group.proofs.octets.Lts as lts
 use Rattle.read_group.proofs.finish.Reads as finish-reads
 use Rattle.read_group.proofs.groups.Reads as groups-reads
 
--- src/group.rt:194:9
 groups-requires : tie.Need-groups-requires
 groups-requires c κs = c .before .before .before .before .pre
 
--- src/group.rt:197:9
 same-length : tie.Need-same-length
 same-length c = search needs
 
--- src/group.rt:197:9
 returns : tie.Need-returns
 returns c = begun-fault _ _ _ _ _ _ _ _ (c .before .before .before .before .before .before .before .before .pre .5) _ _ _ (c .before .before .before .before .before .before .before .before .pre .1) (c .before .before .before .before .before .before .before .before .pre .2) _ _ _ _ _ (c .before .before .before .groups .ensures .0) (c .if1 .taken) (c .before .before .before .groups .ensures .1)
 
--- src/group.rt:199:5
 finish-requires : tie.Need-finish-requires
 finish-requires c κs = (omega (arith, c .before .before .before .before .groups .ensures .0 .bound, c .before .before .before .before .groups .ensures .0 .within, c .before .before .before .before .before .before .before .before .before .pre .0, c .before .before .before .before .before .before .before .before .before .pre .2, c .before .before .before .before .before .before .before .before .before .pre .3), c .before .before .before .before .before .before .before .before .before .pre .5 .some-bits, c .before .before .before .before .before .before .before .before .before .pre .5 .few-bits, omega (arith, c .before .before .before .before .groups .ensures .0 .few, c .before .before .before .before .before .before .before .before .before .pre .5 .few-digits), begun-small _ _ _ _ _ _ _ _ (c .before .before .before .before .before .before .before .before .before .pre .5) _ _ _ (c .before .before .before .before .before .before .before .before .before .pre .1) (c .before .before .before .before .before .before .before .before .before .pre .2) _ _ _ _ _ (c .before .before .before .before .groups .ensures .0))
 
--- src/group.rt:178:1
 same-length-2 : tie.Need-same-length-2
 same-length-2 c = search needs
 
--- src/group.rt:178:1
 returns-2 : tie.Need-returns-2
 returns-2 c = begun-octets (c .before .before .before .before .before .before .before .before .before .before .before .before .args .out .now) (c .before .before .before .before .before .before .before .before .before .before .before .before .args .n) (c .before .before .before .before .before .before .before .before .before .before .before .before .args .a .now) (c .before .before .before .before .before .before .before .before .before .before .before .before .args .skip) (c .before .before .before .before .before .before .before .before .before .before .before .before .args .w) (c .before .before .before .before .before .before .before .before .before .before .before .before .args .base) (c .before .before .before .before .before .before .before .before .before .before .before .before .args .k) (c .before .before .before .before .before .before .before .before .before .before .before .before .args .g) (c .before .before .before .before .before .before .before .before .before .before .before .before .pre .5) (c .before .before .before .before .before .before .before .before .before .before .before .before .args .t .now) (c .before .before .before .before .before .before .before .before .before .before .before .before .args .i) (c .before .before .before .before .before .before .before .before .before .before .before .before .args .e) (c .before .before .before .before .before .before .before .before .before .before .before .before .pre .1) (c .before .before .before .before .before .before .before .before .before .before .before .before .pre .2) (c .before .before .before .before .before .before .before .groups .last .0) (c .before .before .before .before .before .before .before .groups .result .at) (c .before .before .before .before .before .before .before .groups .result .end) (c .before .before .before .before .before .before .before .groups .result .count) (c .before .before .before .before .before .before .before .groups .result .number) (c .before .before .before .before .before .before .before .groups .ensures .0) (c .before .before .before .before .if1 .left) (c .before .before .finish .last .0) (c .before .before .finish .result) (c .before .before .finish .ensures)
 

@@ -16,27 +16,21 @@ Inv-loop z p₀ k₀ p k = (k ≤ z) × (p ≡ 2 ^ k)
 abbrev μ-loop : tie.MeasureT-loop
 μ-loop z p₀ k₀ p k = z - k
 
--- src/group.rt:109:5
 loop-holds : tie.Need-loop-holds Inv-loop μ-loop
 loop-holds c = (search needs, refl)
 
--- src/group.rt:110:13
 mul-p : tie.Need-mul-p Inv-loop μ-loop
 mul-p c = omega (arith, power-small (c .before .loop .p) (c .before .loop .k) (c .before .loop .inv .1) (omega arith))
 
--- src/group.rt:111:13
 add-k : tie.Need-add-k Inv-loop μ-loop
 add-k c = search needs
 
--- src/group.rt:109:5
 loop-less : tie.Need-loop-less Inv-loop μ-loop
 loop-less c = search needs
 
--- src/group.rt:109:5
 loop-again : tie.Need-loop-again Inv-loop μ-loop
 loop-again c = (search needs, power-on _ _ (c .before .loop .inv .1))
 
--- src/group.rt:103:1
 returns : tie.Need-returns Inv-loop μ-loop
 returns c = power-end _ (c .before .loop .k) _ (c .before .loop .inv .1) (search needs) (search needs)
 

@@ -6,39 +6,30 @@ use Rattle.read_group.proofs.put_group.Reads as reads
 use Rattle.read_group.proofs.put_group.Lts as lts
 use Rattle.put_digits.proofs.put_octets.Reads as put-octets-reads
 
--- src/group.rt:175:9
 put-octets-requires : tie.Need-put-octets-requires
 put-octets-requires c κs = search needs
 
--- src/group.rt:175:9
 same-length : tie.Need-same-length
 same-length c = search needs
 
--- src/group.rt:175:9
 returns : tie.Need-returns
 returns c = rw (c .before .before .before .before .if1 .taken) (c .before .before .put-octets .ensures)
 
--- src/group.rt:178:9
 put-octets-requires-2 : tie.Need-put-octets-requires-2
 put-octets-requires-2 c κs = search needs
 
--- src/group.rt:178:9
 same-length-2 : tie.Need-same-length-2
 same-length-2 c = search needs
 
--- src/group.rt:178:9
 returns-2 : tie.Need-returns-2
 returns-2 c = rw (c .before .before .before .before .if2 .taken) (c .before .before .put-octets2 .ensures)
 
--- src/group.rt:180:5
 put-octets-requires-3 : tie.Need-put-octets-requires-3
 put-octets-requires-3 c κs = search needs
 
--- src/group.rt:170:1
 same-length-3 : tie.Need-same-length-3
 same-length-3 c = search needs
 
--- src/group.rt:170:1
 returns-3 : tie.Need-returns-3
 returns-3 c = search needs
 

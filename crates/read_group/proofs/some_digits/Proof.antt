@@ -16,59 +16,45 @@ Inv-loop t i e a skip base k v₀ q₀ j₀ v q j = (q ≤ k) × Taking a skip b
 abbrev μ-loop : tie.MeasureT-loop
 μ-loop t i e a skip base k v₀ q₀ j₀ v q j = k - q
 
--- src/group.rt:67:9
 kept-from-requires : tie.Need-kept-from-requires Inv-loop μ-loop
 kept-from-requires c κs = search needs
 
--- src/group.rt:68:5
 loop-holds : tie.Need-loop-holds Inv-loop μ-loop
 loop-holds c = (search needs, taking-none _ _ (c .before .before .before .args .base) _ _ (c .before .before .before .pre .1) _ _ (c .before .before .before .pre .0) (c .kept-from .ensures))
 
--- src/group.rt:70:13
 returns : tie.Need-returns Inv-loop μ-loop
 returns c = taken _ _ _ _ _ (c .before .before .before .before .before .before .pre .1) _ _ _ _ _ (c .before .before .loop .inv .1) (c .before .before .loop .inv .0) (λ m n. omega arith)
 
--- src/group.rt:76:30
 shared-slice-read-number-of : tie.Need-shared-slice-read-number-of Inv-loop μ-loop
 shared-slice-read-number-of c = omega arith
 
--- src/group.rt:76:13
 number-of-requires : tie.Need-number-of-requires Inv-loop μ-loop
 number-of-requires c κs = search needs
 
--- src/group.rt:78:13
 returns-2 : tie.Need-returns-2 Inv-loop μ-loop
 returns-2 c = taken _ _ _ _ _ (c .before .before .before .before .before .before .before .before .before .pre .1) _ _ _ _ _ (c .before .before .before .before .before .loop .inv .1) (c .before .before .before .before .before .loop .inv .0) (λ m n. subst (λ z. c .before .before .before .before .before .before .before .before .before .args .base ≤ z) (c .before .number-of .ensures) (c .if2 .taken))
 
--- src/group.rt:84:13
 mul-v : tie.Need-mul-v Inv-loop μ-loop
 mul-v c = omega (arith, taking-room (c .before .before .before .before .before .before .before .before .before .args .a .now) (c .before .before .before .before .before .before .before .before .before .args .skip) (c .before .before .before .before .before .before .before .before .before .args .base) (c .before .before .before .before .before .before .before .before .before .args .t .now) (c .before .before .before .before .before .before .before .before .before .args .e) (c .before .before .before .before .before .before .before .before .before .pre .1) _ _ _ _ (c .before .before .before .before .before .loop .inv .1) (c .before .before .before .before .before .before .before .before .before .pre .2) (omega arith))
 
--- src/group.rt:84:13
 add-v : tie.Need-add-v Inv-loop μ-loop
 add-v c = omega (arith, taking-room (c .before .before .before .before .before .before .before .before .before .args .a .now) (c .before .before .before .before .before .before .before .before .before .args .skip) (c .before .before .before .before .before .before .before .before .before .args .base) (c .before .before .before .before .before .before .before .before .before .args .t .now) (c .before .before .before .before .before .before .before .before .before .args .e) (c .before .before .before .before .before .before .before .before .before .pre .1) _ _ _ _ (c .before .before .before .before .before .loop .inv .1) (c .before .before .before .before .before .before .before .before .before .pre .2) (omega arith))
 
--- src/group.rt:85:13
 add-q : tie.Need-add-q Inv-loop μ-loop
 add-q c = search needs
 
--- src/group.rt:86:26
 add-kept-from : tie.Need-add-kept-from Inv-loop μ-loop
 add-kept-from c = search needs
 
--- src/group.rt:86:9
 kept-from-requires-2 : tie.Need-kept-from-requires-2 Inv-loop μ-loop
 kept-from-requires-2 c κs = search needs
 
--- src/group.rt:68:5
 loop-less : tie.Need-loop-less Inv-loop μ-loop
 loop-less c = search needs
 
--- src/group.rt:68:5
 loop-again : tie.Need-loop-again Inv-loop μ-loop
 loop-again c = (search needs, taking-next _ _ _ _ _ (c .before .before .before .before .before .before .before .before .before .before .pre .1) _ _ _ _ _ _ (c .before .before .before .before .before .before .loop .inv .1) (c .before .before .before .before .if1 .left) (c .before .before .number-of .ensures) (c .before .if2 .left) (c .kept-from2 .ensures))
 
--- src/group.rt:53:1
 returns-3 : tie.Need-returns-3 Inv-loop μ-loop
 returns-3 c = taken _ _ _ _ _ (c .before .before .before .before .before .pre .1) _ _ _ _ _ (c .before .loop .inv .1) (c .before .loop .inv .0) (λ m n. omega arith)
 

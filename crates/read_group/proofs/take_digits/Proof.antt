@@ -7,19 +7,15 @@ use Rattle.read_group.proofs.take_digits.Lts as lts
 use Rattle.read_group.proofs.quick_digits.Reads as quick-digits-reads
 use Rattle.read_group.proofs.some_digits.Reads as some-digits-reads
 
--- src/group.rt:145:13
 quick-digits-requires : tie.Need-quick-digits-requires
 quick-digits-requires c κs = search needs
 
--- src/group.rt:148:13
 returns : tie.Need-returns
 returns c = c .before .quick-digits .ensures (c .if2 .taken) (c .before .before .before .before .before .args .skip) (c .before .before .if1 .taken)
 
--- src/group.rt:151:5
 some-digits-requires : tie.Need-some-digits-requires
 some-digits-requires c κs = search needs
 
--- src/group.rt:140:1
 returns-2 : tie.Need-returns-2
 returns-2 c = search needs
 

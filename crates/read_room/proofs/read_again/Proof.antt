@@ -9,51 +9,39 @@ use Rattle.read_room.proofs.read_again.Lts as lts
 use Rattle.writing.proofs.least.Reads as least-reads
 use Rattle.reading.proofs.read_run.Reads as read-run-reads
 
--- src/lib.rt:195:9
 least-requires : tie.Need-least-requires
 least-requires c κs = search needs
 
--- src/lib.rt:196:31
 sub-read-run : tie.Need-sub-read-run
 sub-read-run c = search needs
 
--- src/lib.rt:196:31
 part-read-run-start : tie.Need-part-read-run-start
 part-read-run-start c = search needs
 
--- src/lib.rt:196:31
 part-read-run-end : tie.Need-part-read-run-end
 part-read-run-end c = search needs
 
--- src/lib.rt:196:9
 read-run-requires : tie.Need-read-run-requires
 read-run-requires c κs = search needs
 
--- src/lib.rt:198:22
 enum-known-r : tie.Need-enum-known-r
 enum-known-r c = search needs
 
--- src/lib.rt:202:19
 enum-known-r-2 : tie.Need-enum-known-r-2
 enum-known-r-2 c = search needs
 
--- src/lib.rt:204:20
 cast-t19 : tie.Need-cast-t19
 cast-t19 c = omega (arith, again-wrote (c .before .before .before .before .before .before .before .before .before .before .before .before .pre .3) _ _ _ (c .before .before .before .before .before .read-run .ensures) _ (c .before .r2 .given .1) .count, c .before .before .before .before .before .before .before .before .before .before .before .before .pre .3 .short)
 
--- src/lib.rt:182:1
 same-length : tie.Need-same-length
 same-length c = search needs
 
--- src/lib.rt:182:1
 returns : tie.Need-returns
 returns c = absurd (again-done (c .before .before .before .before .before .before .before .before .before .before .before .before .pre .3) _ _ _ (c .before .before .before .before .before .read-run .ensures) _ _ (c .before .r .given .1))
 
--- src/lib.rt:182:1
 same-length-2 : tie.Need-same-length-2
 same-length-2 c = search needs
 
--- src/lib.rt:182:1
 returns-2 : tie.Need-returns-2
 returns-2 c = again-leaves _ _ (c .before .before .before .before .before .before .before .before .before .before .before .before .args .at) _ _ _ (c .before .before .before .before .before .before .before .before .before .before .before .before .pre .3) (c .before .before .before .before .before .before .before .least .ensures) (again-wrote (c .before .before .before .before .before .before .before .before .before .before .before .before .pre .3) _ _ _ (c .before .before .before .before .before .read-run .ensures) _ (c .before .r2 .given .1)) refl refl
 

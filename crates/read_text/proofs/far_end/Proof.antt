@@ -18,31 +18,24 @@ Inv-loop t i e j₀ j = (j ≤ e) × (plainEnd t j e ≡ plainEnd t i e)
 abbrev μ-loop : tie.MeasureT-loop
 μ-loop t i e j₀ j = e - j
 
--- src/text.rt:63:5
 loop-holds : tie.Need-loop-holds Inv-loop μ-loop
 loop-holds c = (search needs, refl)
 
--- src/text.rt:63:11
 plain-block-requires : tie.Need-plain-block-requires Inv-loop μ-loop
 plain-block-requires c κs = search needs
 
--- src/text.rt:64:13
 add-j : tie.Need-add-j Inv-loop μ-loop
 add-j c = omega (arith, c .before .plain-block .ensures (c .if1 .taken) .0)
 
--- src/text.rt:63:5
 loop-less : tie.Need-loop-less Inv-loop μ-loop
 loop-less c = omega (arith, c .before .plain-block .ensures (c .if1 .taken) .0)
 
--- src/text.rt:63:5
 loop-again : tie.Need-loop-again Inv-loop μ-loop
 loop-again c = (c .before .plain-block .ensures (c .if1 .taken) .0, all-front noEscape (c .before .before .before .before .args .t .now) (c .before .before .loop .j) (c .before .before .loop .j + 32) (c .before .before .before .before .args .e) (omega arith) (c .before .plain-block .ensures (c .if1 .taken) .0) (c .before .before .before .before .pre .1) (c .before .plain-block .ensures (c .if1 .taken) .1) ∙ c .before .before .loop .inv .1)
 
--- src/text.rt:66:5
 near-end-requires : tie.Need-near-end-requires Inv-loop μ-loop
 near-end-requires c κs = search needs
 
--- src/text.rt:58:1
 returns : tie.Need-returns Inv-loop μ-loop
 returns c = c .near-end .ensures ∙ c .before .before .before .loop .inv .1
 

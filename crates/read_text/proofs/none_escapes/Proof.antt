@@ -18,31 +18,24 @@ Inv-loop t i all₀ k₀ all k = (k ≤ 32) × (all && allOf noEscape (slice (i 
 abbrev μ-loop : tie.MeasureT-loop
 μ-loop t i all₀ k₀ all k = 32 - k
 
--- src/text.rt:39:5
 loop-holds : tie.Need-loop-holds Inv-loop μ-loop
 loop-holds c = (search needs, let z : c .args .i + 0 ≡ c .args .i = omega arith in rw z)
 
--- src/text.rt:40:24
 add-all : tie.Need-add-all Inv-loop μ-loop
 add-all c = search needs
 
--- src/text.rt:40:22
 shared-slice-read-all : tie.Need-shared-slice-read-all Inv-loop μ-loop
 shared-slice-read-all c = search needs
 
--- src/text.rt:41:13
 add-k : tie.Need-add-k Inv-loop μ-loop
 add-k c = search needs
 
--- src/text.rt:39:5
 loop-less : tie.Need-loop-less Inv-loop μ-loop
 loop-less c = search needs
 
--- src/text.rt:39:5
 loop-again : tie.Need-loop-again Inv-loop μ-loop
 loop-again c = (search needs, let z : c .before .before .before .args .i + (c .before .before .loop .k + 1) ≡ c .before .before .before .args .i + c .before .before .loop .k + 1 = omega arith in rw z (all-next noEscape (c .before .before .before .args .t .now) (c .before .before .before .args .i + c .before .before .loop .k) (c .before .before .before .args .i + 32) (c .before .before .loop .all) (omega arith) (c .before .before .before .pre) ∙ c .before .before .loop .inv .1))
 
--- src/text.rt:33:1
 returns : tie.Need-returns Inv-loop μ-loop
 returns c = sym (all-none noEscape (c .before .before .args .t .now) (c .before .before .args .i + c .before .loop .k) (c .before .before .args .i + 32) (c .before .loop .all) (omega arith)) ∙ c .before .loop .inv .1
 

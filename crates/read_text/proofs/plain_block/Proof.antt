@@ -8,19 +8,15 @@ use Rattle.read_text.proofs.plain_block.Reads as reads
 use Rattle.read_text.proofs.plain_block.Lts as lts
 use Rattle.read_text.proofs.none_escapes.Reads as none-escapes-reads
 
--- src/text.rt:51:8
 sub-if1 : tie.Need-sub-if1
 sub-if1 c = search needs
 
--- src/text.rt:52:9
 returns : tie.Need-returns
 returns c = λ e. absurd (let z : _≡_ {A = ℕ} 0 1 = cc in omega arith)
 
--- src/text.rt:54:5
 none-escapes-requires : tie.Need-none-escapes-requires
 none-escapes-requires c κs = search needs
 
--- src/text.rt:47:1
 returns-2 : tie.Need-returns-2
 returns-2 c = λ e. (omega (arith, c .before .if1 .left), sym (c .none-escapes .ensures) ∙ e)
 

@@ -5,27 +5,21 @@ use Rattle.reading.proofs.all.Tie as tie
 use Rattle.reading.proofs.all.Reads as reads
 use Rattle.reading.proofs.all.Lts as lts
 
--- src/lib.rt:132:25
 enum-told : tie.Need-enum-told
 enum-told c = search needs
 
--- src/lib.rt:133:23
 enum-told-2 : tie.Need-enum-told-2
 enum-told-2 c = search needs
 
--- src/lib.rt:134:19
 enum-known-r : tie.Need-enum-known-r
 enum-known-r c = search needs
 
--- src/lib.rt:128:1
 returns : tie.Need-returns
 returns c = search needs
 
--- src/lib.rt:128:1
 returns-2 : tie.Need-returns-2
 returns-2 c = search needs
 
--- src/lib.rt:128:1
 returns-3 : tie.Need-returns-3
 returns-3 c = rw (c .before .r .given .1)
 

@@ -5,19 +5,15 @@ use Rattle.reading.proofs.before.Tie as tie
 use Rattle.reading.proofs.before.Reads as reads
 use Rattle.reading.proofs.before.Lts as lts
 
--- src/lib.rt:46:25
 enum-told : tie.Need-enum-told
 enum-told c = search needs
 
--- src/lib.rt:47:21
 enum-known-v : tie.Need-enum-known-v
 enum-known-v c = search needs
 
--- src/lib.rt:42:1
 returns : tie.Need-returns
 returns c = search needs
 
--- src/lib.rt:42:1
 returns-2 : tie.Need-returns-2
 returns-2 c = rw (c .before .v .given .1)
 

@@ -8,39 +8,30 @@ use Rattle.reading.proofs.none_from.Reads as reads
 use Rattle.reading.proofs.none_from.Lts as lts
 use Rattle.tokens.proofs.next_token.Reads as next-token-reads
 
--- src/lib.rt:175:9
 next-token-requires : tie.Need-next-token-requires
 next-token-requires c κs = search needs
 
--- src/lib.rt:177:22
 enum-told : tie.Need-enum-told
 enum-told c = search needs
 
--- src/lib.rt:178:29
 enum-told-2 : tie.Need-enum-told-2
 enum-told-2 c = search needs
 
--- src/lib.rt:179:31
 enum-told-3 : tie.Need-enum-told-3
 enum-told-3 c = search needs
 
--- src/lib.rt:180:25
 enum-told-4 : tie.Need-enum-told-4
 enum-told-4 c = search needs
 
--- src/lib.rt:171:1
 returns : tie.Need-returns
 returns c = ap null (rw (c .enum-told .given .1) at (c .before .before .next-token .ensures .0))
 
--- src/lib.rt:171:1
 returns-2 : tie.Need-returns-2
 returns-2 c = ap null (rw (c .enum-told2 .given .1) at (c .before .before .next-token .ensures .0))
 
--- src/lib.rt:171:1
 returns-3 : tie.Need-returns-3
 returns-3 c = ap null (rw (c .enum-told3 .given .1) at (c .before .before .next-token .ensures .0))
 
--- src/lib.rt:171:1
 returns-4 : tie.Need-returns-4
 returns-4 c = ap null (rw (c .enum-told4 .given .1) at (c .before .before .next-token .ensures .0))
 

@@ -12,19 +12,15 @@ use Rattle.reading.proofs.none_left.Tie as tie
 use Rattle.reading.proofs.none_left.Reads as reads
 use Rattle.reading.proofs.none_left.Lts as lts
 
--- src/lib.rt:55:32
 enum-known-f : tie.Need-enum-known-f
 enum-known-f c = search needs
 
--- src/lib.rt:57:13
 returns : tie.Need-returns
 returns c = λ b t l o h e g. rw (c .before .before .f .given .1) ([], none-name (c .before .before .f .given .0 .0) l o ∙ ap (λ x. cond x (got [] []) noToken) (le-leb _ _ (c .if1 .taken)) ∙ ap (got []) (sym e), wrote-none b _, h)
 
--- src/lib.rt:52:1
 returns-2 : tie.Need-returns-2
 returns-2 c = λ b t l o h e g. rw (c .before .before .f .given .1) (none-name (c .before .before .f .given .0 .0) l o ∙ ap (λ x. cond x (got [] []) noToken) (lt-leb _ _ (c .if1 .left)))
 
--- src/lib.rt:52:1
 returns-3 : tie.Need-returns-3
 returns-3 c = λ b t l o h e g. none-else (c .before .args .f) (c .match .keys2) l g o
 

@@ -16,95 +16,73 @@ use Rattle.reading.proofs.before.Reads as before-reads
 use Rattle.reading.proofs.one_token.Reads as one-token-reads
 use Rattle.reading.proofs.strings.Reads as strings-reads
 
--- src/lib.rt:153:42
 enum-told : tie.Need-enum-told
 enum-told c = search needs
 
--- src/lib.rt:153:23
 read-requires : tie.Need-read-requires
 read-requires c κs = search needs
 
--- src/lib.rt:153:9
 before-requires : tie.Need-before-requires
 before-requires c κs = search needs
 
--- src/lib.rt:153:9
 same-length : tie.Need-same-length
 same-length c = search needs
 
--- src/lib.rt:153:9
 returns : tie.Need-returns
 unfolding readField
 returns c = rw (c .before .before .before .before .before .enum-told .given .1, c .before2 .ensures) (gives-all _ _ (c .before .before .before .before .before .before .before .before .before .before .before .args .t .now) _ (c .before .before .before .read .result) _ (c .before .before .before .read .ensures))
 
--- src/lib.rt:156:24
 enum-told-2 : tie.Need-enum-told-2
 enum-told-2 c = search needs
 
--- src/lib.rt:156:9
 strings-requires : tie.Need-strings-requires
 strings-requires c κs = search needs
 
--- src/lib.rt:156:9
 same-length-2 : tie.Need-same-length-2
 same-length-2 c = search needs
 
--- src/lib.rt:156:9
 returns-2 : tie.Need-returns-2
 unfolding readField
 returns-2 c = rw (c .before .before .before .before .enum-told2 .given .1) (c .before .before .strings .ensures (c .before .before .before .before .before .before .before .before .before .before .before .args .origin .now))
 
--- src/lib.rt:159:38
 enum-told-3 : tie.Need-enum-told-3
 enum-told-3 c = search needs
 
--- src/lib.rt:159:20
 base64-rest-requires : tie.Need-base64-rest-requires
 base64-rest-requires c κs = search needs
 
--- src/lib.rt:159:9
 all-requires : tie.Need-all-requires
 all-requires c κs = search needs
 
--- src/lib.rt:159:9
 same-length-3 : tie.Need-same-length-3
 same-length-3 c = search needs
 
--- src/lib.rt:159:9
 returns-3 : tie.Need-returns-3
 unfolding readField
 returns-3 c = rw (c .before .before .before .before .before .enum-told3 .given .1, c .all .ensures) (gives-rest _ _ (c .before .before .before .before .before .before .before .before .before .before .before .before .before .args .t .now) _ (c .before .before .before .base64-rest .result) _ (c .before .before .before .base64-rest .ensures))
 
--- src/lib.rt:162:35
 enum-told-4 : tie.Need-enum-told-4
 enum-told-4 c = search needs
 
--- src/lib.rt:162:20
 hex-rest-requires : tie.Need-hex-rest-requires
 hex-rest-requires c κs = search needs
 
--- src/lib.rt:162:9
 all-requires-2 : tie.Need-all-requires-2
 all-requires-2 c κs = search needs
 
--- src/lib.rt:162:9
 same-length-4 : tie.Need-same-length-4
 same-length-4 c = search needs
 
--- src/lib.rt:162:9
 returns-4 : tie.Need-returns-4
 unfolding readField
 returns-4 c = rw (c .before .before .before .before .before .enum-told4 .given .1, c .all2 .ensures) (gives-rest _ _ (c .before .before .before .before .before .before .before .before .before .before .before .before .before .before .args .t .now) _ (c .before .before .before .hex-rest .result) _ (c .before .before .before .hex-rest .ensures))
 
--- src/lib.rt:164:5
 one-token-requires : tie.Need-one-token-requires
 one-token-requires c κs = (search needs, c .before .before .before .before .before .before .before .before .before .pre .1, c .before .before .before .before .before .before .before .before .before .pre .2, c .before .before .before .before .before .before .before .before .before .pre .3, c .before .before .before .before .before .before .before .before .before .pre .4, c .before .before .before .before .before .before .before .before .before .pre .5, one-form (c .before .before .before .before .before .before .before .before .before .args .d .form) (c .before .before .before .before .match .keys2) (c .before .before .before .match2 .keys2) (c .before .before .match3 .keys2) (c .before .match4 .keys2) _)
 
--- src/lib.rt:139:1
 same-length-5 : tie.Need-same-length-5
 same-length-5 c = search needs
 
--- src/lib.rt:139:1
 returns-5 : tie.Need-returns-5
 returns-5 c = search needs
 

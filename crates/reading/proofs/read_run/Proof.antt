@@ -24,111 +24,84 @@ Inv-loop out₀ first many s origin t fields n₀ i₀ k₀ out n i k = (k ≤ m
 abbrev μ-loop : tie.MeasureT-loop
 μ-loop out₀ first many s origin t fields n₀ i₀ k₀ out n i k = many - k
 
--- src/lib.rt:203:5
 loop-holds : tie.Need-loop-holds Inv-loop μ-loop
 loop-holds c = (search needs, search needs, search needs, search needs, ([], stands-none _, subst (λ ks. Ahead (λ j ts. readField j (c .before .before .before .before .args .origin .now) ts) (kindsFrom (c .before .before .before .before .args .s .now) (c .before .before .before .before .args .t2) (c .before .before .before .before .args .first) (c .before .before .before .before .args .many)) (tokens (c .before .before .before .before .args .t .now)) ks (tokens (c .before .before .before .before .args .t .now)) 0 []) (sym (all-kinds (c .before .before .before .before .args .s .now) (c .before .before .before .before .args .t2) (c .before .before .before .before .args .first) (c .before .before .before .before .args .many))) (ahead-start _ _ _)))
 
--- src/lib.rt:204:24
 add-d : tie.Need-add-d Inv-loop μ-loop
 add-d c = omega (arith, c .before .before .before .before .before .before .pre .0 .within)
 
--- src/lib.rt:204:17
 mul-d : tie.Need-mul-d Inv-loop μ-loop
 mul-d c = search needs
 
--- src/lib.rt:204:17
 array-copy-out-d : tie.Need-array-copy-out-d Inv-loop μ-loop
 array-copy-out-d c = omega (arith, c .before .before .before .before .before .before .pre .0 .within)
 
--- src/lib.rt:205:13
 read-field-requires : tie.Need-read-field-requires Inv-loop μ-loop
 read-field-requires c κs = (omega (arith, c .before .before .before .loop .inv .2), c .before .before .before .before .before .before .before .before .pre .0 .fields (c .before .before .before .loop .k) (c .before .before .loop-test .taken), c .before .before .before .before .before .before .before .before .pre .0 .short, c .before .before .before .before .before .before .before .before .pre .1, c .before .before .before .loop .inv .1, c .before .before .before .before .before .before .before .before .pre .2)
 
--- src/lib.rt:208:40
 enum-told : tie.Need-enum-told Inv-loop μ-loop
 enum-told c = search needs
 
--- src/lib.rt:208:40
 cast-t24 : tie.Need-cast-t24 Inv-loop μ-loop
 cast-t24 c = search needs
 
--- src/lib.rt:208:40
 add-t25 : tie.Need-add-t25 Inv-loop μ-loop
 add-t25 c = search needs
 
--- src/lib.rt:208:17
 same-length : tie.Need-same-length Inv-loop μ-loop
 same-length c = search needs
 
--- src/lib.rt:208:17
 returns : tie.Need-returns Inv-loop μ-loop
 returns c = ahead-missing _ (c .before .before .before .before .before .before .before .before .loop .inv .4 .2) _ _ (next-kind (c .before .before .before .before .before .before .before .before .before .before .before .before .before .args .s .now) (c .before .before .before .before .before .before .before .before .before .before .before .before .before .args .t2) (c .before .before .before .before .before .before .before .before .before .before .before .before .before .args .first) (c .before .before .before .before .before .before .before .before .before .before .before .before .before .args .many) (c .before .before .before .before .before .before .before .before .loop .k) (c .before .before .before .before .before .before .before .loop-test .taken)) (rw (c .enum-told .given .1) at (c .before .before .before .before .read-field .ensures))
 
--- src/lib.rt:211:40
 enum-told-2 : tie.Need-enum-told-2 Inv-loop μ-loop
 enum-told-2 c = search needs
 
--- src/lib.rt:211:40
 cast-t26 : tie.Need-cast-t26 Inv-loop μ-loop
 cast-t26 c = search needs
 
--- src/lib.rt:211:40
 add-t27 : tie.Need-add-t27 Inv-loop μ-loop
 add-t27 c = search needs
 
--- src/lib.rt:211:17
 same-length-2 : tie.Need-same-length-2 Inv-loop μ-loop
 same-length-2 c = search needs
 
--- src/lib.rt:211:17
 returns-2 : tie.Need-returns-2 Inv-loop μ-loop
 returns-2 c = ahead-bad _ (c .before .before .before .before .before .before .before .before .loop .inv .4 .2) _ _ (next-kind (c .before .before .before .before .before .before .before .before .before .before .before .before .before .args .s .now) (c .before .before .before .before .before .before .before .before .before .before .before .before .before .args .t2) (c .before .before .before .before .before .before .before .before .before .before .before .before .before .args .first) (c .before .before .before .before .before .before .before .before .before .before .before .before .before .args .many) (c .before .before .before .before .before .before .before .before .loop .k) (c .before .before .before .before .before .before .before .loop-test .taken)) (rw (c .enum-told2 .given .1) at (c .before .before .before .before .read-field .ensures))
 
--- src/lib.rt:213:25
 enum-known-r : tie.Need-enum-known-r Inv-loop μ-loop
 enum-known-r c = search needs
 
--- src/lib.rt:214:17
 least-requires : tie.Need-least-requires Inv-loop μ-loop
 least-requires c κs = search needs
 
--- src/lib.rt:218:13
 add-k : tie.Need-add-k Inv-loop μ-loop
 add-k c = search needs
 
--- src/lib.rt:203:5
 loop-less : tie.Need-loop-less Inv-loop μ-loop
 loop-less c = search needs
 
--- src/lib.rt:203:5
 loop-again : tie.Need-loop-again Inv-loop μ-loop
 loop-again c = let g = rw (c .before .before .r .given .1) at (c .before .before .before .before .before .before .read-field .ensures) in (search needs, g .3, omega (arith, c .least .ensures), search needs, (c .before .before .before .before .before .before .before .before .before .before .loop .inv .4 .0 ++ g .0, stands-next {p = g .0} _ (c .before .before .before .before .before .before .before .before .before .before .loop .inv .4 .1) (g .2) (c .least .ensures), ahead-got _ (c .before .before .before .before .before .before .before .before .before .before .loop .inv .4 .2) _ _ (next-kind (c .before .before .before .before .before .before .before .before .before .before .before .before .before .before .before .args .s .now) (c .before .before .before .before .before .before .before .before .before .before .before .before .before .before .before .args .t2) (c .before .before .before .before .before .before .before .before .before .before .before .before .before .before .before .args .first) (c .before .before .before .before .before .before .before .before .before .before .before .before .before .before .before .args .many) (c .before .before .before .before .before .before .before .before .before .before .loop .k) (c .before .before .before .before .before .before .before .before .before .loop-test .taken)) (g .0) _ (g .1)))
 
--- src/lib.rt:220:8
 none-from-requires : tie.Need-none-from-requires Inv-loop μ-loop
 none-from-requires c κs = search needs
 
--- src/lib.rt:221:9
 same-length-3 : tie.Need-same-length-3 Inv-loop μ-loop
 same-length-3 c = search needs
 
--- src/lib.rt:221:9
 returns-3 : tie.Need-returns-3 Inv-loop μ-loop
 returns-3 c = let (qs, e, f) = ahead-done _ (c .before .before .before .loop .inv .4 .2) (no-kind (c .before .before .before .before .before .before .before .before .args .s .now) (c .before .before .before .before .before .before .before .before .args .t2) (c .before .before .before .before .before .before .before .before .args .first) (c .before .before .before .before .before .before .before .before .args .many) (c .before .before .before .loop .k) (c .before .before .loop-test .left)) (sym (c .before .none-from .ensures) ∙ c .if1 .taken) in (qs, e, subst (λ xs. Stands (c .before .before .before .before .before .before .before .before .args .out .now) (c .before .before .before .loop .out) (c .before .before .before .loop .n) xs) (sym f) (c .before .before .before .loop .inv .4 .1))
 
--- src/lib.rt:223:22
 cast-t29 : tie.Need-cast-t29 Inv-loop μ-loop
 cast-t29 c = search needs
 
--- src/lib.rt:223:22
 add-t30 : tie.Need-add-t30 Inv-loop μ-loop
 add-t30 c = search needs
 
--- src/lib.rt:188:1
 same-length-4 : tie.Need-same-length-4 Inv-loop μ-loop
 same-length-4 c = search needs
 
--- src/lib.rt:188:1
 returns-4 : tie.Need-returns-4 Inv-loop μ-loop
 returns-4 c = let q : c .before .before .before .loop .k ≡ c .before .before .before .before .before .before .before .before .args .many = omega arith in subst (λ n. readRun (λ k ts. readField k (c .before .before .before .before .before .before .before .before .args .origin .now) ts) (kindsFrom (c .before .before .before .before .before .before .before .before .args .s .now) (c .before .before .before .before .before .before .before .before .args .t2) (c .before .before .before .before .before .before .before .before .args .first) (c .before .before .before .before .before .before .before .before .args .many)) (tokens (c .before .before .before .before .before .before .before .before .args .t .now)) ≡ refused 10 (n + 1)) q (ahead-over _ (c .before .before .before .loop .inv .4 .2) (no-kind (c .before .before .before .before .before .before .before .before .args .s .now) (c .before .before .before .before .before .before .before .before .args .t2) (c .before .before .before .before .before .before .before .before .args .first) (c .before .before .before .before .before .before .before .before .args .many) (c .before .before .before .loop .k) (c .before .before .loop-test .left)) (sym (c .before .none-from .ensures) ∙ c .if1 .left))
 

@@ -17,55 +17,42 @@ Inv-loop out₀ n t i m₀ j₀ out m j = (n ≤ m) × (i ≤ j) × (j ≤ lengt
 abbrev μ-loop : tie.MeasureT-loop
 μ-loop out₀ n t i m₀ j₀ out m j = length t - j
 
--- src/lib.rt:107:5
 loop-holds : tie.Need-loop-holds Inv-loop μ-loop
 loop-holds c = (omega arith, omega arith, c .before .before .pre .1, omega arith, before-start _ _ _, search needs)
 
--- src/lib.rt:108:13
 string-requires : tie.Need-string-requires Inv-loop μ-loop
 string-requires c κs = (omega (arith, c .before .loop .inv .2, c .before .loop .inv .3, c .before .before .before .before .pre .0, c .before .before .before .before .pre .2), c .before .loop .inv .2, c .before .before .before .before .pre .2)
 
--- src/lib.rt:111:20
 enum-told : tie.Need-enum-told Inv-loop μ-loop
 enum-told c = search needs
 
--- src/lib.rt:112:21
 same-length : tie.Need-same-length Inv-loop μ-loop
 same-length c = search needs
 
--- src/lib.rt:112:21
 returns : tie.Need-returns Inv-loop μ-loop
 returns c = λ o. strings-missing (c .before .before .before .before .before .before .before .loop .inv .4) (c .before .before .before .before .before .before .before .loop .inv .0) o (rw (c .before .enum-told .given .1) at (c .before .before .before .before .before .string .ensures .0)) (c .if1 .taken)
 
--- src/lib.rt:114:17
 same-length-2 : tie.Need-same-length-2 Inv-loop μ-loop
 same-length-2 c = search needs
 
--- src/lib.rt:114:17
 returns-2 : tie.Need-returns-2 Inv-loop μ-loop
 returns-2 c = λ o. let g = rw (c .before .enum-told .given .1) at (c .before .before .before .before .before .string .ensures) in let (xs, e, w) = strings-all (c .before .before .before .before .before .before .before .loop .inv .4) (c .before .before .before .before .before .before .before .loop .inv .0) o (g .0) (omega (arith, c .if1 .left)) _ (g .1) in (xs, e, w, c .before .before .before .before .before .before .before .loop .inv .2)
 
--- src/lib.rt:117:17
 enum-told-2 : tie.Need-enum-told-2 Inv-loop μ-loop
 enum-told-2 c = search needs
 
--- src/lib.rt:117:17
 same-length-3 : tie.Need-same-length-3 Inv-loop μ-loop
 same-length-3 c = search needs
 
--- src/lib.rt:117:17
 returns-3 : tie.Need-returns-3 Inv-loop μ-loop
 returns-3 c = λ o. strings-bad (c .before .before .before .before .before .before .loop .inv .4) (c .before .before .before .before .before .before .loop .inv .0) o (rw (c .enum-told2 .given .1) at (c .before .before .before .before .string .ensures .0))
 
--- src/lib.rt:119:25
 enum-known-r : tie.Need-enum-known-r Inv-loop μ-loop
 enum-known-r c = search needs
 
--- src/lib.rt:107:5
 loop-less : tie.Need-loop-less Inv-loop μ-loop
 loop-less c = let g = rw (c .before .r .given .1) at (c .before .before .before .before .before .string .ensures) in omega (arith, g .1, g .0 .3)
 
--- src/lib.rt:107:5
 loop-again : tie.Need-loop-again Inv-loop μ-loop
 loop-again c = let g = rw (c .before .r .given .1) at (c .before .before .before .before .before .string .ensures) in let s = next-string (tokens (drop (c .before .before .before .before .before .before .before .loop .j) (c .before .before .before .before .before .before .before .before .before .before .args .t .now))) (g .0 .0) _ (g .0 .1) in (omega (arith, c .before .before .before .before .before .before .before .loop .inv .0, g .0 .2 .count), omega (arith, c .before .before .before .before .before .before .before .loop .inv .1, g .1), g .0 .3, omega (arith, c .before .before .before .before .before .before .before .loop .inv .3, c .before .before .before .before .before .before .before .loop .inv .1, g .0 .2 .count, s .most, g .1), before-next (c .before .before .before .before .before .before .before .loop .inv .4) (c .before .before .before .before .before .before .before .loop .inv .0) _ _ (g .0 .0) _ (g .0 .1) (g .0 .2), search needs)
 

@@ -19,91 +19,69 @@ Inv-loop first many p fields k₀ at₀ k at = (k ≤ many) × (at ≤ length p)
 abbrev μ-loop : tie.MeasureT-loop
 μ-loop first many p fields k₀ at₀ k at = many - k
 
--- src/lib.rt:22:5
 loop-holds : tie.Need-loop-holds Inv-loop μ-loop
 loop-holds c = (search needs, search needs, λ s. subst (λ ks. Ahead (kindsFrom s (c .before .args .t1) (c .before .args .first) (c .before .args .many)) (c .before .args .p .now) ks (c .before .args .p .now) 0) (sym (all-kinds s (c .before .args .t1) (c .before .args .first) (c .before .args .many))) (ahead-start _ _))
 
--- src/lib.rt:23:24
 add-d : tie.Need-add-d Inv-loop μ-loop
 add-d c = search needs
 
--- src/lib.rt:23:17
 mul-d : tie.Need-mul-d Inv-loop μ-loop
 mul-d c = search needs
 
--- src/lib.rt:23:17
 array-copy-out-d : tie.Need-array-copy-out-d Inv-loop μ-loop
 array-copy-out-d c = search needs
 
--- src/lib.rt:25:13
 take-field-requires : tie.Need-take-field-requires Inv-loop μ-loop
 take-field-requires c κs = search needs
 
--- src/lib.rt:28:44
 enum-told : tie.Need-enum-told Inv-loop μ-loop
 enum-told c = search needs
 
--- src/lib.rt:28:44
 cast-t18 : tie.Need-cast-t18 Inv-loop μ-loop
 cast-t18 c = search needs
 
--- src/lib.rt:28:44
 add-t19 : tie.Need-add-t19 Inv-loop μ-loop
 add-t19 c = search needs
 
--- src/lib.rt:28:17
 returns : tie.Need-returns Inv-loop μ-loop
 returns c = turn-short (c .before .before .before .before .before .before .before .args .t1) (c .before .before .before .before .before .before .before .args .first) (c .before .before .before .before .before .before .before .args .many) (c .before .before .before .before .before .before .before .args .p .now) (c .before .before .before .before .before .loop .k) (c .before .before .before .before .before .loop .at) (c .before .before .take-field .result) (c .before .before .before .before .before .loop .inv .2) (c .before .before .before .before .loop-test .taken) (c .before .before .take-field .ensures) (c .enum-told .given .1)
 
--- src/lib.rt:31:44
 enum-told-2 : tie.Need-enum-told-2 Inv-loop μ-loop
 enum-told-2 c = search needs
 
--- src/lib.rt:31:44
 cast-t20 : tie.Need-cast-t20 Inv-loop μ-loop
 cast-t20 c = search needs
 
--- src/lib.rt:31:44
 add-t21 : tie.Need-add-t21 Inv-loop μ-loop
 add-t21 c = search needs
 
--- src/lib.rt:31:17
 returns-2 : tie.Need-returns-2 Inv-loop μ-loop
 returns-2 c = turn-bad (c .before .before .before .before .before .before .before .args .t1) (c .before .before .before .before .before .before .before .args .first) (c .before .before .before .before .before .before .before .args .many) (c .before .before .before .before .before .before .before .args .p .now) (c .before .before .before .before .before .loop .k) (c .before .before .before .before .before .loop .at) (c .before .before .take-field .result) (c .before .before .before .before .before .loop .inv .2) (c .before .before .before .before .loop-test .taken) (c .before .before .take-field .ensures) (c .enum-told2 .given .1)
 
--- src/lib.rt:33:24
 enum-known-t : tie.Need-enum-known-t Inv-loop μ-loop
 enum-known-t c = search needs
 
--- src/lib.rt:34:22
 add-at : tie.Need-add-at Inv-loop μ-loop
 add-at c = omega (arith, turn-within (c .before .before .before .before .before .before .before .before .args .t1) (c .before .before .before .before .before .before .before .before .args .first) (c .before .before .before .before .before .before .before .before .args .many) (c .before .before .before .before .before .before .before .before .args .p .now) (c .before .before .before .before .before .before .loop .k) (c .before .before .before .before .before .before .loop .at) (c .before .before .before .take-field .result) (c .before .before .before .before .before .before .loop .inv .2) (c .before .before .before .before .before .loop-test .taken) (c .before .before .before .take-field .ensures) (c .before .t .given .0 .0) (c .before .t .given .1) (c .before .before .before .before .before .before .loop .inv .1))
 
--- src/lib.rt:37:13
 add-k : tie.Need-add-k Inv-loop μ-loop
 add-k c = search needs
 
--- src/lib.rt:22:5
 loop-less : tie.Need-loop-less Inv-loop μ-loop
 loop-less c = search needs
 
--- src/lib.rt:22:5
 loop-again : tie.Need-loop-again Inv-loop μ-loop
 loop-again c = (search needs, turn-within (c .before .before .before .before .before .before .before .before .args .t1) (c .before .before .before .before .before .before .before .before .args .first) (c .before .before .before .before .before .before .before .before .args .many) (c .before .before .before .before .before .before .before .before .args .p .now) (c .before .before .before .before .before .before .loop .k) (c .before .before .before .before .before .before .loop .at) (c .before .before .before .take-field .result) (c .before .before .before .before .before .before .loop .inv .2) (c .before .before .before .before .before .loop-test .taken) (c .before .before .before .take-field .ensures) (c .before .t .given .0 .0) (c .before .t .given .1) (c .before .before .before .before .before .before .loop .inv .1), turn-took (c .before .before .before .before .before .before .before .before .args .t1) (c .before .before .before .before .before .before .before .before .args .first) (c .before .before .before .before .before .before .before .before .args .many) (c .before .before .before .before .before .before .before .before .args .p .now) (c .before .before .before .before .before .before .loop .k) (c .before .before .before .before .before .before .loop .at) (c .before .before .before .take-field .result) (c .before .before .before .before .before .before .loop .inv .2) (c .before .before .before .before .before .loop-test .taken) (c .before .before .before .take-field .ensures) (c .before .t .given .0 .0) (c .before .t .given .1))
 
--- src/lib.rt:40:37
 cast-t24 : tie.Need-cast-t24 Inv-loop μ-loop
 cast-t24 c = search needs
 
--- src/lib.rt:40:37
 add-t25 : tie.Need-add-t25 Inv-loop μ-loop
 add-t25 c = search needs
 
--- src/lib.rt:40:9
 returns-3 : tie.Need-returns-3 Inv-loop μ-loop
 returns-3 c = λ s. let q : c .before .before .loop .k ≡ c .before .before .before .before .args .many = omega arith in subst (λ n. partsOf (kindsFrom s (c .before .before .before .before .args .t1) (c .before .before .before .before .args .first) (c .before .before .before .before .args .many)) (c .before .before .before .before .args .p .now) ≡ refused 10 (n + 1)) q (ahead-over (c .before .before .loop .inv .2 s) (no-kind s (c .before .before .before .before .args .t1) (c .before .before .before .before .args .first) (c .before .before .before .before .args .many) (c .before .before .loop .k) (c .before .loop-test .left)) (omega (arith, length-drop (c .before .before .loop .at) (c .before .before .before .before .args .p .now))))
 
--- src/lib.rt:16:1
 returns-4 : tie.Need-returns-4 Inv-loop μ-loop
 returns-4 c = λ s. ahead-done (c .before .before .loop .inv .2 s) (no-kind s (c .before .before .before .before .args .t1) (c .before .before .before .before .args .first) (c .before .before .before .before .args .many) (c .before .before .loop .k) (c .before .loop-test .left)) (drop-of-length-le (c .before .before .before .before .args .p .now) (c .if1 .left))
 

@@ -22,134 +22,102 @@ Inv-loop s header₀ fields₀ names₀ ends₀ n₀ have₀ last₀ number₀ p
 abbrev μ-loop : tie.MeasureT-loop
 μ-loop s header₀ fields₀ names₀ ends₀ n₀ have₀ last₀ number₀ place₀ at₀ line₀ header fields names ends n have last number place at line = length s + 1 - at
 
--- src/lib.rt:73:9
 no-header-requires : tie.Need-no-header-requires Inv-loop μ-loop
 no-header-requires c κs = search needs
 
--- src/lib.rt:74:9
 no-field-requires : tie.Need-no-field-requires Inv-loop μ-loop
 no-field-requires c κs = search needs
 
--- src/lib.rt:81:9
 at-start-requires : tie.Need-at-start-requires Inv-loop μ-loop
 at-start-requires c κs = search needs
 
--- src/lib.rt:83:9
 first-line-requires : tie.Need-first-line-requires Inv-loop μ-loop
 first-line-requires c κs = search needs
 
--- src/lib.rt:85:5
 loop-holds : tie.Need-loop-holds Inv-loop μ-loop
 loop-holds c = judging-start _ _ _ _ _ (search needs) (search needs) (search needs) (c .before .at-start .result) (c .before .at-start .ensures) (c .first-line .result) (c .first-line .ensures)
 
--- src/lib.rt:86:16
 add-line : tie.Need-add-line Inv-loop μ-loop
 add-line c = omega (arith, line-count (c .before .loop .inv) (c .loop-test .taken))
 
--- src/lib.rt:87:13
 line-end-requires : tie.Need-line-end-requires Inv-loop μ-loop
 line-end-requires c κs = search needs
 
--- src/lib.rt:88:61
 slice-aggregate-line-step : tie.Need-slice-aggregate-line-step Inv-loop μ-loop
 slice-aggregate-line-step c = search needs
 
--- src/lib.rt:88:69
 slice-aggregate-line-step-2 : tie.Need-slice-aggregate-line-step-2 Inv-loop μ-loop
 slice-aggregate-line-step-2 c = search needs
 
--- src/lib.rt:88:13
 line-step-requires : tie.Need-line-step-requires Inv-loop μ-loop
 line-step-requires c κs = line-within (c .before .before .before .before .loop .inv) (c .before .before .before .loop-test .taken) (c .before .before .line-end .result) (c .before .before .line-end .ensures)
 
--- src/lib.rt:89:14
 add-at : tie.Need-add-at Inv-loop μ-loop
 add-at c = omega (arith, line-within (c .before .before .before .before .before .loop .inv) (c .before .before .before .before .loop-test .taken) (c .before .before .before .line-end .result) (c .before .before .before .line-end .ensures))
 
 enum-told : tie.Need-enum-told Inv-loop μ-loop
 enum-told c = search needs
 
--- src/lib.rt:85:5
 loop-less : tie.Need-loop-less Inv-loop μ-loop
 loop-less c = turn-less (c .before .before .before .before .before .before .before .loop .inv) (c .before .before .before .before .before .before .loop-test .taken) (c .before .before .before .before .before .line-end .result) (c .before .before .before .before .before .line-end .ensures)
 
--- src/lib.rt:85:5
 loop-again : tie.Need-loop-again Inv-loop μ-loop
 loop-again c = turn-skip (c .before .before .before .before .before .before .before .loop .inv) (c .before .before .before .before .before .before .loop-test .taken) (c .before .before .before .before .before .line-end .result) (c .before .before .before .before .before .line-end .ensures) (c .before .before .line-step .result) (c .before .before .line-step .ensures .0) (c .before .before .line-step .ensures .1) (c .enum-told .given .1)
 
--- src/lib.rt:92:26
 enum-known-step : tie.Need-enum-known-step Inv-loop μ-loop
 enum-known-step c = search needs
 
--- src/lib.rt:85:5
 loop-less-2 : tie.Need-loop-less-2 Inv-loop μ-loop
 loop-less-2 c = omega (arith, c .before .before .before .before .before .before .before .loop-test .taken)
 
--- src/lib.rt:85:5
 loop-again-2 : tie.Need-loop-again-2 Inv-loop μ-loop
 loop-again-2 c = turn-refuse (c .before .before .before .before .before .before .before .before .loop .inv) (c .before .before .before .before .before .before .before .loop-test .taken) (c .before .before .before .before .before .before .line-end .result) (c .before .before .before .before .before .before .line-end .ensures) (c .before .before .before .line-step .result) (c .before .before .before .line-step .ensures .0) (c .before .before .before .line-step .ensures .1) (c .before .step .given .1)
 
--- src/lib.rt:98:24
 enum-known-step-2 : tie.Need-enum-known-step-2 Inv-loop μ-loop
 enum-known-step-2 c = search needs
 
--- src/lib.rt:85:5
 loop-less-3 : tie.Need-loop-less-3 Inv-loop μ-loop
 loop-less-3 c = turn-less (c .before .before .before .before .before .before .before .before .loop .inv) (c .before .before .before .before .before .before .before .loop-test .taken) (c .before .before .before .before .before .before .line-end .result) (c .before .before .before .before .before .before .line-end .ensures)
 
--- src/lib.rt:85:5
 loop-again-3 : tie.Need-loop-again-3 Inv-loop μ-loop
 loop-again-3 c = turn-head (c .before .before .before .before .before .before .before .before .loop .inv) (c .before .before .before .before .before .before .before .loop-test .taken) (c .before .before .before .before .before .before .line-end .result) (c .before .before .before .before .before .before .line-end .ensures) (c .before .before .before .line-step .result) (c .before .before .before .line-step .ensures .0) (c .before .before .before .line-step .ensures .1) (c .before .step2 .given .1)
 
--- src/lib.rt:102:23
 enum-known-step-3 : tie.Need-enum-known-step-3 Inv-loop μ-loop
 enum-known-step-3 c = search needs
 
--- src/lib.rt:105:17
 mul-fields : tie.Need-mul-fields Inv-loop μ-loop
 mul-fields c = search needs
 
--- src/lib.rt:105:17
 array-set-from-fields : tie.Need-array-set-from-fields Inv-loop μ-loop
 array-set-from-fields c = add-room (c .before .before .before .before .before .before .before .before .before .loop .inv) (c .before .before .before .before .before .before .before .before .loop-test .taken) (c .before .before .before .before .before .before .before .line-end .result) (c .before .before .before .before .before .before .before .line-end .ensures) (c .before .before .before .before .line-step .result) (c .before .before .before .before .line-step .ensures .0) (c .before .before .before .before .line-step .ensures .1) (c .before .before .step3 .given .1)
 
--- src/lib.rt:106:17
 mul-names : tie.Need-mul-names Inv-loop μ-loop
 mul-names c = search needs
 
--- src/lib.rt:106:17
 array-write-names : tie.Need-array-write-names Inv-loop μ-loop
 array-write-names c = add-room (c .before .before .before .before .before .before .before .before .before .loop .inv) (c .before .before .before .before .before .before .before .before .loop-test .taken) (c .before .before .before .before .before .before .before .line-end .result) (c .before .before .before .before .before .before .before .line-end .ensures) (c .before .before .before .before .line-step .result) (c .before .before .before .before .line-step .ensures .0) (c .before .before .before .before .line-step .ensures .1) (c .before .before .step3 .given .1)
 
--- src/lib.rt:107:17
 mul-ends : tie.Need-mul-ends Inv-loop μ-loop
 mul-ends c = search needs
 
--- src/lib.rt:107:17
 array-write-ends : tie.Need-array-write-ends Inv-loop μ-loop
 array-write-ends c = add-room (c .before .before .before .before .before .before .before .before .before .loop .inv) (c .before .before .before .before .before .before .before .before .loop-test .taken) (c .before .before .before .before .before .before .before .line-end .result) (c .before .before .before .before .before .before .before .line-end .ensures) (c .before .before .before .before .line-step .result) (c .before .before .before .before .line-step .ensures .0) (c .before .before .before .before .line-step .ensures .1) (c .before .before .step3 .given .1)
 
--- src/lib.rt:108:17
 tail-after-requires : tie.Need-tail-after-requires Inv-loop μ-loop
 tail-after-requires c κs = search needs
 
--- src/lib.rt:109:21
 add-n : tie.Need-add-n Inv-loop μ-loop
 add-n c = search needs
 
--- src/lib.rt:85:5
 loop-less-4 : tie.Need-loop-less-4 Inv-loop μ-loop
 loop-less-4 c = turn-less (c .before .before .before .before .before .before .before .before .before .before .loop .inv) (c .before .before .before .before .before .before .before .before .before .loop-test .taken) (c .before .before .before .before .before .before .before .before .line-end .result) (c .before .before .before .before .before .before .before .before .line-end .ensures)
 
--- src/lib.rt:85:5
 loop-again-4 : tie.Need-loop-again-4 Inv-loop μ-loop
 loop-again-4 c = turn-add (c .before .before .before .before .before .before .before .before .before .before .loop .inv) (c .before .before .before .before .before .before .before .before .before .loop-test .taken) (c .before .before .before .before .before .before .before .before .line-end .result) (c .before .before .before .before .before .before .before .before .line-end .ensures) (c .before .before .before .before .before .line-step .result) (c .before .before .before .before .before .line-step .ensures .0) (c .before .before .before .before .before .line-step .ensures .1) (c .before .before .before .step3 .given .1) _ (c .tail-after .ensures _)
 
--- src/lib.rt:114:17
 at-end-requires : tie.Need-at-end-requires Inv-loop μ-loop
 at-end-requires c κs = search needs
 
--- src/lib.rt:70:1
 returns : tie.Need-returns Inv-loop μ-loop
 returns c = judging-end (c .before .before .loop .inv) (c .before .loop-test .left) (c .at-end .result) (c .at-end .ensures)
 

@@ -6,67 +6,51 @@ use Rattle.types.proofs.after_x.Reads as reads
 use Rattle.types.proofs.after_x.Lts as lts
 use Rattle.types.proofs.is_word.Reads as is-word-reads
 
--- src/lib.rt:123:25
 slice-aggregate-is-word : tie.Need-slice-aggregate-is-word
 slice-aggregate-is-word c = search needs
 
--- src/lib.rt:123:8
 is-word-requires : tie.Need-is-word-requires
 is-word-requires c κs = search needs
 
--- src/lib.rt:124:9
 returns : tie.Need-returns
 returns c = rw (← c .before .is-word .ensures, c .if1 .taken)
 
--- src/lib.rt:126:25
 slice-aggregate-is-word-2 : tie.Need-slice-aggregate-is-word-2
 slice-aggregate-is-word-2 c = search needs
 
--- src/lib.rt:126:8
 is-word-requires-2 : tie.Need-is-word-requires-2
 is-word-requires-2 c κs = search needs
 
--- src/lib.rt:127:9
 returns-2 : tie.Need-returns-2
 returns-2 c = rw (← c .before .before .before .before .is-word .ensures, c .before .before .before .if1 .left, ← c .before .is-word2 .ensures, c .if2 .taken)
 
--- src/lib.rt:129:25
 slice-aggregate-is-word-3 : tie.Need-slice-aggregate-is-word-3
 slice-aggregate-is-word-3 c = search needs
 
--- src/lib.rt:129:8
 is-word-requires-3 : tie.Need-is-word-requires-3
 is-word-requires-3 c κs = search needs
 
--- src/lib.rt:130:9
 returns-3 : tie.Need-returns-3
 returns-3 c = rw (← c .before .before .before .before .before .before .before .is-word .ensures, c .before .before .before .before .before .before .if1 .left, ← c .before .before .before .before .is-word2 .ensures, c .before .before .before .if2 .left, ← c .before .is-word3 .ensures, c .if3 .taken)
 
--- src/lib.rt:132:25
 slice-aggregate-is-word-4 : tie.Need-slice-aggregate-is-word-4
 slice-aggregate-is-word-4 c = search needs
 
--- src/lib.rt:132:8
 is-word-requires-4 : tie.Need-is-word-requires-4
 is-word-requires-4 c κs = search needs
 
--- src/lib.rt:133:9
 returns-4 : tie.Need-returns-4
 returns-4 c = rw (← c .before .before .before .before .before .before .before .before .before .before .is-word .ensures, c .before .before .before .before .before .before .before .before .before .if1 .left, ← c .before .before .before .before .before .before .before .is-word2 .ensures, c .before .before .before .before .before .before .if2 .left, ← c .before .before .before .before .is-word3 .ensures, c .before .before .before .if3 .left, ← c .before .is-word4 .ensures, c .if4 .taken)
 
--- src/lib.rt:135:25
 slice-aggregate-is-word-5 : tie.Need-slice-aggregate-is-word-5
 slice-aggregate-is-word-5 c = search needs
 
--- src/lib.rt:135:8
 is-word-requires-5 : tie.Need-is-word-requires-5
 is-word-requires-5 c κs = search needs
 
--- src/lib.rt:136:9
 returns-5 : tie.Need-returns-5
 returns-5 c = rw (← c .before .before .before .before .before .before .before .before .before .before .before .before .before .is-word .ensures, c .before .before .before .before .before .before .before .before .before .before .before .before .if1 .left, ← c .before .before .before .before .before .before .before .before .before .before .is-word2 .ensures, c .before .before .before .before .before .before .before .before .before .if2 .left, ← c .before .before .before .before .before .before .before .is-word3 .ensures, c .before .before .before .before .before .before .if3 .left, ← c .before .before .before .before .is-word4 .ensures, c .before .before .before .if4 .left, ← c .before .is-word5 .ensures, c .if5 .taken)
 
--- src/lib.rt:119:1
 returns-6 : tie.Need-returns-6
 returns-6 c = rw (← c .before .before .before .before .before .before .before .before .before .before .before .before .before .is-word .ensures, c .before .before .before .before .before .before .before .before .before .before .before .before .if1 .left, ← c .before .before .before .before .before .before .before .before .before .before .is-word2 .ensures, c .before .before .before .before .before .before .before .before .before .if2 .left, ← c .before .before .before .before .before .before .before .is-word3 .ensures, c .before .before .before .before .before .before .if3 .left, ← c .before .before .before .before .is-word4 .ensures, c .before .before .before .if4 .left, ← c .before .is-word5 .ensures, c .if5 .left)
 

@@ -17,47 +17,36 @@ Inv-loop s a e w j₀ j = (j ≤ length w) × (e - a ≡ length w) × ((l : e �
 abbrev μ-loop : tie.MeasureT-loop
 μ-loop s a e w j₀ j = length w - j
 
--- src/lib.rt:46:8
 sub-if1 : tie.Need-sub-if1 Inv-loop μ-loop
 sub-if1 c = search needs
 
--- src/lib.rt:48:9
 loop-holds : tie.Need-loop-holds Inv-loop μ-loop
 loop-holds c = (search needs, c .if1 .taken, λ l. same-start _ _ _ _ l)
 
--- src/lib.rt:49:18
 add-if2 : tie.Need-add-if2 Inv-loop μ-loop
 add-if2 c = search needs
 
--- src/lib.rt:49:16
 shared-slice-read-if2 : tie.Need-shared-slice-read-if2 Inv-loop μ-loop
 shared-slice-read-if2 c = search needs
 
--- src/lib.rt:49:28
 shared-slice-read-if2-2 : tie.Need-shared-slice-read-if2-2 Inv-loop μ-loop
 shared-slice-read-if2-2 c = search needs
 
--- src/lib.rt:50:21
 add-j : tie.Need-add-j Inv-loop μ-loop
 add-j c = search needs
 
--- src/lib.rt:48:9
 loop-less : tie.Need-loop-less Inv-loop μ-loop
 loop-less c = search needs
 
--- src/lib.rt:48:9
 loop-again : tie.Need-loop-again Inv-loop μ-loop
 loop-again c = (search needs, c .before .before .before .before .loop .inv .1, λ l. same-on _ _ _ _ l _ (omega arith) (c .before .before .before .loop-test .taken) (c .if2 .taken) ∙ c .before .before .before .before .loop .inv .2 l)
 
--- src/lib.rt:52:17
 returns : tie.Need-returns Inv-loop μ-loop
 returns c = sym (same-off _ _ _ _ (c .before .before .before .before .before .before .pre .1) _ (omega arith) (c .before .before .before .loop-test .taken) (c .if2 .left)) ∙ c .before .before .before .before .loop .inv .2 (c .before .before .before .before .before .before .pre .1)
 
--- src/lib.rt:55:9
 returns-2 : tie.Need-returns-2 Inv-loop μ-loop
 returns-2 c = sym (same-end _ _ _ _ (c .before .before .before .pre .1) _ (c .before .loop .inv .1) (c .loop-test .left)) ∙ c .before .loop .inv .2 (c .before .before .before .pre .1)
 
--- src/lib.rt:42:1
 returns-3 : tie.Need-returns-3 Inv-loop μ-loop
 returns-3 c = sym (same-other _ _ _ _ (c .before .pre .1) (c .before .pre .0) (c .if1 .left))
 

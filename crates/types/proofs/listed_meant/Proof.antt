@@ -11,31 +11,24 @@ use Rattle.distinct.proofs.twice.Reads as twice-reads
 use Rattle.types.proofs.made.Reads as made-reads
 use Rattle.types.proofs.refused.Reads as refused-reads
 
--- src/lib.rt:245:8
 any-requires : tie.Need-any-requires
 any-requires c κs = search needs
 
--- src/lib.rt:246:9
 refused-requires : tie.Need-refused-requires
 refused-requires c κs = search needs
 
--- src/lib.rt:246:9
 returns : tie.Need-returns
 returns c = c .refused .ensures ∙ no-words (c .before .before .before .before .args .w) (c .before .before .before .before .args .s .now) (c .before .before .before .before .args .a) (c .before .before .before .before .args .b) (sym (c .before .before .any .ensures) ∙ c .before .if1 .taken)
 
--- src/lib.rt:248:8
 twice-requires : tie.Need-twice-requires
 twice-requires c κs = search needs
 
--- src/lib.rt:249:9
 returns-2 : tie.Need-returns-2
 returns-2 c = words-twice (c .before .before .before .before .before .args .w) (c .before .before .before .before .before .args .s .now) (c .before .before .before .before .before .args .a) (c .before .before .before .before .before .args .b) (sym (c .before .before .before .any .ensures) ∙ c .before .before .if1 .left) (sym (c .before .twice .ensures) ∙ c .if2 .taken)
 
--- src/lib.rt:251:5
 made-requires : tie.Need-made-requires
 made-requires c κs = search needs
 
--- src/lib.rt:241:1
 returns-3 : tie.Need-returns-3
 returns-3 c = rw (c .made .ensures) (words-once (c .before .before .before .before .before .before .args .w) (c .before .before .before .before .before .before .args .s .now) (c .before .before .before .before .before .before .args .a) (c .before .before .before .before .before .before .args .b) (sym (c .before .before .before .before .any .ensures) ∙ c .before .before .before .if1 .left) (sym (c .before .before .twice .ensures) ∙ c .before .if2 .left))
 

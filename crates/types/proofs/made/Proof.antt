@@ -8,67 +8,51 @@ use Rattle.types.proofs.made.Lts as lts
 use Rattle.qualifiers.proofs.any.Reads as any-reads
 use Rattle.types.proofs.name_form.Reads as name-form-reads
 
--- src/lib.rt:220:27
 enum-told : tie.Need-enum-told
 enum-told c = search needs
 
--- src/lib.rt:221:36
 enum-told-2 : tie.Need-enum-told-2
 enum-told-2 c = search needs
 
--- src/lib.rt:222:36
 enum-told-3 : tie.Need-enum-told-3
 enum-told-3 c = search needs
 
--- src/lib.rt:222:36
 name-form-requires : tie.Need-name-form-requires
 name-form-requires c κs = search needs
 
--- src/lib.rt:224:37
 enum-told-4 : tie.Need-enum-told-4
 enum-told-4 c = search needs
 
--- src/lib.rt:224:17
 any-requires : tie.Need-any-requires
 any-requires c κs = search needs
 
--- src/lib.rt:225:16
 any-requires-2 : tie.Need-any-requires-2
 any-requires-2 c κs = search needs
 
--- src/lib.rt:227:21
 returns : tie.Need-returns
 returns c = rw (c .before .before .before .before .enum-told4 .given .1, ← c .before .before .any2 .ensures, c .before .if1 .taken, ← c .before .before .before .any .ensures, c .if2 .taken)
 
--- src/lib.rt:229:17
 returns-2 : tie.Need-returns-2
 returns-2 c = rw (c .before .before .before .before .enum-told4 .given .1, ← c .before .before .any2 .ensures, c .before .if1 .taken, ← c .before .before .before .any .ensures, c .if2 .left)
 
--- src/lib.rt:232:17
 returns-3 : tie.Need-returns-3
 returns-3 c = rw (c .before .before .before .before .enum-told4 .given .1, ← c .before .before .any2 .ensures, c .before .if1 .left, ← c .before .before .before .any .ensures, c .if3 .taken)
 
--- src/lib.rt:236:36
 enum-told-5 : tie.Need-enum-told-5
 enum-told-5 c = search needs
 
--- src/lib.rt:215:1
 returns-4 : tie.Need-returns-4
 returns-4 c = rw (c .enum-told .given .1)
 
--- src/lib.rt:215:1
 returns-5 : tie.Need-returns-5
 returns-5 c = rw (c .enum-told2 .given .1)
 
--- src/lib.rt:215:1
 returns-6 : tie.Need-returns-6
 returns-6 c = rw (c .before .enum-told3 .given .1, c .name-form .ensures)
 
--- src/lib.rt:215:1
 returns-7 : tie.Need-returns-7
 returns-7 c = rw (c .before .before .before .before .enum-told4 .given .1, ← c .before .before .any2 .ensures, c .before .if1 .left, ← c .before .before .before .any .ensures, c .if3 .left)
 
--- src/lib.rt:215:1
 returns-8 : tie.Need-returns-8
 returns-8 c = rw (c .enum-told5 .given .1)
 

@@ -11,23 +11,18 @@ use Rattle.types.proofs.plain_meant.Reads as plain-meant-reads
 use Rattle.types.proofs.qualified.Reads as qualified-reads
 use Rattle.types.proofs.type_of.Reads as type-of-reads
 
--- src/lib.rt:274:9
 type-of-requires : tie.Need-type-of-requires
 type-of-requires c κs = search needs
 
--- src/lib.rt:276:9
 plain-meant-requires : tie.Need-plain-meant-requires
 plain-meant-requires c κs = search needs
 
--- src/lib.rt:276:9
 returns : tie.Need-returns
 returns c = plain-in (slice (c .before .before .before .before .args .k) (c .before .before .before .before .args .e) (c .before .before .before .before .args .s .now)) (c .before .before .before .before .args .s .now) (c .before .before .before .before .args .a) (c .before .before .before .before .args .b) _ (c .before .before .type-of .ensures) (c .plain-meant .result) (c .before .if1 .taken) (c .plain-meant .ensures)
 
--- src/lib.rt:278:5
 qualified-requires : tie.Need-qualified-requires
 qualified-requires c κs = search needs
 
--- src/lib.rt:270:1
 returns-2 : tie.Need-returns-2
 returns-2 c = qualified-in (slice (c .before .before .before .before .args .k) (c .before .before .before .before .args .e) (c .before .before .before .before .args .s .now)) (c .before .before .before .before .args .s .now) (c .before .before .before .before .args .a) (c .before .before .before .before .args .b) _ (c .before .before .type-of .ensures) (c .qualified .result) (c .before .if1 .left) (c .qualified .ensures)
 

@@ -8,75 +8,57 @@ use Rattle.types.proofs.plain_meant.Tie as tie
 use Rattle.types.proofs.plain_meant.Reads as reads
 use Rattle.types.proofs.plain_meant.Lts as lts
 
--- src/lib.rt:261:30
 enum-told : tie.Need-enum-told
 enum-told c = search needs
 
--- src/lib.rt:262:41
 enum-told-2 : tie.Need-enum-told-2
 enum-told-2 c = search needs
 
--- src/lib.rt:263:41
 enum-told-3 : tie.Need-enum-told-3
 enum-told-3 c = search needs
 
--- src/lib.rt:264:41
 enum-told-4 : tie.Need-enum-told-4
 enum-told-4 c = search needs
 
--- src/lib.rt:265:26
 enum-known-t : tie.Need-enum-known-t
 enum-known-t c = search needs
 
--- src/lib.rt:266:42
 enum-told-5 : tie.Need-enum-told-5
 enum-told-5 c = search needs
 
--- src/lib.rt:267:42
 enum-told-6 : tie.Need-enum-told-6
 enum-told-6 c = search needs
 
--- src/lib.rt:268:42
 enum-told-7 : tie.Need-enum-told-7
 enum-told-7 c = search needs
 
--- src/lib.rt:269:42
 enum-told-8 : tie.Need-enum-told-8
 enum-told-8 c = search needs
 
--- src/lib.rt:257:1
 returns : tie.Need-returns
 returns c = λ s a. rw (c .enum-told .given .1)
 
--- src/lib.rt:257:1
 returns-2 : tie.Need-returns-2
 returns-2 c = λ s a. rw (c .enum-told2 .given .1, eq-eqb a a refl)
 
--- src/lib.rt:257:1
 returns-3 : tie.Need-returns-3
 returns-3 c = λ s a. rw (c .enum-told3 .given .1, eq-eqb a a refl)
 
--- src/lib.rt:257:1
 returns-4 : tie.Need-returns-4
 returns-4 c = λ s a. rw (c .enum-told4 .given .1, eq-eqb a a refl)
 
--- src/lib.rt:257:1
 returns-5 : tie.Need-returns-5
 returns-5 c = λ s a. rw (c .before .t .given .1) (plain-kind s a (c .before .t .given .0 .0))
 
--- src/lib.rt:257:1
 returns-6 : tie.Need-returns-6
 returns-6 c = λ s a. rw (c .enum-told5 .given .1)
 
--- src/lib.rt:257:1
 returns-7 : tie.Need-returns-7
 returns-7 c = λ s a. rw (c .enum-told6 .given .1)
 
--- src/lib.rt:257:1
 returns-8 : tie.Need-returns-8
 returns-8 c = λ s a. rw (c .enum-told7 .given .1)
 
--- src/lib.rt:257:1
 returns-9 : tie.Need-returns-9
 returns-9 c = λ s a. rw (c .enum-told8 .given .1)
 

@@ -8,23 +8,18 @@ use Rattle.types.proofs.refused.Reads as reads
 use Rattle.types.proofs.refused.Lts as lts
 use Rattle.qualifiers.proofs.any.Reads as any-reads
 
--- src/lib.rt:158:8
 any-requires : tie.Need-any-requires
 any-requires c κs = search needs
 
--- src/lib.rt:159:9
 returns : tie.Need-returns
 returns c = malformed (λ qs. mathlib.Core.Option.none) (c .before .before .before .args .s .now) (c .before .before .before .args .a) (c .before .before .before .args .b) (sym (c .before .any .ensures) ∙ c .if1 .taken)
 
--- src/lib.rt:161:8
 any-requires-2 : tie.Need-any-requires-2
 any-requires-2 c κs = search needs
 
--- src/lib.rt:162:9
 returns-2 : tie.Need-returns-2
 returns-2 c = not-of-known (λ qs. mathlib.Core.Option.none) (c .before .before .before .before .before .args .s .now) (c .before .before .before .before .before .args .a) (c .before .before .before .before .before .args .b) (sym (c .before .before .before .any .ensures) ∙ c .before .before .if1 .left) (sym (c .before .any2 .ensures) ∙ c .if2 .taken)
 
--- src/lib.rt:154:1
 returns-3 : tie.Need-returns-3
 returns-3 c = not-allowed (λ qs. mathlib.Core.Option.none) (c .before .before .before .before .before .args .s .now) (c .before .before .before .before .before .args .a) (c .before .before .before .before .before .args .b) (sym (c .before .before .before .any .ensures) ∙ c .before .before .if1 .left) (sym (c .before .any2 .ensures) ∙ c .if2 .left) (λ qs e. refl)
 

@@ -19,243 +19,183 @@ use Rattle.read_number.proofs.integer.field.Reads as integer-field-reads
 use Rattle.read_number.proofs.rrtype.field.Reads as rrtype-field-reads
 use Rattle.read_time.proofs.field.Reads as read-field-reads
 
--- src/lib.rt:42:13
 cast-i : tie.Need-cast-i
 cast-i c = search needs
 
--- src/lib.rt:43:13
 cast-j : tie.Need-cast-j
 cast-j c = search needs
 
--- src/lib.rt:45:19
 enum-known-f : tie.Need-enum-known-f
 enum-known-f c = search needs
 
--- src/lib.rt:45:48
 cast-field : tie.Need-cast-field
 cast-field c = search needs
 
--- src/lib.rt:45:25
 field-requires : tie.Need-field-requires
 field-requires c κs = (c .before .before .before .before .before .before .before .before .before .before .pre .0, int-four (c .before .before .before .before .before .before .before .before .before .before .args .s .now) (c .before .before .before .before .before .before .before .before .before .before .args .d) (c .before .before .before .before .before .before .before .before .before .before .pre .1) (c .before .before .f .given .0 .0) (c .before .before .f .given .1), c .before .before .before .before .before .before .before .before .before .before .pre .1 .placed .from, c .before .before .before .before .before .before .before .before .before .before .pre .1 .placed .to, c .before .before .before .before .before .before .before .before .before .before .pre .2, c .before .before .before .before .before .before .before .before .before .before .pre .4, c .before .before .before .before .before .before .before .before .before .before .pre .5)
 
--- src/lib.rt:46:39
 enum-told : tie.Need-enum-told
 enum-told c = search needs
 
--- src/lib.rt:46:25
 field-requires-2 : tie.Need-field-requires-2
 field-requires-2 c κs = search needs
 
--- src/lib.rt:47:25
 enum-told-2 : tie.Need-enum-told-2
 enum-told-2 c = search needs
 
--- src/lib.rt:48:41
 enum-told-3 : tie.Need-enum-told-3
 enum-told-3 c = search needs
 
--- src/lib.rt:48:25
 dotted-requires : tie.Need-dotted-requires
 dotted-requires c κs = search needs
 
--- src/lib.rt:49:42
 enum-told-4 : tie.Need-enum-told-4
 enum-told-4 c = search needs
 
--- src/lib.rt:49:21
 four-groups-requires : tie.Need-four-groups-requires
 four-groups-requires c κs = search needs
 
--- src/lib.rt:50:37
 enum-told-5 : tie.Need-enum-told-5
 enum-told-5 c = search needs
 
--- src/lib.rt:50:23
 aaaa-requires : tie.Need-aaaa-requires
 aaaa-requires c κs = search needs
 
--- src/lib.rt:51:46
 enum-told-6 : tie.Need-enum-told-6
 enum-told-6 c = search needs
 
--- src/lib.rt:51:35
 name-requires : tie.Need-name-requires
 name-requires c κs = search needs
 
--- src/lib.rt:52:35
 enum-told-7 : tie.Need-enum-told-7
 enum-told-7 c = search needs
 
--- src/lib.rt:52:22
 string-requires : tie.Need-string-requires
 string-requires c κs = search needs
 
--- src/lib.rt:53:23
 enum-told-8 : tie.Need-enum-told-8
 enum-told-8 c = search needs
 
--- src/lib.rt:54:32
 enum-told-9 : tie.Need-enum-told-9
 enum-told-9 c = search needs
 
--- src/lib.rt:54:22
 raw-requires : tie.Need-raw-requires
 raw-requires c κs = search needs
 
--- src/lib.rt:55:41
 enum-told-10 : tie.Need-enum-told-10
 enum-told-10 c = search needs
 
--- src/lib.rt:55:25
 counted-requires : tie.Need-counted-requires
 counted-requires c κs = search needs
 
--- src/lib.rt:56:25
 enum-told-11 : tie.Need-enum-told-11
 enum-told-11 c = search needs
 
--- src/lib.rt:57:22
 enum-told-12 : tie.Need-enum-told-12
 enum-told-12 c = search needs
 
--- src/lib.rt:58:36
 enum-told-13 : tie.Need-enum-told-13
 enum-told-13 c = search needs
 
--- src/lib.rt:58:23
 counted-requires-2 : tie.Need-counted-requires-2
 counted-requires-2 c κs = search needs
 
--- src/lib.rt:59:19
 enum-known-f-2 : tie.Need-enum-known-f-2
 enum-known-f-2 c = search needs
 
--- src/lib.rt:59:44
 cast-field-2 : tie.Need-cast-field-2
 cast-field-2 c = search needs
 
--- src/lib.rt:59:25
 field-requires-3 : tie.Need-field-requires-3
 field-requires-3 c κs = (c .before .before .before .before .before .before .before .before .before .before .pre .0, eui-eight (c .before .before .f2 .given .0 .0) (rw (c .before .before .f2 .given .1) at (c .before .before .before .before .before .before .before .before .before .before .pre .1 .sound)), c .before .before .before .before .before .before .before .before .before .before .pre .4, c .before .before .before .before .before .before .before .before .before .before .pre .5, c .before .before .before .before .before .before .before .before .before .before .pre .6)
 
--- src/lib.rt:60:41
 enum-told-14 : tie.Need-enum-told-14
 enum-told-14 c = search needs
 
--- src/lib.rt:60:23
 field-requires-4 : tie.Need-field-requires-4
 field-requires-4 c κs = search needs
 
--- src/lib.rt:28:1
 same-length : tie.Need-same-length
 same-length c = search needs
 
--- src/lib.rt:28:1
 returns : tie.Need-returns
 returns c = rw (c .before .before .before .before .before .f .given .1) (c .before .before .field .ensures (symbolsOf (c .before .before .before .before .before .before .before .before .before .before .before .before .before .args .s .now) (c .before .before .before .before .before .before .before .before .before .before .before .before .before .args .d) (c .before .before .before .before .before .before .before .before .before .before .before .before .before .pre .1) (c .before .before .before .before .before .f .given .0 .0) (c .before .before .before .before .before .f .given .1)) (symbols-of (c .before .before .before .before .before .before .before .before .before .before .before .before .before .args .s .now) (c .before .before .before .before .before .before .before .before .before .before .before .before .before .args .d) (c .before .before .before .before .before .before .before .before .before .before .before .before .before .pre .1) (c .before .before .before .before .before .f .given .0 .0) (c .before .before .before .before .before .f .given .1)))
 
--- src/lib.rt:28:1
 same-length-2 : tie.Need-same-length-2
 same-length-2 c = search needs
 
--- src/lib.rt:28:1
 returns-2 : tie.Need-returns-2
 returns-2 c = rw (c .before .before .before .before .enum-told .given .1) (c .before .before .field2 .ensures)
 
--- src/lib.rt:28:1
 returns-3 : tie.Need-returns-3
 returns-3 c = rw (c .enum-told2 .given .1)
 
--- src/lib.rt:28:1
 same-length-3 : tie.Need-same-length-3
 same-length-3 c = search needs
 
--- src/lib.rt:28:1
 returns-4 : tie.Need-returns-4
 returns-4 c = rw (c .before .before .before .before .enum-told3 .given .1) (c .before .before .dotted .ensures)
 
--- src/lib.rt:28:1
 same-length-4 : tie.Need-same-length-4
 same-length-4 c = search needs
 
--- src/lib.rt:28:1
 returns-5 : tie.Need-returns-5
 returns-5 c = rw (c .before .before .before .before .enum-told4 .given .1) (c .before .before .four-groups .ensures)
 
--- src/lib.rt:28:1
 same-length-5 : tie.Need-same-length-5
 same-length-5 c = search needs
 
--- src/lib.rt:28:1
 returns-6 : tie.Need-returns-6
 returns-6 c = rw (c .before .before .before .before .enum-told5 .given .1) (c .before .before .aaaa .ensures)
 
--- src/lib.rt:28:1
 same-length-6 : tie.Need-same-length-6
 same-length-6 c = search needs
 
--- src/lib.rt:28:1
 returns-7 : tie.Need-returns-7
 returns-7 c = rw (c .before .before .before .before .enum-told6 .given .1) (c .before .before .name .ensures)
 
--- src/lib.rt:28:1
 same-length-7 : tie.Need-same-length-7
 same-length-7 c = search needs
 
--- src/lib.rt:28:1
 returns-8 : tie.Need-returns-8
 returns-8 c = rw (c .before .before .before .before .enum-told7 .given .1) (c .before .before .string .ensures)
 
--- src/lib.rt:28:1
 returns-9 : tie.Need-returns-9
 returns-9 c = rw (c .enum-told8 .given .1)
 
--- src/lib.rt:28:1
 same-length-8 : tie.Need-same-length-8
 same-length-8 c = search needs
 
--- src/lib.rt:28:1
 returns-10 : tie.Need-returns-10
 returns-10 c = rw (c .before .before .before .before .enum-told9 .given .1) (c .before .before .raw .ensures)
 
--- src/lib.rt:28:1
 same-length-9 : tie.Need-same-length-9
 same-length-9 c = search needs
 
--- src/lib.rt:28:1
 returns-11 : tie.Need-returns-11
 returns-11 c = rw (c .before .before .before .before .enum-told10 .given .1) (c .before .before .counted .ensures)
 
--- src/lib.rt:28:1
 returns-12 : tie.Need-returns-12
 returns-12 c = rw (c .enum-told11 .given .1)
 
--- src/lib.rt:28:1
 returns-13 : tie.Need-returns-13
 returns-13 c = rw (c .enum-told12 .given .1)
 
--- src/lib.rt:28:1
 same-length-10 : tie.Need-same-length-10
 same-length-10 c = search needs
 
--- src/lib.rt:28:1
 returns-14 : tie.Need-returns-14
 returns-14 c = rw (c .before .before .before .before .enum-told13 .given .1) (c .before .before .counted2 .ensures)
 
--- src/lib.rt:28:1
 same-length-11 : tie.Need-same-length-11
 same-length-11 c = search needs
 
--- src/lib.rt:28:1
 returns-15 : tie.Need-returns-15
 returns-15 c = rw (c .before .before .before .before .before .f2 .given .1) (c .before .before .field3 .ensures)
 
--- src/lib.rt:28:1
 same-length-12 : tie.Need-same-length-12
 same-length-12 c = search needs
 
--- src/lib.rt:28:1
 returns-16 : tie.Need-returns-16
 returns-16 c = rw (c .before .before .before .before .enum-told14 .given .1) (c .before .before .field4 .ensures)
 

@@ -8,39 +8,30 @@ use Rattle.values.proofs.of_quoted.Lts as lts
 use Rattle.read_text.proofs.raw.Reads as raw-reads
 use Rattle.read_text.proofs.string.Reads as string-reads
 
--- src/lib.rt:70:29
 enum-told : tie.Need-enum-told
 enum-told c = search needs
 
--- src/lib.rt:70:9
 string-requires : tie.Need-string-requires
 string-requires c κs = search needs
 
--- src/lib.rt:70:9
 same-length : tie.Need-same-length
 same-length c = search needs
 
--- src/lib.rt:70:9
 returns : tie.Need-returns
 returns c = λ l o. rw (c .before .before .before .before .enum-told .given .1) (c .before .before .string .ensures)
 
--- src/lib.rt:73:26
 enum-told-2 : tie.Need-enum-told-2
 enum-told-2 c = search needs
 
--- src/lib.rt:73:9
 raw-requires : tie.Need-raw-requires
 raw-requires c κs = search needs
 
--- src/lib.rt:73:9
 same-length-2 : tie.Need-same-length-2
 same-length-2 c = search needs
 
--- src/lib.rt:73:9
 returns-2 : tie.Need-returns-2
 returns-2 c = λ l o. rw (c .before .before .before .before .enum-told2 .given .1) (c .before .before .raw .ensures)
 
--- src/lib.rt:65:1
 returns-3 : tie.Need-returns-3
 returns-3 c = λ l o. only-strings (c .before .before .before .before .args .f) (c .before .match .keys2) (c .match2 .keys2) l o _
 

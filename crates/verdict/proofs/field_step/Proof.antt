@@ -9,43 +9,33 @@ use Rattle.verdict.proofs.field_step.Reads as reads
 use Rattle.verdict.proofs.field_step.Lts as lts
 use Rattle.verdict.proofs.name_again.Reads as name-again-reads
 
--- src/lib.rt:246:32
 enum-known-f : tie.Need-enum-known-f
 enum-known-f c = search needs
 
--- src/lib.rt:247:33
 enum-known-f-2 : tie.Need-enum-known-f-2
 enum-known-f-2 c = search needs
 
--- src/lib.rt:249:17
 returns : tie.Need-returns
 returns c = (tt, λ d st. rw (c .before .before .f2 .given .1) (after-tail (c .before .before .before .before .before .before .before .args .s .now) d (c .before .before .before .before .before .before .before .args .last) (c .before .before .before .before .before .before .before .args .names .now) (c .before .before .before .before .before .before .before .args .ends .now) (c .before .before .before .before .before .before .before .args .n) st (fieldOf (c .before .before .before .before .before .before .before .args .s .now) ((c .before .before .f2 .given .0 .0) .field) ((c .before .before .f2 .given .0 .0) .«name_at») ((c .before .before .f2 .given .0 .0) .«name_end»)) ((c .before .before .f2 .given .0 .0) .«name_at») ((c .before .before .f2 .given .0 .0) .«name_end») refl (c .if1 .taken)))
 
--- src/lib.rt:251:21
 cast-a : tie.Need-cast-a
 cast-a c = search needs
 
--- src/lib.rt:252:21
 cast-e : tie.Need-cast-e
 cast-e c = search needs
 
--- src/lib.rt:253:16
 name-again-requires : tie.Need-name-again-requires
 name-again-requires c κs = ((rw (c .before .before .before .before .f2 .given .1) at (c .before .before .before .before .before .before .before .before .before .pre .0)) .0, (rw (c .before .before .before .before .f2 .given .1) at (c .before .before .before .before .before .before .before .before .before .pre .0)) .1, c .before .before .before .before .before .before .before .before .before .pre .1, c .before .before .before .before .before .before .before .before .before .pre .2)
 
--- src/lib.rt:254:17
 returns-2 : tie.Need-returns-2
 returns-2 c = (tt, λ d st. rw (c .before .before .before .before .before .before .f2 .given .1) (named-again (c .before .before .before .before .before .before .before .before .before .before .before .args .s .now) d (c .before .before .before .before .before .before .before .before .before .before .before .args .last) (c .before .before .before .before .before .before .before .before .before .before .before .args .names .now) (c .before .before .before .before .before .before .before .before .before .before .before .args .ends .now) (c .before .before .before .before .before .before .before .before .before .before .before .args .n) st (fieldOf (c .before .before .before .before .before .before .before .before .before .before .before .args .s .now) ((c .before .before .before .before .before .before .f2 .given .0 .0) .field) ((c .before .before .before .before .before .before .f2 .given .0 .0) .«name_at») ((c .before .before .before .before .before .before .f2 .given .0 .0) .«name_end»)) ((c .before .before .before .before .before .before .f2 .given .0 .0) .«name_at») ((c .before .before .before .before .before .before .f2 .given .0 .0) .«name_end») refl (c .before .before .before .before .if1 .left) (sym (c .before .name-again .ensures) ∙ c .if2 .taken)))
 
--- src/lib.rt:257:17
 returns-3 : tie.Need-returns-3
 returns-3 c = (tt, λ d st. rw (c .before .before .before .before .before .before .before .f2 .given .1) (too-many (c .before .before .before .before .before .before .before .before .before .before .before .before .args .s .now) d (c .before .before .before .before .before .before .before .before .before .before .before .before .args .last) (c .before .before .before .before .before .before .before .before .before .before .before .before .args .names .now) (c .before .before .before .before .before .before .before .before .before .before .before .before .args .ends .now) (c .before .before .before .before .before .before .before .before .before .before .before .before .args .n) st (fieldOf (c .before .before .before .before .before .before .before .before .before .before .before .before .args .s .now) ((c .before .before .before .before .before .before .before .f2 .given .0 .0) .field) ((c .before .before .before .before .before .before .before .f2 .given .0 .0) .«name_at») ((c .before .before .before .before .before .before .before .f2 .given .0 .0) .«name_end»)) ((c .before .before .before .before .before .before .before .f2 .given .0 .0) .«name_at») ((c .before .before .before .before .before .before .before .f2 .given .0 .0) .«name_end») refl (c .before .before .before .before .before .if1 .left) (sym (c .before .before .name-again .ensures) ∙ c .before .if2 .left) (c .if3 .taken)))
 
--- src/lib.rt:240:1
 returns-4 : tie.Need-returns-4
 returns-4 c = (tt, λ d st. rw (c .before .f .given .1))
 
--- src/lib.rt:240:1
 returns-5 : tie.Need-returns-5
 returns-5 c = ((c .if3 .left, (rw (c .before .before .before .before .before .before .before .f2 .given .1) at (c .before .before .before .before .before .before .before .before .before .before .before .before .pre .0)) .2), λ d st. rw (c .before .before .before .before .before .before .before .f2 .given .1) (one-more (c .before .before .before .before .before .before .before .before .before .before .before .before .args .s .now) d (c .before .before .before .before .before .before .before .before .before .before .before .before .args .last) (c .before .before .before .before .before .before .before .before .before .before .before .before .args .names .now) (c .before .before .before .before .before .before .before .before .before .before .before .before .args .ends .now) (c .before .before .before .before .before .before .before .before .before .before .before .before .args .n) st (fieldOf (c .before .before .before .before .before .before .before .before .before .before .before .before .args .s .now) ((c .before .before .before .before .before .before .before .f2 .given .0 .0) .field) ((c .before .before .before .before .before .before .before .f2 .given .0 .0) .«name_at») ((c .before .before .before .before .before .before .before .f2 .given .0 .0) .«name_end»)) ((c .before .before .before .before .before .before .before .f2 .given .0 .0) .«name_at») ((c .before .before .before .before .before .before .before .f2 .given .0 .0) .«name_end») refl (c .before .before .before .before .before .if1 .left) (sym (c .before .before .name-again .ensures) ∙ c .before .if2 .left) (c .if3 .left)))
 

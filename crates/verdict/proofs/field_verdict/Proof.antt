@@ -9,31 +9,24 @@ use Rattle.verdict.proofs.field_verdict.Lts as lts
 use Rattle.grammar.proofs.field_shape.Reads as field-shape-reads
 use Rattle.verdict.proofs.field_meant.Reads as field-meant-reads
 
--- src/lib.rt:136:9
 returns : tie.Need-returns
 returns c = (tt, λ d. outdented (c .before .before .args .s .now) (c .before .before .args .at) (c .before .before .args .t) (c .before .before .args .e) (c .before .before .pre .0) (c .if1 .taken) _ _)
 
--- src/lib.rt:138:9
 field-shape-requires : tie.Need-field-shape-requires
 field-shape-requires c κs = search needs
 
--- src/lib.rt:140:27
 enum-told : tie.Need-enum-told
 enum-told c = search needs
 
--- src/lib.rt:141:24
 enum-known-f : tie.Need-enum-known-f
 enum-known-f c = search needs
 
--- src/lib.rt:141:30
 field-meant-requires : tie.Need-field-meant-requires
 field-meant-requires c κs = (rw (c .before .f .given .1) at (c .before .before .before .field-shape .ensures .1), c .before .before .before .before .before .before .pre .2, c .before .before .before .before .before .before .pre .3)
 
--- src/lib.rt:131:1
 returns-2 : tie.Need-returns-2
 returns-2 c = (tt, λ d. no-field (c .before .before .before .before .before .args .s .now) (c .before .before .before .before .before .args .t) (c .before .before .before .before .before .args .e) (c .before .before .field-shape .result) (c .before .before .field-shape .ensures .0) d (c .enum-told .given .1) ∙ indented (c .before .before .before .before .before .args .s .now) (c .before .before .before .before .before .args .at) (c .before .before .before .before .before .args .t) (c .before .before .before .before .before .args .e) (c .before .before .before .if1 .left) _ _)
 
--- src/lib.rt:131:1
 returns-3 : tie.Need-returns-3
 returns-3 c = (c .field-meant .ensures .0, λ d. c .field-meant .ensures .1 d ∙ is-field (c .before .before .before .before .before .before .before .args .s .now) (c .before .before .before .before .before .before .before .args .t) (c .before .before .before .before .before .before .before .args .e) (c .before .before .before .before .field-shape .result) (c .before .before .before .before .field-shape .ensures .0) d (c .before .before .f .given .1) ∙ indented (c .before .before .before .before .before .before .before .args .s .now) (c .before .before .before .before .before .before .before .args .at) (c .before .before .before .before .before .before .before .args .t) (c .before .before .before .before .before .before .before .args .e) (c .before .before .before .before .before .if1 .left) _ _)
 

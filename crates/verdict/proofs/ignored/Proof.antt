@@ -6,15 +6,12 @@ use Rattle.verdict.proofs.ignored.Tie as tie
 use Rattle.verdict.proofs.ignored.Reads as reads
 use Rattle.verdict.proofs.ignored.Lts as lts
 
--- src/lib.rt:225:16
 shared-slice-read-result : tie.Need-shared-slice-read-result
 shared-slice-read-result c = search needs
 
--- src/lib.rt:225:9
 returns : tie.Need-returns
 returns c = first-octet (c .before .before .args .s .now) (c .before .before .args .t) (c .before .before .args .e) (c .before .if1 .taken) (c .before .before .pre .1)
 
--- src/lib.rt:220:1
 returns-2 : tie.Need-returns-2
 returns-2 c = blank-line (c .before .args .s .now) (c .before .args .t) (c .before .args .e) (c .if1 .left)
 

@@ -13,47 +13,36 @@ use Rattle.verdict.proofs.field_verdict.Reads as field-verdict-reads
 use Rattle.verdict.proofs.header_verdict.Reads as header-verdict-reads
 use Rattle.verdict.proofs.ignored.Reads as ignored-reads
 
--- src/lib.rt:213:9
 skip-requires : tie.Need-skip-requires
 skip-requires c κs = search needs
 
--- src/lib.rt:214:8
 ignored-requires : tie.Need-ignored-requires
 ignored-requires c κs = (nonblank (c .before .before .before .before .args .s .now) (c .before .before .before .before .args .at) (c .before .before .before .before .args .e) (c .skip .result) (c .before .before .before .before .pre .0) (c .before .before .before .before .pre .1) (c .skip .ensures) .1, c .before .before .before .before .pre .1)
 
--- src/lib.rt:215:9
 returns : tie.Need-returns
 returns c = (tt, λ d st. line-ignored (c .before .before .before .before .before .before .args .s .now) (c .before .before .before .before .before .before .args .at) (c .before .before .before .before .before .before .args .e) (c .before .before .skip .result) (c .before .before .before .before .before .before .pre .0) (c .before .before .before .before .before .before .pre .1) (c .before .before .skip .ensures) _ (sym (c .before .ignored .ensures) ∙ c .if1 .taken))
 
--- src/lib.rt:218:13
 field-verdict-requires : tie.Need-field-verdict-requires
 field-verdict-requires c κs = (nonblank (c .before .before .before .before .before .before .before .args .s .now) (c .before .before .before .before .before .before .before .args .at) (c .before .before .before .before .before .before .before .args .e) (c .before .before .before .skip .result) (c .before .before .before .before .before .before .before .pre .0) (c .before .before .before .before .before .before .before .pre .1) (c .before .before .before .skip .ensures) .0, nonblank (c .before .before .before .before .before .before .before .args .s .now) (c .before .before .before .before .before .before .before .args .at) (c .before .before .before .before .before .before .before .args .e) (c .before .before .before .skip .result) (c .before .before .before .before .before .before .before .pre .0) (c .before .before .before .before .before .before .before .pre .1) (c .before .before .before .skip .ensures) .1, c .before .before .before .before .before .before .before .pre .1, c .before .before .before .before .before .before .before .pre .2)
 
--- src/lib.rt:219:9
 field-step-requires : tie.Need-field-step-requires
 field-step-requires c κs = search needs
 
--- src/lib.rt:219:9
 returns-2 : tie.Need-returns-2
 returns-2 c = (due _ _ (c .field-step .result) _ (c .before .before .if2 .taken) (c .field-step .ensures .0), λ d st. rw (c .before .before .if2 .taken) (line-read (c .before .before .before .before .before .before .before .before .before .args .s .now) (c .before .before .before .before .before .before .before .before .before .args .at) (c .before .before .before .before .before .before .before .before .before .args .e) (c .before .before .before .before .before .skip .result) (c .before .before .before .before .before .before .before .before .before .pre .0) (c .before .before .before .before .before .before .before .before .before .pre .1) (c .before .before .before .before .before .skip .ensures) _ _ (sym (c .before .before .before .before .ignored .ensures) ∙ c .before .before .before .if1 .left) (c .field-step .ensures .1 d st ∙ c .before .field-verdict .ensures .1 d)))
 
--- src/lib.rt:221:9
 header-verdict-requires : tie.Need-header-verdict-requires
 header-verdict-requires c κs = (nonblank (c .before .before .before .before .before .before .before .args .s .now) (c .before .before .before .before .before .before .before .args .at) (c .before .before .before .before .before .before .before .args .e) (c .before .before .before .skip .result) (c .before .before .before .before .before .before .before .pre .0) (c .before .before .before .before .before .before .before .pre .1) (c .before .before .before .skip .ensures) .0, nonblank (c .before .before .before .before .before .before .before .args .s .now) (c .before .before .before .before .before .before .before .args .at) (c .before .before .before .before .before .before .before .args .e) (c .before .before .before .skip .result) (c .before .before .before .before .before .before .before .pre .0) (c .before .before .before .before .before .before .before .pre .1) (c .before .before .before .skip .ensures) .1, c .before .before .before .before .before .before .before .pre .1, c .before .before .before .before .before .before .before .pre .2)
 
--- src/lib.rt:223:34
 enum-known-h : tie.Need-enum-known-h
 enum-known-h c = search needs
 
--- src/lib.rt:224:35
 enum-known-h-2 : tie.Need-enum-known-h-2
 enum-known-h-2 c = search needs
 
--- src/lib.rt:208:1
 returns-3 : tie.Need-returns-3
 returns-3 c = (tt, λ d st. rw (c .before .before .before .before .if2 .left) (line-read (c .before .before .before .before .before .before .before .before .before .before .before .args .s .now) (c .before .before .before .before .before .before .before .before .before .before .before .args .at) (c .before .before .before .before .before .before .before .before .before .before .before .args .e) (c .before .before .before .before .before .before .before .skip .result) (c .before .before .before .before .before .before .before .before .before .before .before .pre .0) (c .before .before .before .before .before .before .before .before .before .before .before .pre .1) (c .before .before .before .before .before .before .before .skip .ensures) _ _ (sym (c .before .before .before .before .before .before .ignored .ensures) ∙ c .before .before .before .before .before .if1 .left) (rw (c .before .h .given .1) at (c .before .before .before .header-verdict .ensures))))
 
--- src/lib.rt:208:1
 returns-4 : tie.Need-returns-4
 returns-4 c = (c .before .before .before .before .if2 .left, λ d st. rw (c .before .before .before .before .if2 .left) (line-read (c .before .before .before .before .before .before .before .before .before .before .before .args .s .now) (c .before .before .before .before .before .before .before .before .before .before .before .args .at) (c .before .before .before .before .before .before .before .before .before .before .before .args .e) (c .before .before .before .before .before .before .before .skip .result) (c .before .before .before .before .before .before .before .before .before .before .before .pre .0) (c .before .before .before .before .before .before .before .before .before .before .before .pre .1) (c .before .before .before .before .before .before .before .skip .ensures) _ _ (sym (c .before .before .before .before .before .before .ignored .ensures) ∙ c .before .before .before .before .before .if1 .left) (rw (c .before .h2 .given .1) at (c .before .before .before .header-verdict .ensures))))
 

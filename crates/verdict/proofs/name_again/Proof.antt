@@ -16,47 +16,36 @@ Inv-loop s names ends n a e k₀ k = (k ≤ n) × (namedFrom s names ends a e k 
 abbrev μ-loop : tie.MeasureT-loop
 μ-loop s names ends n a e k₀ k = n - k
 
--- src/lib.rt:166:5
 loop-holds : tie.Need-loop-holds Inv-loop μ-loop
 loop-holds c = (search needs, from-first (c .before .before .before .args .s .now) (c .before .before .before .args .names .now) (c .before .before .before .args .ends .now) (c .before .before .before .args .a) (c .before .before .before .args .e) (c .before .before .before .args .n))
 
--- src/lib.rt:167:25
 mul-same-name : tie.Need-mul-same-name Inv-loop μ-loop
 mul-same-name c = search needs
 
--- src/lib.rt:167:25
 shared-slice-read-same-name : tie.Need-shared-slice-read-same-name Inv-loop μ-loop
 shared-slice-read-same-name c = search needs
 
--- src/lib.rt:167:35
 mul-same-name-2 : tie.Need-mul-same-name-2 Inv-loop μ-loop
 mul-same-name-2 c = search needs
 
--- src/lib.rt:167:35
 shared-slice-read-same-name-2 : tie.Need-shared-slice-read-same-name-2 Inv-loop μ-loop
 shared-slice-read-same-name-2 c = search needs
 
--- src/lib.rt:167:12
 same-name-requires : tie.Need-same-name-requires Inv-loop μ-loop
 same-name-requires c κs = search needs
 
--- src/lib.rt:168:13
 returns : tie.Need-returns Inv-loop μ-loop
 returns c = sym (name-found (c .before .before .before .before .before .before .before .before .before .args .s .now) (c .before .before .before .before .before .before .before .before .before .args .names .now) (c .before .before .before .before .before .before .before .before .before .args .ends .now) (c .before .before .before .before .before .before .before .before .before .args .a) (c .before .before .before .before .before .before .before .before .before .args .e) (c .before .before .before .before .before .loop .k) (c .before .before .before .before .before .before .before .before .before .args .n) (c .before .before .before .before .loop-test .taken) (sym (c .before .same-name .ensures) ∙ c .if1 .taken)) ∙ c .before .before .before .before .before .loop .inv .1
 
--- src/lib.rt:170:13
 add-k : tie.Need-add-k Inv-loop μ-loop
 add-k c = search needs
 
--- src/lib.rt:166:5
 loop-less : tie.Need-loop-less Inv-loop μ-loop
 loop-less c = search needs
 
--- src/lib.rt:166:5
 loop-again : tie.Need-loop-again Inv-loop μ-loop
 loop-again c = (search needs, name-next (c .before .before .before .before .before .before .before .before .before .args .s .now) (c .before .before .before .before .before .before .before .before .before .args .names .now) (c .before .before .before .before .before .before .before .before .before .args .ends .now) (c .before .before .before .before .before .before .before .before .before .args .a) (c .before .before .before .before .before .before .before .before .before .args .e) (c .before .before .before .before .before .loop .k) (c .before .before .before .before .before .before .before .before .before .args .n) (c .before .before .before .before .loop-test .taken) (sym (c .before .same-name .ensures) ∙ c .if1 .left) ∙ c .before .before .before .before .before .loop .inv .1)
 
--- src/lib.rt:161:1
 returns-2 : tie.Need-returns-2 Inv-loop μ-loop
 returns-2 c = sym (no-name (c .before .before .before .before .before .args .s .now) (c .before .before .before .before .before .args .names .now) (c .before .before .before .before .before .args .ends .now) (c .before .before .before .before .before .args .a) (c .before .before .before .before .before .args .e) (c .before .loop .k) (c .before .before .before .before .before .args .n) (c .loop-test .left)) ∙ c .before .loop .inv .1
 

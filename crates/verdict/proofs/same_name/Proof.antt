@@ -9,19 +9,15 @@ use Rattle.verdict.proofs.same_name.Lts as lts
 use Rattle.distinct.proofs.same.Reads as same-reads
 use Rattle.writing.proofs.least.Reads as least-reads
 
--- src/lib.rt:181:9
 least-requires : tie.Need-least-requires
 least-requires c κs = search needs
 
--- src/lib.rt:183:9
 same-requires : tie.Need-same-requires
 same-requires c κs = search needs
 
--- src/lib.rt:183:9
 returns : tie.Need-returns
 returns c = same-there (c .before .before .before .before .args .s .now) (c .before .before .before .before .args .x) (c .before .before .before .before .args .y) _ (c .before .before .before .before .args .a) (c .before .before .before .before .args .e) _ (c .before .before .least .ensures) (c .before .if1 .taken) (c .same .ensures)
 
--- src/lib.rt:176:1
 returns-2 : tie.Need-returns-2
 returns-2 c = same-not (c .before .before .before .args .s .now) (c .before .before .before .args .x) (c .before .before .before .args .y) _ (c .before .before .before .args .a) (c .before .before .before .args .e) (c .before .least .ensures) (c .if1 .left)
 

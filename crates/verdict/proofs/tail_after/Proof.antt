@@ -7,15 +7,12 @@ use Rattle.verdict.proofs.tail_after.Reads as reads
 use Rattle.verdict.proofs.tail_after.Lts as lts
 use Rattle.verdict.proofs.is_tail.Reads as is-tail-reads
 
--- src/lib.rt:174:9
 returns : tie.Need-returns
 returns c = λ l. rw (c .if1 .taken)
 
--- src/lib.rt:176:5
 is-tail-requires : tie.Need-is-tail-requires
 is-tail-requires c κs = search needs
 
--- src/lib.rt:170:1
 returns-2 : tie.Need-returns-2
 returns-2 c = λ l. rw (c .before .if1 .left) (c .is-tail .ensures l)
 

@@ -9,35 +9,27 @@ use Rattle.wire.proofs.counted.Tie as tie
 use Rattle.wire.proofs.counted.Reads as reads
 use Rattle.wire.proofs.counted.Lts as lts
 
--- src/lib.rt:49:9
 returns : tie.Need-returns
 returns c = nothing _ _ _ (c .before .pre .1) (count (c .before .args .lo)) false refl (c .if1 .taken)
 
--- src/lib.rt:51:13
 shared-slice-read-b : tie.Need-shared-slice-read-b
 shared-slice-read-b c = search needs
 
--- src/lib.rt:53:9
 returns-2 : tie.Need-returns-2
 returns-2 c = count-low _ _ _ (c .before .before .before .pre .1) (c .before .before .if1 .left) _ (c .if2 .taken)
 
--- src/lib.rt:55:13
 cast-n : tie.Need-cast-n
 cast-n c = omega (arith, c .before .shared-slice-known .given (c .before .before .before .args .i))
 
--- src/lib.rt:56:8
 sub-if3 : tie.Need-sub-if3
 sub-if3 c = search needs
 
--- src/lib.rt:57:9
 returns-3 : tie.Need-returns-3
 returns-3 c = count-cut _ _ _ (c .before .before .before .before .pre .1) (c .before .before .before .if1 .left) _ _ refl (c .before .if2 .left) (c .if3 .taken)
 
--- src/lib.rt:59:16
 add-t10 : tie.Need-add-t10
 add-t10 c = search needs
 
--- src/lib.rt:44:1
 returns-4 : tie.Need-returns-4
 returns-4 c = count-all _ _ _ (c .before .before .before .before .pre .1) (c .before .before .before .if1 .left) _ _ refl (c .before .if2 .left) (c .if3 .left)
 

@@ -17,87 +17,66 @@ Inv-loop s i e optional j₀ j = (i ≤ j) × (j ≤ e) × (j - i ≤ 255) × (t
 abbrev μ-loop : tie.MeasureT-loop
 μ-loop s i e optional j₀ j = e - j
 
--- src/lib.rt:69:13
 returns : tie.Need-returns Inv-loop μ-loop
 returns c = nothing _ _ _ (c .before .before .pre .1) (labelLength (c .before .before .args .optional) 0) true (c .if2 .taken) (c .before .if1 .taken)
 
--- src/lib.rt:71:9
 returns-2 : tie.Need-returns-2 Inv-loop μ-loop
 returns-2 c = nothing _ _ _ (c .before .before .pre .1) (labelLength (c .before .before .args .optional) 0) false (c .if2 .left) (c .before .if1 .taken)
 
--- src/lib.rt:74:5
 loop-holds : tie.Need-loop-holds Inv-loop μ-loop
 loop-holds c = (search needs, (c .before .pre .0), omega arith, name-first _ _ _ (c .before .pre .1) (c .if1 .left) _)
 
--- src/lib.rt:75:17
 shared-slice-read-n : tie.Need-shared-slice-read-n Inv-loop μ-loop
 shared-slice-read-n c = search needs
 
--- src/lib.rt:75:17
 cast-n : tie.Need-cast-n Inv-loop μ-loop
 cast-n c = omega (arith, c .shared-slice-known .given (c .before .before .loop .j))
 
--- src/lib.rt:77:31
 sub-t12 : tie.Need-sub-t12 Inv-loop μ-loop
 sub-t12 c = search needs
 
--- src/lib.rt:77:31
 add-t13 : tie.Need-add-t13 Inv-loop μ-loop
 add-t13 c = search needs
 
--- src/lib.rt:77:13
 returns-3 : tie.Need-returns-3 Inv-loop μ-loop
 returns-3 c = whole _ _ _ (took 1) (c .before .before .before .loop .inv .3) (root _ _ _ (c .before .before .before .before .before .pre .1) (c .before .before .loop-test .taken) _ (c .if3 .taken))
 
--- src/lib.rt:80:13
 returns-4 : tie.Need-returns-4 Inv-loop μ-loop
 returns-4 c = whole _ _ _ bad (c .before .before .before .before .loop .inv .3) (label-long _ _ _ (c .before .before .before .before .before .before .pre .1) (c .before .before .before .loop-test .taken) _ _ refl (c .if4 .taken))
 
--- src/lib.rt:82:18
 sub-if5 : tie.Need-sub-if5 Inv-loop μ-loop
 sub-if5 c = search needs
 
--- src/lib.rt:82:18
 add-if5 : tie.Need-add-if5 Inv-loop μ-loop
 add-if5 c = search needs
 
--- src/lib.rt:82:18
 add-if5-2 : tie.Need-add-if5-2 Inv-loop μ-loop
 add-if5-2 c = search needs
 
--- src/lib.rt:82:18
 add-if5-3 : tie.Need-add-if5-3 Inv-loop μ-loop
 add-if5-3 c = search needs
 
--- src/lib.rt:83:13
 returns-5 : tie.Need-returns-5 Inv-loop μ-loop
 returns-5 c = whole _ _ _ bad (c .before .before .before .before .before .loop .inv .3) (name-long _ _ _ (c .before .before .before .before .before .before .before .pre .1) (c .before .before .before .before .loop-test .taken) _ _ refl (c .before .before .if3 .left) (c .before .if4 .left) (c .if5 .taken))
 
--- src/lib.rt:85:12
 sub-if6 : tie.Need-sub-if6 Inv-loop μ-loop
 sub-if6 c = search needs
 
--- src/lib.rt:86:13
 returns-6 : tie.Need-returns-6 Inv-loop μ-loop
 returns-6 c = whole _ _ _ short (c .before .before .before .before .before .before .loop .inv .3) (label-cut _ _ _ (c .before .before .before .before .before .before .before .before .pre .1) (c .before .before .before .before .before .loop-test .taken) _ _ refl (c .before .before .if4 .left) (c .before .if5 .left) (c .if6 .taken))
 
--- src/lib.rt:88:13
 add-j : tie.Need-add-j Inv-loop μ-loop
 add-j c = search needs
 
--- src/lib.rt:88:13
 add-j-2 : tie.Need-add-j-2 Inv-loop μ-loop
 add-j-2 c = search needs
 
--- src/lib.rt:74:5
 loop-less : tie.Need-loop-less Inv-loop μ-loop
 loop-less c = search needs
 
--- src/lib.rt:74:5
 loop-again : tie.Need-loop-again Inv-loop μ-loop
 loop-again c = (search needs, search needs, search needs, label-again _ _ _ _ (c .before .before .before .before .before .before .before .before .pre .1) (c .before .before .before .before .before .loop-test .taken) _ _ (c .before .before .before .before .before .before .loop .inv .0) (c .before .before .before .before .before .before .loop .inv .3) refl (c .before .before .before .if3 .left) (c .before .before .if4 .left) (c .before .if5 .left) (c .if6 .left))
 
--- src/lib.rt:63:1
 returns-7 : tie.Need-returns-7 Inv-loop μ-loop
 returns-7 c = whole _ _ _ short (c .before .loop .inv .3) (sym (nothing _ _ _ (c .before .before .before .pre .1) (labelLength false ((c .before .loop .j) - (c .before .before .before .args .i))) false refl (c .loop-test .left)))
 

@@ -17,51 +17,39 @@ Inv-loop s i e j₀ j = (i ≤ j) × (j ≤ e) × (taken (stringCount false) (sl
 abbrev μ-loop : tie.MeasureT-loop
 μ-loop s i e j₀ j = e - j
 
--- src/lib.rt:99:9
 returns : tie.Need-returns Inv-loop μ-loop
 returns c = nothing _ _ _ (c .before .pre .1) (stringCount false) false refl (c .if1 .taken)
 
--- src/lib.rt:102:5
 loop-holds : tie.Need-loop-holds Inv-loop μ-loop
 loop-holds c = (search needs, (c .before .pre .0), string-there _ _ _ (c .before .pre .1) (c .if1 .left) false true ∙ at-first _ _)
 
--- src/lib.rt:103:17
 shared-slice-read-n : tie.Need-shared-slice-read-n Inv-loop μ-loop
 shared-slice-read-n c = search needs
 
--- src/lib.rt:103:17
 cast-n : tie.Need-cast-n Inv-loop μ-loop
 cast-n c = omega (arith, c .shared-slice-known .given (c .before .before .loop .j))
 
--- src/lib.rt:104:12
 sub-if2 : tie.Need-sub-if2 Inv-loop μ-loop
 sub-if2 c = search needs
 
--- src/lib.rt:105:13
 returns-2 : tie.Need-returns-2 Inv-loop μ-loop
 returns-2 c = whole _ _ _ short (c .before .before .before .loop .inv .2) (string-cut _ _ _ (c .before .before .before .before .before .pre .1) (c .before .before .loop-test .taken) true _ refl (c .if2 .taken))
 
--- src/lib.rt:107:13
 add-j : tie.Need-add-j Inv-loop μ-loop
 add-j c = search needs
 
--- src/lib.rt:107:13
 add-j-2 : tie.Need-add-j-2 Inv-loop μ-loop
 add-j-2 c = search needs
 
--- src/lib.rt:102:5
 loop-less : tie.Need-loop-less Inv-loop μ-loop
 loop-less c = search needs
 
--- src/lib.rt:102:5
 loop-again : tie.Need-loop-again Inv-loop μ-loop
 loop-again c = (search needs, search needs, string-again _ _ _ _ (c .before .before .before .before .before .pre .1) (c .before .before .loop-test .taken) _ _ (c .before .before .before .loop .inv .0) (c .before .before .before .loop .inv .2) refl (c .if2 .left))
 
--- src/lib.rt:109:16
 sub-t11 : tie.Need-sub-t11 Inv-loop μ-loop
 sub-t11 c = search needs
 
--- src/lib.rt:94:1
 returns-3 : tie.Need-returns-3 Inv-loop μ-loop
 returns-3 c = whole-so-far _ _ _ _ (c .before .loop .inv .2) (nothing _ _ _ (c .before .before .before .pre .1) (stringCount true) true refl (c .loop-test .left))
 

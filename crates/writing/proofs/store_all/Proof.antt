@@ -16,43 +16,33 @@ Inv-loop out₀ n s i₀ out i = (i ≤ length s) × Left out₀ n s out (n + i)
 abbrev μ-loop : tie.MeasureT-loop
 μ-loop out₀ n s i₀ out i = length s - i
 
--- src/lib.rt:63:5
 loop-holds : tie.Need-loop-holds Inv-loop μ-loop
 loop-holds c = let z : c .args .n + 0 ≡ c .args .n = omega arith in (search needs, subst (λ m. Left (c .args .out .now) (c .args .n) (c .args .s .now) (c .args .out .now) m (c .args .s .now)) (sym z) (left-all _ _ _))
 
--- src/lib.rt:64:22
 shared-slice-read-out : tie.Need-shared-slice-read-out Inv-loop μ-loop
 shared-slice-read-out c = search needs
 
--- src/lib.rt:64:13
 add-out : tie.Need-add-out Inv-loop μ-loop
 add-out c = omega (arith, c .before .before .loop .inv .1 .kept)
 
--- src/lib.rt:64:9
 slice-write-out : tie.Need-slice-write-out Inv-loop μ-loop
 slice-write-out c = omega (arith, c .before .before .loop .inv .1 .kept)
 
--- src/lib.rt:65:13
 add-i : tie.Need-add-i Inv-loop μ-loop
 add-i c = search needs
 
--- src/lib.rt:63:5
 loop-less : tie.Need-loop-less Inv-loop μ-loop
 loop-less c = search needs
 
--- src/lib.rt:63:5
 loop-again : tie.Need-loop-again Inv-loop μ-loop
 loop-again c = let z : c .before .before .before .args .n + c .before .before .loop .i + 1 ≡ c .before .before .before .args .n + (c .before .before .loop .i + 1) = omega arith in (search needs, rw (← z) (left-one _ _ _ (c .before .before .loop .inv .1) (next _ _ (c .before .loop-test .taken)) refl))
 
--- src/lib.rt:67:5
 add-result : tie.Need-add-result Inv-loop μ-loop
 add-result c = search needs
 
--- src/lib.rt:58:1
 same-length : tie.Need-same-length Inv-loop μ-loop
 same-length c = search needs
 
--- src/lib.rt:58:1
 returns : tie.Need-returns Inv-loop μ-loop
 returns c = left-none (c .before .loop .inv .1) (none _ _ (c .loop-test .left))
 

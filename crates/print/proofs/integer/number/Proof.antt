@@ -19,39 +19,30 @@ Inv-loop p i e v₀ j₀ v j = (i ≤ j) × (j ≤ e) × (v < 256 ^ (j - i)) × 
 abbrev μ-loop : tie.MeasureT-loop
 μ-loop p i e v₀ j₀ v j = e - j
 
--- src/integer.rt:25:5
 loop-holds : tie.Need-loop-holds Inv-loop μ-loop
 loop-holds c = (search needs, search needs, none-yet (c .args .i), refl)
 
--- src/integer.rt:26:13
 mul-v : tie.Need-mul-v Inv-loop μ-loop
 mul-v c = omega (arith, octets-fit (c .before .loop .v) (c .before .loop .j - c .before .before .args .i) 3 (omega arith) (c .before .loop .inv .2))
 
--- src/integer.rt:26:23
 shared-slice-read-v : tie.Need-shared-slice-read-v Inv-loop μ-loop
 shared-slice-read-v c = search needs
 
--- src/integer.rt:26:23
 cast-v : tie.Need-cast-v Inv-loop μ-loop
 cast-v c = omega (arith, c .shared-slice-known .given (c .before .before .loop .j))
 
--- src/integer.rt:26:13
 add-v : tie.Need-add-v Inv-loop μ-loop
 add-v c = omega (arith, octets-fit (c .before .before .loop .v) (c .before .before .loop .j - c .before .before .before .args .i) 3 (omega arith) (c .before .before .loop .inv .2), c .shared-slice-known .given (c .before .before .loop .j))
 
--- src/integer.rt:27:13
 add-j : tie.Need-add-j Inv-loop μ-loop
 add-j c = search needs
 
--- src/integer.rt:25:5
 loop-less : tie.Need-loop-less Inv-loop μ-loop
 loop-less c = search needs
 
--- src/integer.rt:25:5
 loop-again : tie.Need-loop-again Inv-loop μ-loop
 loop-again c = (omega arith, omega arith, octet-more (c .before .before .loop .v) (c .before .before .before .args .i) (c .before .before .loop .j) (getD (c .before .before .before .args .p .now) (c .before .before .loop .j) 0) (c .before .before .loop .inv .0) (c .before .before .loop .inv .2) (omega (arith, c .shared-slice-known .given (c .before .before .loop .j))), sym (ap (numberFrom 256 (c .before .before .loop .v)) (next (c .before .before .before .args .p .now) (c .before .before .loop .j) (c .before .before .before .args .e) (c .before .loop-test .taken) (c .before .before .before .pre .2))) ∙ c .before .before .loop .inv .3)
 
--- src/integer.rt:19:1
 returns : tie.Need-returns Inv-loop μ-loop
 returns c = (ap (numberFrom 256 (c .before .loop .v)) (sym (none (c .before .before .args .p .now) (c .before .loop .j) (c .before .before .args .e) (c .loop-test .left))) ∙ c .before .loop .inv .3, octets-fit (c .before .loop .v) (c .before .loop .j - c .before .before .args .i) 4 (omega arith) (c .before .loop .inv .2))
 

@@ -19,35 +19,27 @@ Inv-loop p i all₀ k₀ all k = (k ≤ 32) × (all && allOf plainText (slice (i
 abbrev μ-loop : tie.MeasureT-loop
 μ-loop p i all₀ k₀ all k = 32 - k
 
--- src/text.rt:41:5
 loop-holds : tie.Need-loop-holds Inv-loop μ-loop
 loop-holds c = (search needs, let z : c .before .args .i + 0 ≡ c .before .args .i = omega arith in rw z)
 
--- src/text.rt:42:32
 add-is-plain : tie.Need-add-is-plain Inv-loop μ-loop
 add-is-plain c = search needs
 
--- src/text.rt:42:30
 shared-slice-read-is-plain : tie.Need-shared-slice-read-is-plain Inv-loop μ-loop
 shared-slice-read-is-plain c = search needs
 
--- src/text.rt:42:21
 is-plain-requires : tie.Need-is-plain-requires Inv-loop μ-loop
 is-plain-requires c κs = search needs
 
--- src/text.rt:43:13
 add-k : tie.Need-add-k Inv-loop μ-loop
 add-k c = search needs
 
--- src/text.rt:41:5
 loop-less : tie.Need-loop-less Inv-loop μ-loop
 loop-less c = search needs
 
--- src/text.rt:41:5
 loop-again : tie.Need-loop-again Inv-loop μ-loop
 loop-again c = (search needs, let z : c .before .before .before .before .before .args .i + (c .before .before .before .loop .k + 1) ≡ c .before .before .before .before .before .args .i + c .before .before .before .loop .k + 1 = omega arith in rw (z, c .is-plain .ensures) (all-next plainText (c .before .before .before .before .before .args .p .now) (c .before .before .before .before .before .args .i + c .before .before .before .loop .k) (c .before .before .before .before .before .args .i + 32) (c .before .before .before .loop .all) (omega arith) (c .before .before .before .before .before .pre) ∙ c .before .before .before .loop .inv .1))
 
--- src/text.rt:35:1
 returns : tie.Need-returns Inv-loop μ-loop
 returns c = sym (all-none plainText (c .before .before .before .args .p .now) (c .before .before .before .args .i + c .before .loop .k) (c .before .before .before .args .i + 32) (c .before .loop .all) (omega arith)) ∙ c .before .loop .inv .1
 

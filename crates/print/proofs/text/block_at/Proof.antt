@@ -9,27 +9,21 @@ use Rattle.print.proofs.text.block_at.Lts as lts
 use Rattle.print.proofs.text.all_plain.Reads as all-plain-reads
 use Rattle.print.proofs.text.begins_plain.Reads as begins-plain-reads
 
--- src/text.rt:65:8
 sub-if1 : tie.Need-sub-if1
 sub-if1 c = search needs
 
--- src/text.rt:66:9
 returns : tie.Need-returns
 returns c = λ q. absurd (true≢false (sym q))
 
--- src/text.rt:68:8
 begins-plain-requires : tie.Need-begins-plain-requires
 begins-plain-requires c κs = search needs
 
--- src/text.rt:69:9
 all-plain-requires : tie.Need-all-plain-requires
 all-plain-requires c κs = search needs
 
--- src/text.rt:69:9
 returns-2 : tie.Need-returns-2
 returns-2 c = λ q. (omega arith, sym (c .all-plain .ensures) ∙ q)
 
--- src/text.rt:61:1
 returns-3 : tie.Need-returns-3
 returns-3 c = λ q. absurd (true≢false (sym q))
 

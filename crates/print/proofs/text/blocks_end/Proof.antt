@@ -17,27 +17,21 @@ Inv-loop p i e j₀ j = (i ≤ j) × (j ≤ e) × (plainEnd p j e ≡ plainEnd p
 abbrev μ-loop : tie.MeasureT-loop
 μ-loop p i e j₀ j = e - j
 
--- src/text.rt:65:5
 loop-holds : tie.Need-loop-holds Inv-loop μ-loop
 loop-holds c = (search needs, search needs, refl)
 
--- src/text.rt:65:11
 block-at-requires : tie.Need-block-at-requires Inv-loop μ-loop
 block-at-requires c κs = search needs
 
--- src/text.rt:66:13
 add-j : tie.Need-add-j Inv-loop μ-loop
 add-j c = omega (arith, c .before .block-at .ensures (c .if1 .taken) .0)
 
--- src/text.rt:65:5
 loop-less : tie.Need-loop-less Inv-loop μ-loop
 loop-less c = omega (arith, c .before .block-at .ensures (c .if1 .taken) .0)
 
--- src/text.rt:65:5
 loop-again : tie.Need-loop-again Inv-loop μ-loop
 loop-again c = let z = c .before .block-at .ensures (c .if1 .taken) in (omega arith, z .0, all-front plainText (c .before .before .before .before .args .p .now) (c .before .before .loop .j) (c .before .before .loop .j + 32) (c .before .before .before .before .args .e) (omega arith) (z .0) (c .before .before .before .before .pre .1) (z .1) ∙ c .before .before .loop .inv .2)
 
--- src/text.rt:60:1
 returns : tie.Need-returns Inv-loop μ-loop
 returns c = search needs
 

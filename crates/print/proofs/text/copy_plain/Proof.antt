@@ -15,31 +15,24 @@ use Rattle.print.proofs.text.copy_plain.Lts as lts
 use Rattle.print.proofs.text.plain_end.Reads as plain-end-reads
 use Rattle.writing.proofs.put_all.Reads as put-all-reads
 
--- src/text.rt:92:9
 plain-end-requires : tie.Need-plain-end-requires
 plain-end-requires c κs = search needs
 
--- src/text.rt:93:21
 sub-put-all : tie.Need-sub-put-all
 sub-put-all c = omega (arith, plain-within (c .before .before .before .before .args .p .now) (c .before .before .before .before .args .i) (c .before .before .before .before .args .e) (c .before .plain-end .result) (c .before .before .before .before .pre .1) (c .before .before .before .before .pre .2) (c .before .plain-end .ensures))
 
--- src/text.rt:93:21
 part-put-all-start : tie.Need-part-put-all-start
 part-put-all-start c = omega (arith, plain-within (c .before .before .before .before .args .p .now) (c .before .before .before .before .args .i) (c .before .before .before .before .args .e) (c .before .plain-end .result) (c .before .before .before .before .pre .1) (c .before .before .before .before .pre .2) (c .before .plain-end .ensures))
 
--- src/text.rt:93:21
 part-put-all-end : tie.Need-part-put-all-end
 part-put-all-end c = omega (arith, plain-within (c .before .before .before .before .args .p .now) (c .before .before .before .before .args .i) (c .before .before .before .before .args .e) (c .before .plain-end .result) (c .before .before .before .before .pre .1) (c .before .before .before .before .pre .2) (c .before .plain-end .ensures))
 
--- src/text.rt:93:5
 put-all-requires : tie.Need-put-all-requires
 put-all-requires c κs = let w = plain-within (c .before .before .before .before .before .args .p .now) (c .before .before .before .before .before .args .i) (c .before .before .before .before .before .args .e) (c .before .before .plain-end .result) (c .before .before .before .before .before .pre .1) (c .before .before .before .before .before .pre .2) (c .before .before .plain-end .ensures) in (c .before .before .before .before .before .pre .0, omega (arith, ap length (lent (c .before .before .before .before .before .args .p .now) (c .before .before .before .before .before .args .i) (c .before .before .plain-end .result) (w .0)), length-slice (c .before .before .before .before .before .args .i) (c .before .before .plain-end .result) (c .before .before .before .before .before .args .p .now) (omega (arith, w .1, c .before .before .before .before .before .pre .2)), c .before .before .before .before .before .pre .3, w .1, c .before .before .before .before .before .pre .2))
 
--- src/text.rt:88:1
 same-length : tie.Need-same-length
 same-length c = search needs
 
--- src/text.rt:88:1
 returns : tie.Need-returns
 returns c = let w = plain-within (c .before .before .before .before .before .before .before .before .args .p .now) (c .before .before .before .before .before .before .before .before .args .i) (c .before .before .before .before .before .before .before .before .args .e) (c .before .before .before .before .before .plain-end .result) (c .before .before .before .before .before .before .before .before .pre .1) (c .before .before .before .before .before .before .before .before .pre .2) (c .before .before .before .before .before .plain-end .ensures) in let v = wrote-text _ _ (lent (c .before .before .before .before .before .before .before .before .args .p .now) (c .before .before .before .before .before .before .before .before .args .i) (c .before .before .before .before .before .plain-end .result) (w .0)) (c .before .before .put-all .ensures) in (c .before .before .before .before .before .plain-end .ensures, record { octets = v .octets; count = omega (arith, length-slice (c .before .before .before .before .before .before .before .before .args .i) (c .before .before .before .before .before .plain-end .result) (c .before .before .before .before .before .before .before .before .args .p .now) (omega (arith, w .1, c .before .before .before .before .before .before .before .before .pre .2))) })
 

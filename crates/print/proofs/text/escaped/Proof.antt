@@ -22,60 +22,46 @@ Inv-loop out₀ n p i e j₀ m₀ out j m = (i ≤ j) × (j ≤ e) × (m ≤ n +
 abbrev μ-loop : tie.MeasureT-loop
 μ-loop out₀ n p i e j₀ m₀ out j m = e - j
 
--- src/text.rt:102:9
 copy-plain-requires : tie.Need-copy-plain-requires Inv-loop μ-loop
 copy-plain-requires c κs = search needs
 
--- src/text.rt:103:22
 sub-m : tie.Need-sub-m Inv-loop μ-loop
 sub-m c = search needs
 
--- src/text.rt:103:17
 add-m : tie.Need-add-m Inv-loop μ-loop
 add-m c = omega (arith, plain-within (c .before .before .before .before .before .before .args .p .now) (c .before .before .before .before .before .before .args .i) (c .before .before .before .before .before .before .args .e) (c .before .before .copy-plain .result) (c .before .before .before .before .before .before .pre .1) (c .before .before .before .before .before .before .pre .2) (c .before .before .copy-plain .ensures .0))
 
--- src/text.rt:104:5
 loop-holds : tie.Need-loop-holds Inv-loop μ-loop
 loop-holds c = let w = plain-within (c .before .before .before .before .before .before .args .p .now) (c .before .before .before .before .before .before .args .i) (c .before .before .before .before .before .before .args .e) (c .before .before .copy-plain .result) (c .before .before .before .before .before .before .pre .1) (c .before .before .before .before .before .before .pre .2) (c .before .before .copy-plain .ensures .0) in (w .0, w .1, omega (arith, w .0), left-all _ _ _)
 
--- src/text.rt:105:44
 shared-slice-read-put-escaped-string :
     tie.Need-shared-slice-read-put-escaped-string Inv-loop μ-loop
 shared-slice-read-put-escaped-string c = search needs
 
--- src/text.rt:105:13
 put-escaped-string-requires : tie.Need-put-escaped-string-requires Inv-loop μ-loop
 put-escaped-string-requires c κs = omega (arith, c .before .before .before .loop .inv .2, c .before .before .before .loop .inv .1, c .before .before .before .before .before .before .before .before .before .before .pre .0, c .before .before .before .before .before .before .before .before .before .before .pre .2, c .before .before .before .before .before .before .before .before .before .before .pre .3)
 
--- src/text.rt:106:17
 add-b : tie.Need-add-b Inv-loop μ-loop
 add-b c = search needs
 
--- src/text.rt:107:9
 copy-plain-requires-2 : tie.Need-copy-plain-requires-2 Inv-loop μ-loop
 copy-plain-requires-2 c κs = (omega (arith, c .before .before .before .put-escaped-string .ensures .count, escape-short (getD (c .before .before .before .before .before .before .before .before .before .before .before .before .before .before .args .p .now) (c .before .before .before .before .before .before .before .loop .j) 0), c .before .before .before .before .before .before .before .loop .inv .2, c .before .before .before .before .before .before .before .loop .inv .1, c .before .before .before .before .before .before .before .before .before .before .before .before .before .before .pre .0, c .before .before .before .before .before .before .before .before .before .before .before .before .before .before .pre .2, c .before .before .before .before .before .before .before .before .before .before .before .before .before .before .pre .3), omega (arith, c .before .before .before .before .before .before .loop-test .taken), c .before .before .before .before .before .before .before .before .before .before .before .before .before .before .pre .2, c .before .before .before .before .before .before .before .before .before .before .before .before .before .before .pre .3)
 
--- src/text.rt:108:18
 sub-m-2 : tie.Need-sub-m-2 Inv-loop μ-loop
 sub-m-2 c = omega (arith, plain-within (c .before .before .before .before .before .before .before .before .before .before .before .before .before .before .before .before .before .args .p .now) (c .before .before .before .before .before .before .before .before .before .before .loop .j + 1) (c .before .before .before .before .before .before .before .before .before .before .before .before .before .before .before .before .before .args .e) (c .before .before .copy-plain2 .result) (omega (arith, c .before .before .before .before .before .before .before .before .before .loop-test .taken)) (c .before .before .before .before .before .before .before .before .before .before .before .before .before .before .before .before .before .pre .2) (c .before .before .copy-plain2 .ensures .0))
 
--- src/text.rt:108:13
 add-m-2 : tie.Need-add-m-2 Inv-loop μ-loop
 add-m-2 c = omega (arith, plain-within (c .before .before .before .before .before .before .before .before .before .before .before .before .before .before .before .before .before .args .p .now) (c .before .before .before .before .before .before .before .before .before .before .loop .j + 1) (c .before .before .before .before .before .before .before .before .before .before .before .before .before .before .before .before .before .args .e) (c .before .before .copy-plain2 .result) (omega (arith, c .before .before .before .before .before .before .before .before .before .loop-test .taken)) (c .before .before .before .before .before .before .before .before .before .before .before .before .before .before .before .before .before .pre .2) (c .before .before .copy-plain2 .ensures .0), c .before .before .before .before .before .before .put-escaped-string .ensures .count, escape-short (getD (c .before .before .before .before .before .before .before .before .before .before .before .before .before .before .before .before .before .args .p .now) (c .before .before .before .before .before .before .before .before .before .before .loop .j) 0), c .before .before .before .before .before .before .before .before .before .before .loop .inv .2, c .before .before .before .before .before .before .before .before .before .before .loop .inv .1, c .before .before .before .before .before .before .before .before .before .before .before .before .before .before .before .before .before .pre .0, c .before .before .before .before .before .before .before .before .before .before .before .before .before .before .before .before .before .pre .2, c .before .before .before .before .before .before .before .before .before .before .before .before .before .before .before .before .before .pre .3)
 
--- src/text.rt:104:5
 loop-less : tie.Need-loop-less Inv-loop μ-loop
 loop-less c = omega (arith, plain-within (c .before .before .before .before .before .before .before .before .before .before .before .before .before .before .before .before .before .args .p .now) (c .before .before .before .before .before .before .before .before .before .before .loop .j + 1) (c .before .before .before .before .before .before .before .before .before .before .before .before .before .before .before .before .before .args .e) (c .before .before .copy-plain2 .result) (omega (arith, c .before .before .before .before .before .before .before .before .before .loop-test .taken)) (c .before .before .before .before .before .before .before .before .before .before .before .before .before .before .before .before .before .pre .2) (c .before .before .copy-plain2 .ensures .0))
 
--- src/text.rt:104:5
 loop-again : tie.Need-loop-again Inv-loop μ-loop
 loop-again c = let w = plain-within (c .before .before .before .before .before .before .before .before .before .before .before .before .before .before .before .before .before .args .p .now) (c .before .before .before .before .before .before .before .before .before .before .loop .j + 1) (c .before .before .before .before .before .before .before .before .before .before .before .before .before .before .before .before .before .args .e) (c .before .before .copy-plain2 .result) (omega (arith, c .before .before .before .before .before .before .before .before .before .loop-test .taken)) (c .before .before .before .before .before .before .before .before .before .before .before .before .before .before .before .before .before .pre .2) (c .before .before .copy-plain2 .ensures .0) in (omega (arith, w .0, c .before .before .before .before .before .before .before .before .before .before .loop .inv .0), w .1, omega (arith, w .0, c .before .before .before .before .before .before .before .before .before .before .loop .inv .0, c .before .before .before .before .before .before .before .before .before .before .loop .inv .2, c .before .before .before .before .before .before .put-escaped-string .ensures .count, escape-short (getD (c .before .before .before .before .before .before .before .before .before .before .before .before .before .before .before .before .before .args .p .now) (c .before .before .before .before .before .before .before .before .before .before .loop .j) 0)), left-piece _ _ _ _ (c .before .before .before .before .before .before .before .before .before .before .loop .inv .3) (escape-then (c .before .before .before .before .before .before .before .before .before .before .before .before .before .before .before .before .before .args .p .now) (c .before .before .before .before .before .before .before .before .before .before .loop .j) (c .before .before .before .before .before .before .before .before .before .before .before .before .before .before .before .before .before .args .e) (c .before .before .copy-plain2 .result) (c .before .before .before .before .before .before .before .before .before .loop-test .taken) (c .before .before .before .before .before .before .before .before .before .before .before .before .before .before .before .before .before .pre .2) (c .before .before .copy-plain2 .ensures .0)) (wrote-append (c .before .before .before .before .before .before .put-escaped-string .ensures) (c .before .before .copy-plain2 .ensures .1)))
 
--- src/text.rt:98:1
 same-length : tie.Need-same-length Inv-loop μ-loop
 same-length c = search needs
 
--- src/text.rt:98:1
 returns : tie.Need-returns Inv-loop μ-loop
 returns c = wrote-text _ _ (sym (plain-part (c .before .before .before .before .before .before .before .before .args .p .now) (c .before .before .before .before .before .before .before .before .args .i) (c .before .before .before .before .before .before .before .before .args .e) (c .before .before .before .before .copy-plain .result) (c .before .before .before .before .before .before .before .before .pre .1) (c .before .before .before .before .before .before .before .before .pre .2) (c .before .before .before .before .copy-plain .ensures .0))) (wrote-append (c .before .before .before .before .copy-plain .ensures .1) (left-none (c .before .loop .inv .3) (ap (flatMap stringEscape) (none _ _ _ (c .loop-test .left)))))
 

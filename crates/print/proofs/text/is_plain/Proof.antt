@@ -8,19 +8,15 @@ use Rattle.print.proofs.text.is_plain.Tie as tie
 use Rattle.print.proofs.text.is_plain.Reads as reads
 use Rattle.print.proofs.text.is_plain.Lts as lts
 
--- src/text.rt:23:9
 returns : tie.Need-returns
 returns c = rw (lt-leb 32 (c .before .args .b) (c .if1 .taken))
 
--- src/text.rt:26:9
 returns-2 : tie.Need-returns-2
 returns-2 c = rw (c .if2 .taken)
 
--- src/text.rt:29:9
 returns-3 : tie.Need-returns-3
 returns-3 c = rw (le-leb 32 (c .before .before .before .args .b) (c .before .before .if1 .left), lt-leb (c .before .before .before .args .b) 126 (c .if3 .taken))
 
--- src/text.rt:19:1
 returns-4 : tie.Need-returns-4
 returns-4 c = rw (le-leb 32 (c .before .before .before .args .b) (c .before .before .if1 .left), le-leb (c .before .before .before .args .b) 126 (c .if3 .left), ne-eqb (c .before .before .before .args .b) 34 (c .before .if2 .left)) (last-test (eqb (c .before .before .before .args .b) 92))
 

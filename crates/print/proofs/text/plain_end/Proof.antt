@@ -17,39 +17,30 @@ Inv-loop p i e j₀ j = (i ≤ j) × (j ≤ e) × (plainEnd p j e ≡ plainEnd p
 abbrev μ-loop : tie.MeasureT-loop
 μ-loop p i e j₀ j = e - j
 
--- src/text.rt:76:9
 blocks-end-requires : tie.Need-blocks-end-requires Inv-loop μ-loop
 blocks-end-requires c κs = search needs
 
--- src/text.rt:77:5
 loop-holds : tie.Need-loop-holds Inv-loop μ-loop
 loop-holds c = (c .blocks-end .ensures .0, c .blocks-end .ensures .1, c .blocks-end .ensures .2)
 
--- src/text.rt:78:21
 shared-slice-read-is-plain : tie.Need-shared-slice-read-is-plain Inv-loop μ-loop
 shared-slice-read-is-plain c = search needs
 
--- src/text.rt:78:12
 is-plain-requires : tie.Need-is-plain-requires Inv-loop μ-loop
 is-plain-requires c κs = search needs
 
--- src/text.rt:79:17
 add-j : tie.Need-add-j Inv-loop μ-loop
 add-j c = search needs
 
--- src/text.rt:77:5
 loop-less : tie.Need-loop-less Inv-loop μ-loop
 loop-less c = search needs
 
--- src/text.rt:77:5
 loop-again : tie.Need-loop-again Inv-loop μ-loop
 loop-again c = (search needs, search needs, front-on plainText (c .before .before .before .before .before .before .before .args .p .now) (c .before .before .before .before .loop .j) (c .before .before .before .before .before .before .before .args .e) (c .before .before .before .loop-test .taken) (c .before .before .before .before .before .before .before .pre .1) (sym (c .before .is-plain .ensures) ∙ c .if1 .taken) ∙ c .before .before .before .before .loop .inv .2)
 
--- src/text.rt:81:13
 returns : tie.Need-returns Inv-loop μ-loop
 returns c = front-off plainText (c .before .before .before .before .before .before .before .args .p .now) (c .before .before .before .before .loop .j) (c .before .before .before .before .before .before .before .args .e) (c .before .before .before .loop-test .taken) (c .before .before .before .before .before .before .before .pre .1) (sym (c .before .is-plain .ensures) ∙ c .if1 .left) ∙ c .before .before .before .before .loop .inv .2
 
--- src/text.rt:72:1
 returns-2 : tie.Need-returns-2 Inv-loop μ-loop
 returns-2 c = front-end plainText (c .before .before .before .before .args .p .now) (c .before .loop .j) (c .before .before .before .before .args .e) (c .loop-test .left) ∙ c .before .loop .inv .2
 

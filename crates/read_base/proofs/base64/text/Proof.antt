@@ -8,16 +8,13 @@ use Rattle.read_base.proofs.base64.text.Reads as reads
 use Rattle.read_base.proofs.base64.text.Lts as lts
 use Rattle.read_base.proofs.base64.octets.Reads as octets-reads
 
--- src/base64.rt:56:5
 octets-requires : tie.Need-octets-requires
 unfolding base64Numbers
 octets-requires c κs = (search needs, search needs, search needs, refl)
 
--- src/base64.rt:50:1
 same-length : tie.Need-same-length
 same-length c = search needs
 
--- src/base64.rt:50:1
 returns : tie.Need-returns
 returns c = search needs
 

@@ -7,39 +7,30 @@ use Rattle.read_base.proofs.rest.base64_rest.Reads as reads
 use Rattle.read_base.proofs.rest.base64_rest.Lts as lts
 use Rattle.read_base.proofs.base64.text.Reads as text-reads
 
--- src/rest.rt:42:9
 text-requires : tie.Need-text-requires
 text-requires c κs = search needs
 
--- src/rest.rt:44:25
 enum-told : tie.Need-enum-told
 enum-told c = search needs
 
--- src/rest.rt:45:21
 enum-known-v : tie.Need-enum-known-v
 enum-known-v c = search needs
 
--- src/rest.rt:47:17
 same-length : tie.Need-same-length
 same-length c = search needs
 
--- src/rest.rt:47:17
 returns : tie.Need-returns
 returns c = base64-missing (c .before .before .before .before .before .before .before .before .before .before .args .t .now) (c .before .before .before .before .before .before .before .before .before .before .args .i) (c .before .before .before .before .before .before .before .before .before .before .args .out .now) (c .before .before .before .before .before .before .text .last .0) (c .before .before .before .before .before .before .before .before .before .before .args .n) (c .before .before .v .given .0 .0) (rw (c .before .before .v .given .1) at (c .before .before .before .before .before .before .text .ensures)) (c .if1 .taken)
 
--- src/rest.rt:38:1
 same-length-2 : tie.Need-same-length-2
 same-length-2 c = search needs
 
--- src/rest.rt:38:1
 returns-2 : tie.Need-returns-2
 returns-2 c = base64-fault (c .before .before .before .before .before .before .before .before .args .t .now) (c .before .before .before .before .before .before .before .before .args .i) (rw (c .enum-told .given .1) at (c .before .before .before .before .text .ensures))
 
--- src/rest.rt:38:1
 same-length-3 : tie.Need-same-length-3
 same-length-3 c = search needs
 
--- src/rest.rt:38:1
 returns-3 : tie.Need-returns-3
 returns-3 c = base64-got (c .before .before .before .before .before .before .before .before .before .before .args .t .now) (c .before .before .before .before .before .before .before .before .before .before .args .i) (c .before .before .before .before .before .before .before .before .before .before .args .out .now) (c .before .before .before .before .before .before .text .last .0) (c .before .before .before .before .before .before .before .before .before .before .args .n) (c .before .before .v .given .0 .0) (rw (c .before .before .v .given .1) at (c .before .before .before .before .before .before .text .ensures)) (c .if1 .left)
 

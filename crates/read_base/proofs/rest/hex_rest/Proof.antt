@@ -7,39 +7,30 @@ use Rattle.read_base.proofs.rest.hex_rest.Reads as reads
 use Rattle.read_base.proofs.rest.hex_rest.Lts as lts
 use Rattle.read_group.proofs.lettered.Reads as lettered-reads
 
--- src/rest.rt:23:9
 lettered-requires : tie.Need-lettered-requires
 lettered-requires c κs = search needs
 
--- src/rest.rt:25:25
 enum-told : tie.Need-enum-told
 enum-told c = search needs
 
--- src/rest.rt:26:21
 enum-known-v : tie.Need-enum-known-v
 enum-known-v c = search needs
 
--- src/rest.rt:28:17
 same-length : tie.Need-same-length
 same-length c = search needs
 
--- src/rest.rt:28:17
 returns : tie.Need-returns
 returns c = hex-missing (c .before .before .before .before .before .before .before .before .before .before .args .t .now) (c .before .before .before .before .before .before .before .before .before .before .args .i) (λ k. omega (arith, c .before .before .before .before .before .before .before .before .shared-slice-known .given k)) (c .before .before .before .before .before .before .before .before .before .before .args .out .now) (c .before .before .before .before .before .before .lettered .last .0) (c .before .before .before .before .before .before .before .before .before .before .args .n) (c .before .before .v .given .0 .0) (rw (c .before .before .v .given .1) at (c .before .before .before .before .before .before .lettered .ensures)) (c .if1 .taken)
 
--- src/rest.rt:19:1
 same-length-2 : tie.Need-same-length-2
 same-length-2 c = search needs
 
--- src/rest.rt:19:1
 returns-2 : tie.Need-returns-2
 returns-2 c = hex-fault (c .before .before .before .before .before .before .before .before .args .t .now) (c .before .before .before .before .before .before .before .before .args .i) (λ k. omega (arith, c .before .before .before .before .before .before .shared-slice-known .given k)) (rw (c .enum-told .given .1) at (c .before .before .before .before .lettered .ensures))
 
--- src/rest.rt:19:1
 same-length-3 : tie.Need-same-length-3
 same-length-3 c = search needs
 
--- src/rest.rt:19:1
 returns-3 : tie.Need-returns-3
 returns-3 c = hex-got (c .before .before .before .before .before .before .before .before .before .before .args .t .now) (c .before .before .before .before .before .before .before .before .before .before .args .i) (λ k. omega (arith, c .before .before .before .before .before .before .before .before .shared-slice-known .given k)) (c .before .before .before .before .before .before .before .before .before .before .args .out .now) (c .before .before .before .before .before .before .lettered .last .0) (c .before .before .before .before .before .before .before .before .before .before .args .n) (c .before .before .v .given .0 .0) (rw (c .before .before .v .given .1) at (c .before .before .before .before .before .before .lettered .ensures)) (c .if1 .left)
 

@@ -18,51 +18,39 @@ Inv-loop t i v₀ j₀ v j = (i ≤ j) × (j ≤ i + 5) × (v < 10 ^ (j - i)) ×
 abbrev μ-loop : tie.MeasureT-loop
 μ-loop t i v₀ j₀ v j = i + 5 - j
 
--- src/rrtype.rt:60:5
 loop-holds : tie.Need-loop-holds Inv-loop μ-loop
 loop-holds c = (search needs, search needs, nothing-yet (c .args .i), λ e h l. refl)
 
--- src/rrtype.rt:60:15
 add-loop : tie.Need-add-loop Inv-loop μ-loop
 add-loop c = search needs
 
--- src/rrtype.rt:61:17
 shared-slice-read-b : tie.Need-shared-slice-read-b Inv-loop μ-loop
 shared-slice-read-b c = search needs
 
--- src/rrtype.rt:63:13
 returns : tie.Need-returns Inv-loop μ-loop
 returns c = (search needs, search needs, digits-ended (c .before .before .before .before .args .t .now) (c .before .before .before .before .args .i) (c .before .before .before .loop .j) (c .before .before .before .loop .v) (omega arith) (omega arith) (c .before .before .before .loop .inv .3))
 
--- src/rrtype.rt:66:13
 returns-2 : tie.Need-returns-2 Inv-loop μ-loop
 returns-2 c = (search needs, search needs, digits-ended (c .before .before .before .before .before .args .t .now) (c .before .before .before .before .before .args .i) (c .before .before .before .before .loop .j) (c .before .before .before .before .loop .v) (omega arith) (omega arith) (c .before .before .before .before .loop .inv .3))
 
--- src/rrtype.rt:68:13
 mul-v : tie.Need-mul-v Inv-loop μ-loop
 mul-v c = omega (arith, digits-fit (c .before .before .before .before .loop .v) (c .before .before .before .before .loop .j - c .before .before .before .before .before .args .i) (omega arith) (c .before .before .before .before .loop .inv .2))
 
--- src/rrtype.rt:68:22
 cast-v : tie.Need-cast-v Inv-loop μ-loop
 cast-v c = search needs
 
--- src/rrtype.rt:68:13
 add-v : tie.Need-add-v Inv-loop μ-loop
 add-v c = omega (arith, digits-fit (c .before .before .before .before .loop .v) (c .before .before .before .before .loop .j - c .before .before .before .before .before .args .i) (omega arith) (c .before .before .before .before .loop .inv .2))
 
--- src/rrtype.rt:69:13
 add-j : tie.Need-add-j Inv-loop μ-loop
 add-j c = search needs
 
--- src/rrtype.rt:60:5
 loop-less : tie.Need-loop-less Inv-loop μ-loop
 loop-less c = search needs
 
--- src/rrtype.rt:60:5
 loop-again : tie.Need-loop-again Inv-loop μ-loop
 loop-again c = (search needs, search needs, digit-more _ _ _ _ (c .before .before .before .before .loop .inv .0) (c .before .before .before .before .loop .inv .2) (omega arith), λ e h l. sym (digit-on (c .before .before .before .before .loop .v) (getD (c .before .before .before .before .before .args .t .now) (c .before .before .before .before .loop .j) 0) (slice (c .before .before .before .before .loop .j + 1) e (c .before .before .before .before .before .args .t .now)) (c .before .if1 .left) (c .if2 .left)) ∙ ap (valueFrom (c .before .before .before .before .loop .v)) (sym (next (c .before .before .before .before .before .args .t .now) (c .before .before .before .before .loop .j) e (omega arith) l)) ∙ c .before .before .before .before .loop .inv .3 e (omega arith) l)
 
--- src/rrtype.rt:54:1
 returns-3 : tie.Need-returns-3 Inv-loop μ-loop
 returns-3 c = (search needs, search needs, digits-ended (c .before .before .args .t .now) (c .before .before .args .i) (c .before .loop .j) (c .before .loop .v) (omega arith) (omega arith) (c .before .loop .inv .3))
 

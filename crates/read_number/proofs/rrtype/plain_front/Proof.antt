@@ -9,35 +9,27 @@ use Rattle.read_number.proofs.rrtype.plain_front.Lts as lts
 use Rattle.read_number.proofs.rrtype.five_digits.Reads as five-digits-reads
 use Rattle.read_number.proofs.rrtype.named_type.Reads as named-type-reads
 
--- src/rrtype.rt:85:8
 named-type-requires : tie.Need-named-type-requires
 named-type-requires c κs = search needs
 
--- src/rrtype.rt:86:32
 add-five-digits : tie.Need-add-five-digits
 add-five-digits c = search needs
 
--- src/rrtype.rt:86:13
 five-digits-requires : tie.Need-five-digits-requires
 five-digits-requires c κs = search needs
 
--- src/rrtype.rt:89:16
 add-if2 : tie.Need-add-if2
 add-if2 c = search needs
 
--- src/rrtype.rt:90:13
 returns : tie.Need-returns
 returns c = search needs
 
--- src/rrtype.rt:93:13
 returns-2 : tie.Need-returns-2
 returns-2 c = search needs
 
--- src/rrtype.rt:95:9
 returns-3 : tie.Need-returns-3
 returns-3 c = (type-front (c .before .before .before .before .before .before .args .t .now) (c .before .before .before .before .before .before .args .i) (c .before .before .five-digits .result .end) (c .before .before .five-digits .result .value) (omega arith) (sym (c .before .before .before .before .named-type .ensures) ∙ c .before .before .before .if1 .taken) (c .before .before .five-digits .ensures .2 (omega arith)) (omega arith), omega arith, omega arith)
 
--- src/rrtype.rt:81:1
 returns-4 : tie.Need-returns-4
 returns-4 c = search needs
 
