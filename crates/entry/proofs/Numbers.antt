@@ -111,7 +111,7 @@ reads-refused f (k ∷ ks) ts = by (f k ts) (λ us. reads-refused f ks us)
     by (got p us) ih = first-refused p (readRun f ks us) (ih us)
 
 -- an entry's
-abbrev Told : Answer → Type 0
+abbrev pub Told : Answer → Type 0
 Told (done t) = Unit {0}
 Told (refusal n i) = eqb n 0 ≡ false
 
