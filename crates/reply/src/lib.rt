@@ -6,9 +6,12 @@ ghost use Rattle.format.specs.Entries.{ifRoom, printing, reading};
 ghost use Rattle.format.specs.Entries.{judge as Entries·judge};
 ghost use Rattle.writing.specs.Writing.{Wrote};
 ghost use Rattle.reply_line.specs.Replies.{resultLine};
-ghost use Rattle.reply.specs.Reply.{answerLine, outcomeLine, resultOf};
+ghost use Rattle.request.specs.Words.{Within, asked};
+ghost use Rattle.reply.specs.Reply.{answerLine, outcomeLine, replyTo, resultOf};
 use reply_line::put_judged;
 use reply_line::put_result;
+use reply_line::put_unknown;
+use request::Request;
 
 // Judging.
 fn judge(stanza: &[u8], out: &mut [u8]) -> usize
@@ -61,4 +64,43 @@ fn read(
 {
     let reply = read_entry::read(stanza, first, many, origin, text, rdata, 0);
     put_reply(out, reply.number, reply.place, rdata)
+}
+
+// The answer to a request but a job.
+pub fn put_answer(octets: &[u8], q: Request, text: &mut [u8], out: &mut [u8]) -> usize
+    requires { ⌜ Within (length (now octets)) q × (q .letter ≡ 87 → ⊥) × (length (now text) ≡ 1048576) ⌝ }
+    ensures { λ r. ⌜ Wrote (now (out .entry)) (now (out .exit)) 0 r (replyTo (asked q (now (octets .entry)))) × (r ≤ 2097176) ⌝ }
+{
+    let a = q.stanza.from;
+    let b = q.stanza.to;
+    if q.letter == b'J' {
+        return judge(&octets[a..b], out);
+    }
+    let c = q.octets.from;
+    let d = q.octets.to;
+    let most = writing::least(q.room, text.len());
+    if q.letter == b'P' {
+        return print(
+            &octets[a..b],
+            q.first,
+            q.many,
+            &octets[c..d],
+            &mut text[0..most],
+            out,
+        );
+    }
+    let e = q.origin.from;
+    let f = q.origin.to;
+    if q.letter == b'R' {
+        return read(
+            &octets[a..b],
+            q.first,
+            q.many,
+            &octets[e..f],
+            &octets[c..d],
+            &mut text[0..most],
+            out,
+        );
+    }
+    put_unknown(out)
 }
