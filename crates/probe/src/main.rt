@@ -11,7 +11,7 @@
 // that is no request, or has more than 2,200,000 octets, answers '?'. The last line may lack its LF.
 ghost use Prim.Native.Nat.{_+_, _≤_};
 ghost use lib.ListN.{length};
-ghost use Rattle.request.specs.Request.{Within};
+ghost use Rattle.request.specs.Words.{Within};
 use libc::STDIN_FILENO;
 use libc::STDOUT_FILENO;
 use request::Request;
@@ -21,6 +21,9 @@ const PIECE: usize = 65536;
 
 // One octet more than the longest request, so that one that is too long is seen, and a piece.
 const SPACE: usize = 2265537;
+
+// Half of the longest request: its words' octets.
+const OCTETS: usize = 1100000;
 
 // The longest result.
 const TEXT: usize = 1048576;
@@ -37,62 +40,6 @@ struct State {
     going: bool,
 }
 
-// Puts what judging answers.
-fn judge(line: &[u8], q: Request, out: &mut [u8; ROOM]) -> usize
-    requires { ⌜ Within (length (now line)) q ⌝ }
-    ensures { λ r. ⌜ r ≤ 2097176 ⌝ }
-{
-    let a = q.stanza.from;
-    let b = q.stanza.to;
-    let reply = entry::judge(&line[a..b]);
-    request::put_judged(out, reply.number, reply.place)
-}
-
-// Puts what printing answers.
-fn print(line: &[u8], q: Request, text: &mut [u8], out: &mut [u8; ROOM]) -> usize
-    requires { ⌜ Within (length (now line)) q × (length (now text) ≤ 1048576) ⌝ }
-    ensures { λ r. ⌜ r ≤ 2097176 ⌝ }
-{
-    let a = q.stanza.from;
-    let b = q.stanza.to;
-    let c = q.octets.from;
-    let d = q.octets.to;
-    let most = writing::least(q.room, text.len());
-    let reply = print_entry::print(
-        &line[a..b],
-        q.first,
-        q.many,
-        &line[c..d],
-        &mut text[0..most],
-        0,
-    );
-    request::put_result(out, reply.number, reply.place, text)
-}
-
-// Puts what reading answers.
-fn read(line: &[u8], q: Request, text: &mut [u8], out: &mut [u8; ROOM]) -> usize
-    requires { ⌜ Within (length (now line)) q × (length (now text) ≤ 1048576) ⌝ }
-    ensures { λ r. ⌜ r ≤ 2097176 ⌝ }
-{
-    let a = q.stanza.from;
-    let b = q.stanza.to;
-    let c = q.origin.from;
-    let d = q.origin.to;
-    let e = q.octets.from;
-    let f = q.octets.to;
-    let most = writing::least(q.room, text.len());
-    let reply = read_entry::read(
-        &line[a..b],
-        q.first,
-        q.many,
-        &line[c..d],
-        &line[e..f],
-        &mut text[0..most],
-        0,
-    );
-    request::put_result(out, reply.number, reply.place, text)
-}
-
 // Writes the first n octets, and answers whether that went well.
 fn write(out: &[u8], n: usize) -> bool
     requires { ⌜ n ≤ length (now out) ⌝ }
@@ -104,7 +51,7 @@ fn write(out: &[u8], n: usize) -> bool
 fn write_octets(lines: &[u8], n: usize, out: &mut [u8; ROOM]) -> bool
     requires { ⌜ (n ≤ length (now lines)) × (length (now lines) ≤ 1048576) ⌝ }
 {
-    let end = request::put_octets(out, 0, &lines[0..n]);
+    let end = reply_line::put_octets(out, 0, &lines[0..n]);
     write(out, end)
 }
 
@@ -128,54 +75,48 @@ fn write_turns(j: &[u8], lines: &mut [u8], out: &mut [u8; ROOM]) -> bool
 }
 
 // Writes the turns of a job and an LF.
-fn write_job(line: &[u8], q: Request, text: &mut [u8], out: &mut [u8; ROOM]) -> bool
-    requires { ⌜ Within (length (now line)) q × (262148 ≤ length (now text)) ⌝ }
+fn write_job(octets: &[u8], q: Request, text: &mut [u8], out: &mut [u8; ROOM]) -> bool
+    requires { ⌜ Within (length (now octets)) q × (262148 ≤ length (now text)) ⌝ }
 {
     let a = q.stanza.from;
     let b = q.stanza.to;
     let n = writing::least(LINES, text.len());
-    if write_turns(&line[a..b], &mut text[0..n], out) {
+    if write_turns(&octets[a..b], &mut text[0..n], out) {
         return io::write_all(STDOUT_FILENO, b"\n");
     }
     false
 }
 
-// Puts the answer to a request but a job.
-fn put_answer(line: &[u8], q: Request, text: &mut [u8; TEXT], out: &mut [u8; ROOM]) -> usize
-    requires { ⌜ Within (length (now line)) q ⌝ }
-    ensures { λ r. ⌜ r ≤ 2097176 ⌝ }
-{
-    if q.letter == b'J' {
-        return judge(line, q, out);
-    }
-    if q.letter == b'P' {
-        return print(line, q, text, out);
-    }
-    if q.letter == b'R' {
-        return read(line, q, text, out);
-    }
-    request::put_unknown(out)
-}
-
-// Writes the answer to a line, which is without its LF, and answers whether that went well. The line's octets may change.
-fn answer(line: &mut [u8], text: &mut [u8; TEXT], out: &mut [u8; ROOM]) -> bool {
-    let q = request::read(line);
+// Writes the answer to a line, which is without its LF, and answers whether that went well.
+fn answer(
+    line: &[u8],
+    octets: &mut [u8; OCTETS],
+    text: &mut [u8; TEXT],
+    out: &mut [u8; ROOM],
+) -> bool {
+    let q = request::read(line, octets);
     if q.letter == b'W' {
-        return write_job(line, q, text, out);
+        return write_job(octets, q, text, out);
     }
-    let n = put_answer(line, q, text, out);
+    let n = reply::put_answer(octets, q, text, out);
     write(out, n)
 }
 
 // Answers the whole lines of buf, whose first kept octets have no LF, and keeps the start of the next.
-fn answer_lines(buf: &mut [u8], kept: usize, text: &mut [u8; TEXT], out: &mut [u8; ROOM]) -> State
+fn answer_lines(
+    buf: &mut [u8],
+    kept: usize,
+    octets: &mut [u8; OCTETS],
+    text: &mut [u8; TEXT],
+    out: &mut [u8; ROOM],
+) -> State
     requires { ⌜ kept ≤ length (now buf) ⌝ }
     ensures { λ r. ⌜ r .kept ≤ 2200001 ⌝ }
 {
     let mut start = 0;
     let mut end = request::line_end(buf, kept);
     while end < buf.len() {
-        if answer(&mut buf[start..end], text, out) {
+        if answer(&buf[start..end], octets, text, out) {
             start = end + 1;
             end = request::line_end(buf, start);
         } else {
@@ -192,11 +133,16 @@ fn answer_lines(buf: &mut [u8], kept: usize, text: &mut [u8; TEXT], out: &mut [u
 }
 
 // Answers the last line, where it has no LF.
-fn finish(line: &mut [u8], text: &mut [u8; TEXT], out: &mut [u8; ROOM]) -> State
+fn finish(
+    line: &[u8],
+    octets: &mut [u8; OCTETS],
+    text: &mut [u8; TEXT],
+    out: &mut [u8; ROOM],
+) -> State
     ensures { λ r. ⌜ r .kept ≤ 2200001 ⌝ }
 {
     if line.len() > 0 {
-        answer(line, text, out);
+        answer(line, octets, text, out);
     }
     State {
         kept: 0,
@@ -215,28 +161,39 @@ fn read_on(buf: &mut [u8], kept: usize) -> usize
 }
 
 // Reads once, and answers the lines that are whole by then.
-fn turn(buf: &mut [u8], kept: usize, text: &mut [u8; TEXT], out: &mut [u8; ROOM]) -> State
+fn turn(
+    buf: &mut [u8],
+    kept: usize,
+    octets: &mut [u8; OCTETS],
+    text: &mut [u8; TEXT],
+    out: &mut [u8; ROOM],
+) -> State
     requires { ⌜ (kept ≤ 2200001) × (2265537 ≤ length (now buf)) ⌝ }
     ensures { λ r. ⌜ r .kept ≤ 2200001 ⌝ }
 {
     let n = read_on(buf, kept);
     if n == 0 {
-        return finish(&mut buf[0..kept], text, out);
+        return finish(&buf[0..kept], octets, text, out);
     }
     let end = kept + n;
-    answer_lines(&mut buf[0..end], kept, text, out)
+    answer_lines(&mut buf[0..end], kept, octets, text, out)
 }
 
 // A proved loop has to end, and nothing says that the input does. So the loop counts its turns
 // down, from a number that no run uses up.
-fn run(buf: &mut [u8; SPACE], text: &mut [u8; TEXT], out: &mut [u8; ROOM]) {
+fn run(
+    buf: &mut [u8; SPACE],
+    octets: &mut [u8; OCTETS],
+    text: &mut [u8; TEXT],
+    out: &mut [u8; ROOM],
+) {
     let mut state = State {
         kept: 0,
         going: true,
     };
     let mut turns = u64::MAX;
     while turns > 0 {
-        state = turn(buf, state.kept, text, out);
+        state = turn(buf, state.kept, octets, text, out);
         if state.going {
             turns = turns - 1;
         } else {
@@ -247,7 +204,8 @@ fn run(buf: &mut [u8; SPACE], text: &mut [u8; TEXT], out: &mut [u8; ROOM]) {
 
 fn main() {
     let mut buf = [0u8; SPACE];
+    let mut octets = [0u8; OCTETS];
     let mut text = [0u8; TEXT];
     let mut out = [0u8; ROOM];
-    run(&mut buf, &mut text, &mut out);
+    run(&mut buf, &mut octets, &mut text, &mut out);
 }
