@@ -139,8 +139,12 @@ hex-digits (a ∷ b ∷ s) =
         let z : number 16 (x ∷ y ∷ []) % 256 ≡ number 16 (x ∷ y ∷ []) = omega arith in
         group-octets 4 1 (x ∷ y ∷ []) ds (h, (l, tt)) (omega arith) ∙ ap (λ k. after (k ∷ []) (fromDigits 4 ds)) z
 
+-- where nothing is left out
+pub octets-hex : (s : List ℕ) → Octets s → octetsBy letters 100 4 16 s ≡ fromHex s
+octets-hex s o = ap (λ x. x >>= fromDigits 4) (each-by (charValue letters 16) (digitValue 16) letters16 s o) ∙ sym (hex-digits s)
+
 pub counted-hex : (s : List ℕ) → Octets s → countedBy 4 16 s ≡ readCountedHex s
-counted-hex s o = ap (λ x. x >>= fromDigits 4 >>= counted 1) (each-by (charValue letters 16) (digitValue 16) letters16 s o) ∙ ap (λ x. x >>= counted 1) (sym (hex-digits s))
+counted-hex s o = ap (λ x. x >>= counted 1) (octets-hex s o)
 
 bind-bind : (o : Option (List ℕ)) (f g : List ℕ → Option (List ℕ)) → (o >>= f >>= g) ≡ (o >>= λ x. f x >>= g)
 bind-bind none f g = refl

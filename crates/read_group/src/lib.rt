@@ -213,7 +213,7 @@ pub fn groups(
     k: usize,
     g: usize,
 ) -> Front
-    requires { ⌜ (n ≤ 2 ^ 30) × (i ≤ e) × (e ≤ length (now t)) × (length (now t) ≤ 1048576) × (256 ≤ length (now a)) × Grouping w base k g ⌝ }
+    requires { ⌜ (n ≤ 2 ^ 30) × (i ≤ e) × (e ≤ length (now t)) × (length (now t) ≤ 2 ^ 24) × (256 ≤ length (now a)) × Grouping w base k g ⌝ }
     ensures { λ r. ⌜ Begun (now (out .entry)) (now (out .exit)) n (now (a .entry)) skip w base (now (t .entry)) i e k (r .at) (r .end) (r .count) (r .number) × (r .count < k) ⌝ }
 {
     let mut m = n;
@@ -250,7 +250,7 @@ pub fn octets(
     k: usize,
     g: usize,
 ) -> Value
-    requires { ⌜ (n ≤ 2 ^ 30) × (i ≤ e) × (e ≤ length (now t)) × (length (now t) ≤ 1048576) × (256 ≤ length (now a)) × Grouping w base k g ⌝ }
+    requires { ⌜ (n ≤ 2 ^ 30) × (i ≤ e) × (e ≤ length (now t)) × (length (now t) ≤ 2 ^ 24) × (256 ≤ length (now a)) × Grouping w base k g ⌝ }
     ensures { λ r. ⌜ Values (now (out .entry)) (now (out .exit)) n r (octetsBy (now (a .entry)) skip w base (slice i e (now (t .entry)))) ⌝ }
 {
     let d = groups(out, n, t, i, e, a, skip, w, base, k, g);
@@ -274,7 +274,7 @@ pub fn lettered(
     k: usize,
     g: usize,
 ) -> Value
-    requires { ⌜ (n ≤ 2 ^ 30) × (i ≤ e) × (e ≤ length (now t)) × (length (now t) ≤ 1048576) × Grouping w base k g ⌝ }
+    requires { ⌜ (n ≤ 2 ^ 30) × (i ≤ e) × (e ≤ length (now t)) × (length (now t) ≤ 2 ^ 24) × Grouping w base k g ⌝ }
     ensures { λ r. ⌜ Values (now (out .entry)) (now (out .exit)) n r (octetsBy letters skip w base (slice i e (now (t .entry)))) ⌝ }
 {
     let a =

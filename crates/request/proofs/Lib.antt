@@ -1,1 +1,6 @@
-mod Spans
+mod Words
+mod Spelling
+mod Numbers
+mod Requests
+mod Lines
+mod Moved

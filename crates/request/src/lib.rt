@@ -1,24 +1,26 @@
-// The request lines of the program probe: their words, and the lines that answer them.
+// The request lines of the program probe, and their words.
 ghost use mathlib.Core.Path.{_≡_};
-ghost use Prim.Native.Nat.{_+_, _*_, _≤_};
-ghost use lib.ListN.{length};
-ghost use Rattle.request.specs.Request.{Inside, Within};
-use put_digits::put_decimal;
-use put_digits::put_hex_upper;
+ghost use mathlib.Core.Bool.{false, cond};
+ghost use Prim.Native.Nat.{_-_, _^_, _<_, _≤_, min};
+ghost use lib.ListN.{length, take, drop};
+ghost use lib.Seq.{slice};
+ghost use Rattle.octets.specs.Octets.{lineEnd};
+ghost use Rattle.writing.specs.Writing.{Values};
+ghost use Rattle.request.specs.Request.{octetsOf, said, oneWord, originWord, runWords, requestOf};
+ghost use Rattle.request.specs.Words.{Within, asked, wordsAt, NextWord, Spells, Counts, Runs};
+use writing::Value;
 use writing::least;
-use writing::put_octet;
 
 // The longest line that may be a request, without its LF.
 const LONGEST: usize = 2200000;
 
-// Where a word stands, or the octets that it spelled.
+// Where a word stands in its line, or in a buffer the octets that one spelled.
 pub struct Span {
     pub from: usize,
     pub to: usize,
 }
 
-// What a line asks for, by its letter, which is 0 where it is no request. The octets of its words stand in the line; a job
-// stands in the place of a stanza.
+// What a line asks for, by its letter, which is 0 where it is no request. A job stands in the place of a stanza.
 pub struct Request {
     pub letter: u8,
     pub stanza: Span,
@@ -29,10 +31,10 @@ pub struct Request {
     pub room: usize,
 }
 
-// The octets that a word spells, and where the word ends.
+// Where the octets that a word spells end in the buffer, and where the word ends.
 struct Spelled {
     good: bool,
-    span: Span,
+    to: usize,
     end: usize,
 }
 
@@ -43,62 +45,19 @@ struct Count {
     end: usize,
 }
 
-// The words of a request up to its run of fields, and where they end.
+// The words of a request up to its run of fields, and where they end; the stanza's octets end at `to`.
 struct Run {
     good: bool,
-    stanza: Span,
+    to: usize,
     first: usize,
     many: usize,
     end: usize,
 }
 
-// The value of a hex digit of either case, and 16 of any other octet.
-fn hex_value(b: u8) -> u8 {
-    if b < b'0' {
-        return 16;
-    }
-    if b <= b'9' {
-        return b - b'0';
-    }
-    if b < b'A' {
-        return 16;
-    }
-    if b <= b'F' {
-        return b - b'A' + 10;
-    }
-    if b < b'a' {
-        return 16;
-    }
-    if b <= b'f' {
-        return b - b'a' + 10;
-    }
-    16
-}
-
-// Puts the n octets that the digits from a place on spell at that place, and answers whether all are digits.
-fn unhex(line: &mut [u8], from: usize, n: usize) -> bool
-    requires { ⌜ from + n * 2 ≤ length (now line) ⌝ }
-{
-    let mut i = 0;
-    while i < n {
-        let high = hex_value(line[from + i * 2]);
-        let low = hex_value(line[from + i * 2 + 1]);
-        if 15 < high {
-            return false;
-        }
-        if 15 < low {
-            return false;
-        }
-        line[from + i] = high * 16 + low;
-        i = i + 1;
-    }
-    true
-}
-
 // The word after the one that ends at `end`: none where the line ends there.
 fn next_word(line: &[u8], end: usize) -> Span
     requires { ⌜ end ≤ length (now line) ⌝ }
-    ensures { λ r. ⌜ Inside (length (now (line .entry))) r ⌝ }
+    ensures { λ r. ⌜ NextWord (now (line .entry)) end r ⌝ }
 {
     if end == line.len() {
         return Span { from: end, to: end };
@@ -114,53 +73,60 @@ fn next_word(line: &[u8], end: usize) -> Span
     Span { from: from, to: to }
 }
 
-// The octets that the next word spells, put at its own start: '-' spells none.
-fn next_octets(line: &mut [u8], end: usize) -> Spelled
-    requires { ⌜ end ≤ length (now line) ⌝ }
-    ensures { λ r. ⌜ Inside (length (now (line .entry))) (r .span) × (r .end ≤ length (now (line .entry))) ⌝ }
+// The octets that a word from i to e spells: '-' spells none.
+fn word_octets(out: &mut [u8], n: usize, t: &[u8], i: usize, e: usize) -> Value
+    requires { ⌜ (n ≤ 2 ^ 30) × (i ≤ e) × (e ≤ length (now t)) × (length (now t) ≤ 2 ^ 24) ⌝ }
+    ensures { λ r. ⌜ Values (now (out .entry)) (now (out .exit)) n r (octetsOf (slice i e (now (t .entry)))) ⌝ }
+{
+    if e - i < 1 {
+        return Value::Fault;
+    }
+    if e - i < 2 {
+        if t[i] == b'-' {
+            return Value::Upto(n);
+        }
+        return Value::Fault;
+    }
+    read_group::lettered(out, n, t, i, e, 100, 4, 16, 8, 4)
+}
+
+// The octets that the next word spells, stored from n on.
+fn next_octets(line: &[u8], end: usize, out: &mut [u8], n: usize) -> Spelled
+    requires { ⌜ (end ≤ length (now line)) × (length (now line) ≤ 2 ^ 24) × (n ≤ 2 ^ 30) ⌝ }
+    ensures { λ r. ⌜ Spells (said octetsOf (wordsAt (now (line .entry)) end)) (now (line .entry)) end (now (out .entry)) (now (out .exit)) n r ⌝ }
 {
     let word = next_word(line, end);
     let from = word.from;
-    let m = word.to - from;
-    if m == 1 {
-        return Spelled {
-            good: line[from] == b'-',
-            span: Span {
-                from: from,
-                to: from,
-            },
-            end: word.to,
-        };
-    }
-    let n = m / 2;
-    let digits = unhex(line, from, n);
-    Spelled {
-        good: digits & (0 < n) & (n * 2 == m),
-        span: Span {
-            from: from,
-            to: from + n,
+    let to = word.to;
+    let v = word_octets(out, n, line, from, to);
+    match v {
+        Value::Fault => Spelled {
+            good: false,
+            to: n,
+            end: to,
         },
-        end: word.to,
+        Value::Upto(m) => Spelled {
+            good: true,
+            to: m,
+            end: to,
+        },
     }
 }
 
-// The value of a decimal digit, and 10 of any other octet.
-fn digit_value(b: u8) -> usize
-    ensures { λ r. ⌜ r ≤ 10 ⌝ }
+fn no_number(end: usize) -> Count
+    ensures { λ r. ⌜ r ≡ record { good = false; value = 0; end = end } ⌝ }
 {
-    if b < b'0' {
-        return 10;
+    Count {
+        good: false,
+        value: 0,
+        end: end,
     }
-    if b'9' < b {
-        return 10;
-    }
-    (b - b'0') as usize
 }
 
 // The number that the next word's digits spell, of at most 64 bits.
 fn next_number(line: &[u8], end: usize) -> Count
     requires { ⌜ end ≤ length (now line) ⌝ }
-    ensures { λ r. ⌜ r .end ≤ length (now (line .entry)) ⌝ }
+    ensures { λ r. ⌜ Counts (now (line .entry)) end r ⌝ }
 {
     let word = next_word(line, end);
     let from = word.from;
@@ -168,10 +134,14 @@ fn next_number(line: &[u8], end: usize) -> Count
     let mut value: usize = 0;
     let mut i = from;
     while i < to {
-        let d = digit_value(line[i]);
-        if 9 < d {
+        let b = line[i];
+        if b < b'0' {
             return no_number(to);
         }
+        if b'9' < b {
+            return no_number(to);
+        }
+        let d = (b - b'0') as usize;
         if (usize::MAX - d) / 10 < value {
             return no_number(to);
         }
@@ -185,45 +155,39 @@ fn next_number(line: &[u8], end: usize) -> Count
     }
 }
 
-fn no_number(end: usize) -> Count
-    ensures { λ r. ⌜ r .end ≡ end ⌝ }
-{
-    Count {
-        good: false,
-        value: 0,
-        end: end,
-    }
-}
-
 // The origin's octets, which only a request to read has.
-fn next_origin(line: &mut [u8], letter: u8, end: usize) -> Spelled
-    requires { ⌜ end ≤ length (now line) ⌝ }
-    ensures { λ r. ⌜ Inside (length (now (line .entry))) (r .span) × (r .end ≤ length (now (line .entry))) ⌝ }
+fn next_origin(line: &[u8], letter: u8, end: usize, out: &mut [u8], n: usize) -> Spelled
+    requires { ⌜ (end ≤ length (now line)) × (length (now line) ≤ 2 ^ 24) × (n ≤ 2 ^ 30) ⌝ }
+    ensures { λ r. ⌜ Spells (originWord letter (wordsAt (now (line .entry)) end)) (now (line .entry)) end (now (out .entry)) (now (out .exit)) n r ⌝ }
 {
     if letter == b'R' {
-        return next_octets(line, end);
+        return next_octets(line, end, out, n);
     }
     Spelled {
         good: true,
-        span: Span { from: 0, to: 0 },
+        to: n,
         end: end,
     }
 }
 
-fn letter_if(good: bool, letter: u8) -> u8 {
+fn letter_if(good: bool, letter: u8) -> u8
+    ensures { λ r. ⌜ r ≡ cond good letter 0 ⌝ }
+{
     if good { letter } else { 0 }
 }
 
 // A request to judge, or a job.
-fn read_one(line: &mut [u8], letter: u8) -> Request
-    requires { ⌜ 1 ≤ length (now line) ⌝ }
-    ensures { λ r. ⌜ Within (length (now (line .entry))) r ⌝ }
+fn read_one(line: &[u8], octets: &mut [u8], letter: u8) -> Request
+    requires { ⌜ (1 ≤ length (now line)) × (length (now line) ≤ 2200000) × (1100000 ≤ length (now octets)) × (0 < letter) ⌝ }
+    ensures { λ r. ⌜ Within (length (now (octets .entry))) r × (asked r (now (octets .exit)) ≡ oneWord letter (wordsAt (now (line .entry)) 1)) ⌝ }
 {
-    let word = next_octets(line, 1);
-    let stanza = word.span;
+    let word = next_octets(line, 1, octets, 0);
     Request {
         letter: letter_if(word.good & (word.end == line.len()), letter),
-        stanza: stanza,
+        stanza: Span {
+            from: 0,
+            to: word.to,
+        },
         first: 0,
         many: 0,
         origin: Span { from: 0, to: 0 },
@@ -233,17 +197,16 @@ fn read_one(line: &mut [u8], letter: u8) -> Request
 }
 
 // The stanza and the run of a request.
-fn next_run(line: &mut [u8]) -> Run
-    requires { ⌜ 1 ≤ length (now line) ⌝ }
-    ensures { λ r. ⌜ Inside (length (now (line .entry))) (r .stanza) × (r .end ≤ length (now (line .entry))) ⌝ }
+fn next_run(line: &[u8], octets: &mut [u8]) -> Run
+    requires { ⌜ (1 ≤ length (now line)) × (length (now line) ≤ 2200000) ⌝ }
+    ensures { λ r. ⌜ Runs (now (line .entry)) (now (octets .entry)) (now (octets .exit)) r ⌝ }
 {
-    let s = next_octets(line, 1);
+    let s = next_octets(line, 1, octets, 0);
     let first = next_number(line, s.end);
     let many = next_number(line, first.end);
-    let stanza = s.span;
     Run {
         good: s.good & first.good & many.good,
-        stanza: stanza,
+        to: s.to,
         first: first.value,
         many: many.value,
         end: many.end,
@@ -251,31 +214,37 @@ fn next_run(line: &mut [u8]) -> Run
 }
 
 // A request to print, or to read.
-fn read_run(line: &mut [u8], letter: u8) -> Request
-    requires { ⌜ 1 ≤ length (now line) ⌝ }
-    ensures { λ r. ⌜ Within (length (now (line .entry))) r ⌝ }
+fn read_run(line: &[u8], octets: &mut [u8], letter: u8) -> Request
+    requires { ⌜ (1 ≤ length (now line)) × (length (now line) ≤ 2200000) × (1100000 ≤ length (now octets)) × (0 < letter) ⌝ }
+    ensures { λ r. ⌜ Within (length (now (octets .entry))) r × (asked r (now (octets .exit)) ≡ runWords letter (wordsAt (now (line .entry)) 1)) ⌝ }
 {
-    let run = next_run(line);
-    let o = next_origin(line, letter, run.end);
-    let t = next_octets(line, o.end);
+    let run = next_run(line, octets);
+    let o = next_origin(line, letter, run.end, octets, run.to);
+    let t = next_octets(line, o.end, octets, o.to);
     let room = next_number(line, t.end);
     let good = run.good & o.good & t.good & room.good;
-    let stanza = run.stanza;
-    let origin = o.span;
-    let octets = t.span;
     Request {
         letter: letter_if(good & (room.end == line.len()), letter),
-        stanza: stanza,
+        stanza: Span {
+            from: 0,
+            to: run.to,
+        },
         first: run.first,
         many: run.many,
-        origin: origin,
-        octets: octets,
+        origin: Span {
+            from: run.to,
+            to: o.to,
+        },
+        octets: Span {
+            from: o.to,
+            to: t.to,
+        },
         room: room.value,
     }
 }
 
 fn no_request() -> Request
-    ensures { λ r. ⌜ Within 0 r ⌝ }
+    ensures { λ r. ⌜ Within 0 r × (r .letter ≡ 0) ⌝ }
 {
     Request {
         letter: 0,
@@ -288,9 +257,10 @@ fn no_request() -> Request
     }
 }
 
-// What a line, which is without its LF, asks for. The octets of the line change.
-pub fn read(line: &mut [u8]) -> Request
-    ensures { λ r. ⌜ Within (length (now (line .entry))) r ⌝ }
+// What a line, which is without its LF, asks for. The octets of its words are stored one after another.
+pub fn read(line: &[u8], octets: &mut [u8]) -> Request
+    requires { ⌜ 1100000 ≤ length (now octets) ⌝ }
+    ensures { λ r. ⌜ Within (length (now (octets .entry))) r × (asked r (now (octets .exit)) ≡ requestOf (now (line .entry))) ⌝ }
 {
     if line.len() < 2 {
         return no_request();
@@ -302,77 +272,25 @@ pub fn read(line: &mut [u8]) -> Request
         return no_request();
     }
     let letter = line[0];
+    if letter == b'J' {
+        return read_one(line, octets, letter);
+    }
+    if letter == b'W' {
+        return read_one(line, octets, letter);
+    }
     if letter == b'P' {
-        return read_run(line, letter);
+        return read_run(line, octets, letter);
     }
     if letter == b'R' {
-        return read_run(line, letter);
+        return read_run(line, octets, letter);
     }
-    read_one(line, letter)
-}
-
-// Puts a reply's number and its place at the start, and answers where they end.
-fn put_numbers(out: &mut [u8], number: u32, place: u32) -> usize
-    ensures { λ r. ⌜ r ≤ 21 ⌝ }
-{
-    let end = put_decimal(out, 0, number as u64);
-    let blank = put_octet(out, end, b' ');
-    put_decimal(out, blank, place as u64)
-}
-
-// Puts octets in hex, '-' for none.
-pub fn put_octets(out: &mut [u8], n: usize, octets: &[u8]) -> usize
-    requires { ⌜ (n ≤ 1048576) × (length (now octets) ≤ 1048576) ⌝ }
-    ensures { λ r. ⌜ r ≤ n + length (now (octets .entry)) * 2 + 1 ⌝ }
-{
-    if octets.len() < 1 {
-        return put_octet(out, n, b'-');
-    }
-    put_hex_upper(out, n, octets)
-}
-
-// Puts the answer to a request to judge.
-pub fn put_judged(out: &mut [u8], number: u32, place: u32) -> usize
-    ensures { λ r. ⌜ r ≤ 22 ⌝ }
-{
-    let end = put_numbers(out, number, place);
-    put_octet(out, end, b'\n')
-}
-
-// How many octets a result has: none on a refusal.
-fn result_count(number: u32, place: u32, most: usize) -> usize
-    ensures { λ r. ⌜ r ≤ most ⌝ }
-{
-    if number != 0 {
-        return 0;
-    }
-    least(place as usize, most)
-}
-
-// Puts the answer to a request to print or to read, whose result stands at the start of a buffer.
-pub fn put_result(out: &mut [u8], number: u32, place: u32, buffer: &[u8]) -> usize
-    requires { ⌜ length (now buffer) ≤ 1048576 ⌝ }
-    ensures { λ r. ⌜ r ≤ length (now (buffer .entry)) * 2 + 24 ⌝ }
-{
-    let end = put_numbers(out, number, place);
-    let blank = put_octet(out, end, b' ');
-    let n = result_count(number, place, buffer.len());
-    let last = put_octets(out, blank, &buffer[0..n]);
-    put_octet(out, last, b'\n')
-}
-
-// Puts the answer to a line that is no request.
-pub fn put_unknown(out: &mut [u8]) -> usize
-    ensures { λ r. ⌜ r ≤ 2 ⌝ }
-{
-    let end = put_octet(out, 0, b'?');
-    put_octet(out, end, b'\n')
+    no_request()
 }
 
 // The place of the first LF from i on, or the length where there is none.
 pub fn line_end(s: &[u8], i: usize) -> usize
     requires { ⌜ i ≤ length (now s) ⌝ }
-    ensures { λ r. ⌜ (i ≤ r) × (r ≤ length (now (s .entry))) ⌝ }
+    ensures { λ r. ⌜ (i ≤ r) × (r ≤ length (now (s .entry))) × (r ≡ lineEnd (now (s .entry)) i) ⌝ }
 {
     octets::line_end(s, i)
 }
@@ -382,7 +300,7 @@ pub fn line_end(s: &[u8], i: usize) -> usize
 // long line, which comes in many pieces, is not copied again with each.
 pub fn keep(buf: &mut [u8], start: usize) -> usize
     requires { ⌜ start ≤ length (now buf) ⌝ }
-    ensures { λ r. ⌜ (r ≤ length (now (buf .entry))) × (r ≤ 2200001) ⌝ }
+    ensures { λ r. ⌜ (r ≡ min (length (now (buf .entry)) - start) 2200001) × (r ≤ length (now (buf .entry))) × (r ≤ 2200001) × (take r (now (buf .exit)) ≡ take r (drop start (now (buf .entry)))) ⌝ }
 {
     let n = least(buf.len() - start, LONGEST + 1);
     if start == 0 {

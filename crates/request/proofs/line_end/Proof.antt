@@ -11,7 +11,7 @@ line-end-requires : tie.Need-line-end-requires
 line-end-requires c κs = search needs
 
 returns : tie.Need-returns
-returns c = omega (arith, front-within (inClass NotNewline) (c .before .before .args .s .now) (c .before .before .args .i) (length (c .before .before .args .s .now)) (c .before .before .pre) (omega arith))
+returns c = (search needs, omega (arith, front-within (inClass NotNewline) (c .before .before .args .s .now) (c .before .before .args .i) (length (c .before .before .args .s .now)) (c .before .before .pre) (omega arith)), c .line-end .ensures)
 
 pub line-end-spec : {M : Type 1} → statement M
 line-end-spec = tie.close (tie.spec line-end-requires returns)
