@@ -146,7 +146,7 @@ octets-hex s o = ap (λ x. x >>= fromDigits 4) (each-by (charValue letters 16) (
 pub counted-hex : (s : List ℕ) → Octets s → countedBy 4 16 s ≡ readCountedHex s
 counted-hex s o = ap (λ x. x >>= counted 1) (octets-hex s o)
 
-bind-bind : (o : Option (List ℕ)) (f g : List ℕ → Option (List ℕ)) → (o >>= f >>= g) ≡ (o >>= λ x. f x >>= g)
+pub bind-bind : {A B C : Type 0} (o : Option A) (f : A → Option B) (g : B → Option C) → (o >>= f >>= g) ≡ (o >>= λ x. f x >>= g)
 bind-bind none f g = refl
 bind-bind (some x) f g = refl
 

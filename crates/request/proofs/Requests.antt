@@ -13,6 +13,7 @@ use Rattle.format.specs.Lists.{_>>=_, provided, null}
 use Rattle.format.proofs.Lists.{and-left, and-right}
 use Rattle.writing.specs.Writing.{Wrote}
 use Rattle.writing.proofs.Laws.{wrote-length}
+use Rattle.read_group.proofs.Letters.{bind-bind}
 use Rattle.request.specs.Request.{octetsOf, numberOf, said, Asked, oneWord, originWord, runWords}
 use Rattle.request.specs.declared.Spelled.{Spelled}
 use Rattle.request.specs.declared.Count.{Count}
@@ -25,10 +26,6 @@ use Rattle.request.proofs.Words.{words-left}
 and-then : {A B : Type 0} (o : Option A) (g h : Bool) (v : A) (f : A → Option B) (b : B) → o ≡ provided g v → f v ≡ provided h b → (o >>= f) ≡ provided (g && h) b
 and-then o true h v f b p q = rw p q
 and-then o false h v f b p q = rw p
-
-bind-bind : {A B C : Type 0} (o : Option A) (f : A → Option B) (g : B → Option C) → (o >>= f >>= g) ≡ (o >>= λ x. f x >>= g)
-bind-bind none f g = refl
-bind-bind (some x) f g = refl
 
 -- a text stands where it was stored, and stays there while others are stored after it
 module _ {o o′ : List ℕ} {n r : ℕ} {t : List ℕ} (w : Wrote o o′ n r t) where
