@@ -1,22 +1,21 @@
 use Prim.Native.Nat.{_-_, _≤_}
-use mathlib.Core.Path.{_≡_, refl, _∙_}
-use native.Mathlib.Omega.{arith}
 use lib.ListN.{length}
+use native.Mathlib.Omega.{arith}
 use borrow.Author.Needs.{needs}
 use Rattle.probe.proofs.answer_lines.Statement.{statement}
 use Rattle.probe.proofs.answer_lines.Tie as tie
 
 abbrev Inv-loop : tie.InvT-loop
-Inv-loop buf₀ kept text₀ out₀ start₀ end₀ buf text out start end = (start ≤ end) × (end ≤ length buf) × (length buf ≡ length buf₀)
+Inv-loop buf kept octets₀ text₀ out₀ start₀ end₀ octets text out start end = (start ≤ end) × (end ≤ length buf)
 
 abbrev μ-loop : tie.MeasureT-loop
-μ-loop buf₀ kept text₀ out₀ start₀ end₀ buf text out start end = length buf - end
+μ-loop buf kept octets₀ text₀ out₀ start₀ end₀ octets text out start end = length buf - end
 
 line-end-requires : tie.Need-line-end-requires Inv-loop μ-loop
-line-end-requires c κs = c .before .before .pre
+line-end-requires c κs = search needs
 
 loop-holds : tie.Need-loop-holds Inv-loop μ-loop
-loop-holds c = (omega arith, c .line-end .ensures .1, refl)
+loop-holds c = search needs
 
 sub-answer : tie.Need-sub-answer Inv-loop μ-loop
 sub-answer c = search needs
@@ -34,16 +33,16 @@ add-start : tie.Need-add-start Inv-loop μ-loop
 add-start c = search needs
 
 line-end-requires-2 : tie.Need-line-end-requires-2 Inv-loop μ-loop
-line-end-requires-2 c κs = omega (arith, c .before .before .before .before .before .before .before .before .loop-test .taken, c .before .before .before .buf .given .1)
+line-end-requires-2 c κs = search needs
 
 loop-less : tie.Need-loop-less Inv-loop μ-loop
-loop-less c = omega (arith, c .line-end2 .ensures, c .before .before .before .before .buf .given .1, c .before .before .before .before .before .before .before .before .before .loop-test .taken)
+loop-less c = search needs
 
 loop-again : tie.Need-loop-again Inv-loop μ-loop
-loop-again c = (c .line-end2 .ensures .0, c .line-end2 .ensures .1, c .before .before .before .before .buf .given .1 ∙ c .before .before .before .before .before .before .before .before .before .before .loop .inv .2)
+loop-again c = search needs
 
 same-length : tie.Need-same-length Inv-loop μ-loop
-same-length c = c .before .before .buf .given .1 ∙ c .before .before .before .before .before .before .before .before .loop .inv .2
+same-length c = search needs
 
 returns : tie.Need-returns Inv-loop μ-loop
 returns c = search needs

@@ -4,10 +4,10 @@ use Rattle.probe.proofs.run.Statement.{statement}
 use Rattle.probe.proofs.run.Tie as tie
 
 abbrev Inv-loop : tie.InvT-loop
-Inv-loop buf₀ text₀ out₀ state₀ turns₀ buf text out state turns = state .kept ≤ 2200001
+Inv-loop buf₀ octets₀ text₀ out₀ state₀ turns₀ buf octets text out state turns = state .kept ≤ 2200001
 
 abbrev μ-loop : tie.MeasureT-loop
-μ-loop buf₀ text₀ out₀ state₀ turns₀ buf text out state turns = turns
+μ-loop buf₀ octets₀ text₀ out₀ state₀ turns₀ buf octets text out state turns = turns
 
 loop-holds : tie.Need-loop-holds Inv-loop μ-loop
 loop-holds c = search needs

@@ -1,33 +1,27 @@
+use Prim.Native.Nat.{_-_}
+use lib.ListN.{take}
+use lib.Seq.{length-take-le}
+use Rattle.reply_line.proofs.Replies.{octets-most}
 use native.Mathlib.Omega.{arith}
 use borrow.Author.Needs.{needs}
 use Rattle.probe.proofs.write_octets.Statement.{statement}
 use Rattle.probe.proofs.write_octets.Tie as tie
-use Rattle.probe.proofs.write_octets.Reads as reads
-use Rattle.probe.proofs.write_octets.Lts as lts
-use Rattle.probe.proofs.write.Reads as write-reads
-use Rattle.reply_line.proofs.put_octets.Reads as put-octets-reads
 
--- src/main.rt:54:46
 sub-put-octets : tie.Need-sub-put-octets
 sub-put-octets c = search needs
 
--- src/main.rt:54:46
 part-put-octets-start : tie.Need-part-put-octets-start
 part-put-octets-start c = search needs
 
--- src/main.rt:54:46
 part-put-octets-end : tie.Need-part-put-octets-end
 part-put-octets-end c = search needs
 
--- src/main.rt:54:9
 put-octets-requires : tie.Need-put-octets-requires
 put-octets-requires c κs = search needs
 
--- src/main.rt:55:5
 write-requires : tie.Need-write-requires
-write-requires c κs = search needs
+write-requires c κs = omega (arith, c .before .before .put-octets .ensures .count, octets-most (take (c .before .before .before .before .before .before .args .n - 0) (c .before .before .before .before .before .before .args .lines .now)), length-take-le (c .before .before .before .before .before .before .args .n - 0) (c .before .before .before .before .before .before .args .lines .now) (omega (arith, c .before .before .before .before .before .before .pre .0)), c .before .before .before .before .before .before .pre .0, c .before .before .before .before .before .before .pre .1)
 
--- src/main.rt:51:1
 returns : tie.Need-returns
 returns c = search needs
 
