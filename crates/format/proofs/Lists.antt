@@ -2,12 +2,13 @@
 use Prim.Native.Nat.{ℕ, zero, suc}
 use mathlib.Core.Path.{_≡_, refl, sym}
 use mathlib.Core.Bool.{Bool, true, false, not, _&&_, _||_}
-use mathlib.Core.List.{List, [], _∷_, _++_}
+use mathlib.Core.List.{List, [], _∷_, _++_, map}
 use mathlib.Core.Option.{Option, none, some}
 use native.Mathlib.Omega.{arith}
 use lib.ListN.{take, drop}
-use Rattle.format.specs.Lists.{_>>=_, provided, consBoth, eachOf, anyOf, allOf, twice}
+use Rattle.format.specs.Lists.{_>>=_, provided, consBoth, eachOf, null, anyOf, allOf, twice, consFirst, parting, split}
 use Rattle.format.specs.Octets.{Below}
+use Rattle.format.specs.Lines.{placed}
 
 pub and-left : (a b : Bool) → a && b ≡ true → a ≡ true
 and-left true b h = refl
@@ -51,6 +52,28 @@ each-all f g h (x ∷ xs) ys e = by (f x) refl (eachOf f xs) refl e (each-all f 
     by none a p b e ih = cc
     by (some y) a none b e ih = cc
     by (some y) a (some zs) b e ih = let q : y ∷ zs ≡ ys = cc in rw (← q, h x y a, ih zs b)
+
+-- a split has a part
+pub split-some : {A : Type 0} (f : A → Bool) (xs : List A) → null (split f xs) ≡ false
+split-some f [] = refl
+split-some f (x ∷ xs) = by (f x) (split f xs) (split-some f xs)
+  where
+    by : (b : Bool) (ts : List (List _)) → null ts ≡ false → null (parting b x ts) ≡ false
+    by true ts h = refl
+    by false [] h = h
+    by false (t ∷ ts) h = refl
+
+pub map-some : {A B : Type 0} (f : A → B) (xs : List A) → null xs ≡ false → null (map f xs) ≡ false
+map-some f [] h = h
+map-some f (x ∷ xs) h = refl
+
+pub map-first : {A B : Type 0} (f : A → B) (x : A) (ss : List (List A)) → map (map f) (consFirst x ss) ≡ consFirst (f x) (map (map f) ss)
+map-first f x [] = refl
+map-first f x (s ∷ ss) = refl
+
+pub placed-some : (at : ℕ) (ts : List (List ℕ)) → null ts ≡ false → null (placed at ts) ≡ false
+placed-some at [] h = h
+placed-some at (t ∷ ts) h = refl
 
 -- lists with one more element
 pub all-snoc : {A : Type 0} (f : A → Bool) (xs : List A) (y : A) → allOf f xs ≡ true → f y ≡ true → allOf f (xs ++ y ∷ []) ≡ true

@@ -8,7 +8,7 @@ use native.Mathlib.Omega.{arith}
 use lib.ListN.{length, length-append}
 use lib.Dec.{leb, eqb}
 use borrow.Author.Tests.{le-leb, eqb-true, leb-true}
-use Rattle.format.specs.Lists.{null, flatMap, parted, consFirst, split}
+use Rattle.format.specs.Lists.{null, flatMap, parted, split}
 use Rattle.format.specs.Octets.{Octets, ascii, inRange, sameOctets}
 use Rattle.format.specs.Wire.{labelLength, labelOctet, Taken, short, bad, took, taken, takesAll}
 use Rattle.format.specs.Field.{NameMarks, name}
@@ -16,7 +16,7 @@ use Rattle.format.specs.Token.{Token, between, inBare, scanned, Item, pl
 use Rattle.format.specs.Text.{withCount}
 use Rattle.format.specs.Name.{nameEscape, orRoot, nameText, isDot, labelBefore, wireName, nameOf, readName, isWireName}
 use Rattle.format.specs.Run.{shown, Got, got, oneBare, readField}
-use Rattle.format.proofs.Lists.{and-left, and-right, not-true, bind-some, provided-some, below-parts}
+use Rattle.format.proofs.Lists.{and-left, and-right, not-true, bind-some, provided-some, map-first, below-parts}
 use Rattle.format.proofs.Finite.{at-each}
 use Rattle.format.proofs.Wire.{at-end}
 use Rattle.format.proofs.Token.{Parted, kept, kept-append, word-scanned, name-kept, name-begins, given-unescaped, Itemed, item, name-item, none-scanned}
@@ -116,10 +116,6 @@ labels-kept (l ∷ ls) b = let (c, d) = below-parts 256 l (wire ls) (b .1) in la
 -- and its items, split at the dots, are the pieces
 data Reads (t : List ℕ) (ps : List (List ℕ)) : Type 0 where
   reads : (is : List Item) → unescaped t ≡ some is → map (map octetOf) (split isDot is) ≡ ps → Reads t ps
-
-map-first : {A B : Type 0} (f : A → B) (x : A) (ss : List (List A)) → map (map f) (consFirst x ss) ≡ consFirst (f x) (map (map f) ss)
-map-first f x [] = refl
-map-first f x (s ∷ ss) = refl
 
 octet-reads : (x : ℕ) (t l : List ℕ) (ps : List (List ℕ)) → x < 256 → Reads t (l ∷ ps) → Reads (nameEscape x ++ t) ((x ∷ l) ∷ ps)
 octet-reads x t l ps h (reads is e f) = by (name-item x h)

@@ -9,14 +9,13 @@ use native.Mathlib.Omega.{arith}
 use lib.Dec.{eqb, ltb}
 use lib.Seq.{slice}
 use borrow.Author.Tests.{not-false}
-use Rattle.format.specs.Lists.{_>>=_, provided, consBoth, eachOf, null, anyOf, allOf, twice, consFirst, parting, split, Spanned, span}
-use Rattle.format.specs.Octets.{nameOctet, sameOctets, sameWord}
+use Rattle.format.specs.Lists.{_>>=_, provided, consBoth, eachOf, null, anyOf, allOf, twice, Spanned, span}
+use Rattle.format.specs.Octets.{nameOctet, sameOctets, splitOn, sameWord}
 use Rattle.format.specs.Number.{decimalOf}
 use Rattle.format.specs.Field.{Part, Symbol, Kind}
-use Rattle.format.specs.Lines.{placed}
 use Rattle.format.specs.Grammar.{Qualifier, word, symbol, isName, after, ifQualifier, qualifier}
 use Rattle.format.specs.Types.{symbols, words, hasWord, knownWord, unknownWord, symbolOf, wordOf, sameSymbol, allowed}
-use Rattle.format.proofs.Lists.{or-left, or-right}
+use Rattle.format.proofs.Lists.{or-left, or-right, split-some, map-some, placed-some}
 use Rattle.qualifiers.specs.Qualifiers.{piecesIn, wordsFor, holdsOf, anyIn, nameIn, sameBy, twiceIn}
 use Rattle.qualifiers.specs.declared.Test.{Test}
 use Rattle.qualifiers.specs.declared.Test.the-variants.{Malformed, Unknown, NotSymbol, NotWord, IsWord}
@@ -202,22 +201,7 @@ module _ (t : Words) where
       by (word v) h (some vs) f ih = let m : v ∷ vs ≡ given = cc in rw (← m) (after-one (hasWord (wordsFor t) v) vs h (λ k. ih k vs refl))
       by (symbol y) h o f ih = cc
 
--- a split has a piece
-some-piece : (f : ℕ → Bool) (xs : List ℕ) → null (split f xs) ≡ false
-some-piece f [] = refl
-some-piece f (x ∷ xs) = by (f x) (split f xs) (some-piece f xs)
-  where
-    by : (b : Bool) (ts : List (List ℕ)) → null ts ≡ false → null (parting b x ts) ≡ false
-    by true ts h = refl
-    by false [] h = h
-    by false (t ∷ ts) h = refl
-
-some-name : (a : ℕ) (ts : List (List ℕ)) → null ts ≡ false → null (map nameIn (placed a ts)) ≡ false
-some-name a [] h = h
-some-name a (t ∷ ts) h = refl
-
--- THE LAWS FOR THE CRATES ABOVE.
--- A qualifier that breaks the grammar, and none that does.
+-- What the crates above use. A qualifier that breaks the grammar, and none that does.
 pub ill-formed : (s : List ℕ) (a b : ℕ) → anyIn Malformed s a b ≡ true → eachOf qualifier (piecesIn s a b) ≡ none
 ill-formed s a b h = no-qualifiers (piecesIn s a b) h
 
@@ -293,7 +277,7 @@ words-given t s a b h = by (well-formed s a b (weaker (NotWord t) Malformed (wor
       taken = r .1;
       once = refl;
       has = r .2;
-      some-given = some-name a (split (λ x. eqb x (code ",")) (slice a b s)) (some-piece (λ x. eqb x (code ",")) (slice a b s));
+      some-given = map-some nameIn (piecesIn s a b) (placed-some a (splitOn 44 (slice a b s)) (split-some (λ x. eqb x 44) (slice a b s)));
     }
 
     by : (qs : List Qualifier) × (eachOf qualifier (piecesIn s a b) ≡ some qs) → Listed t s a b

@@ -14,6 +14,7 @@ use Rattle.format.specs.Octets.{sameOctets}
 use Rattle.format.specs.Token.{Item, plain, escape, octetOf, slash, unescapedFrom, unescaped}
 use Rattle.format.specs.Text.{withCount}
 use Rattle.format.specs.Name.{isDot, labelBefore, wireName, readName}
+use Rattle.format.proofs.Lists.{split-some, map-some, map-first}
 use Rattle.writing.specs.Writing.{Wrote, Values}
 use Rattle.writing.specs.declared.Value.{Value}
 use Rattle.writing.specs.declared.Value.the-variants.{Fault, Upto}
@@ -29,27 +30,14 @@ use Rattle.writing.proofs.Values.{after, Begun, begun-fault, begun-piece, begun
 use Rattle.read_escape.proofs.Escapes.{plain-unescaped, nothing-unescaped, slash-unescaped}
 
 -- the pieces, item by item
-map-first : (i : Item) (ss : List (List Item)) → map (map octetOf) (consFirst i ss) ≡ consFirst (octetOf i) (map (map octetOf) ss)
-map-first i [] = refl
-map-first i (s ∷ ss) = refl
-
 octet-first : (i : Item) (is : List Item) → isDot i ≡ false → labelsOf (i ∷ is) ≡ consFirst (octetOf i) (labelsOf is)
-octet-first i is h = rw h (map-first i (split isDot is))
+octet-first i is h = rw h (map-first octetOf i (split isDot is))
 
 dot-first : (i : Item) (is : List Item) → isDot i ≡ true → labelsOf (i ∷ is) ≡ [] ∷ labelsOf is
 dot-first i is h = rw h
 
-some-first : (x : ℕ) (ps : List (List ℕ)) → null ps ≡ false → null (consFirst x ps) ≡ false
-some-first x [] h = h
-some-first x (p ∷ ps) h = refl
-
-some-piece : (is : List Item) → null (labelsOf is) ≡ false
-some-piece [] = refl
-some-piece (i ∷ is) = by (isDot i) refl (some-piece is)
-  where
-    by : (b : Bool) → isDot i ≡ b → null (labelsOf is) ≡ false → null (labelsOf (i ∷ is)) ≡ false
-    by true e ih = rw (dot-first i is e)
-    by false e ih = rw (octet-first i is e) (some-first (octetOf i) (labelsOf is) ih)
+some-label : (is : List Item) → null (labelsOf is) ≡ false
+some-label is = map-some (map octetOf) (split isDot is) (split-some isDot is)
 
 -- octets before those of the first piece
 abbrev before : List ℕ → List (List ℕ) → List (List ℕ)
@@ -125,7 +113,7 @@ module _ (o : List ℕ) where
   named-dot : (p : List ℕ) (i : Item) (x : Option (List Item)) → isDot i ≡ true → named o p (consBoth (some i) x) ≡ ((x >>= λ is. wireName (some o) (labelsOf is)) >>= labelBefore p)
   named-dot p i none h = refl
   named-dot p i (some is) h =
-      ap (λ ps. wireName (some o) (before p ps)) (dot-first i is h) ∙ ap (λ q. wireName (some o) (q ∷ labelsOf is)) (append-nil p) ∙ more-wire p (labelsOf is) (some-piece is)
+      ap (λ ps. wireName (some o) (before p ps)) (dot-first i is h) ∙ ap (λ q. wireName (some o) (q ∷ labelsOf is)) (append-nil p) ∙ more-wire p (labelsOf is) (some-label is)
 
   named-last : (p : List ℕ) → 1 ≤ length p → named o p (some []) ≡ labelBefore p o
   named-last p h = ap (λ q. wireName (some o) (q ∷ [])) (append-nil p) ∙ last-wire p h

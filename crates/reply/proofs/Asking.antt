@@ -12,10 +12,9 @@ use Rattle.format.specs.Entries.{Answer, done, refusal, ifRoom, printing, readi
 use Rattle.octets.proofs.Slices.{lent}
 use Rattle.writing.specs.Writing.{Wrote}
 use Rattle.writing.proofs.Laws.{wrote-text}
-use Rattle.request.specs.Request.{Asked}
 use Rattle.request.specs.declared.Span.{Span}
 use Rattle.request.specs.declared.Request.{Request}
-use Rattle.request.specs.Words.{Within, textAt, asked}
+use Rattle.request.specs.Words.{Within, named, asked}
 use Rattle.reply_line.specs.Replies.{unknownLine}
 use Rattle.reply_line.proofs.Replies.{judged-most, result-most}
 use Rattle.reply.specs.Reply.{answerLine, outcomeLine, replyTo}
@@ -23,17 +22,6 @@ use Rattle.reply.specs.Reply.{answerLine, outcomeLine, replyTo}
 -- a part as it is lent to a call
 abbrev lentAt : List ℕ → Span → List ℕ
 lentAt xs s = take (s .to - s .from) (drop (s .from) xs)
-
-abbrev named : Request → List ℕ → Asked
-named q xs = record {
-  letter = q .letter;
-  stanza = textAt xs (q .stanza);
-  first = q .first;
-  many = q .many;
-  origin = textAt xs (q .origin);
-  octets = textAt xs (q .octets);
-  room = q .room;
-}
 
 -- No line is longer than the room for one.
 abbrev Replied : List ℕ → List ℕ → ℕ → List ℕ → Type 0

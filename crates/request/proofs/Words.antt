@@ -10,8 +10,9 @@ use lib.ListN.{length, take, drop, getD, take-append-drop}
 use lib.Seq.{slice, length-take-le, drop-append-le}
 use lib.Dec.{eqb}
 use borrow.Author.Tests.{le-leb, lt-leb, eq-eqb, ne-eqb}
-use Rattle.format.specs.Lists.{_>>=_, provided, null, parting}
+use Rattle.format.specs.Lists.{_>>=_, provided, null}
 use Rattle.format.specs.Octets.{splitOn}
+use Rattle.format.proofs.Lists.{split-some}
 use Rattle.format.proofs.Field.{Free, split-last, split-more}
 use Rattle.writing.proofs.Laws.{next as drop-next, none as drop-none}
 use Rattle.octets.proofs.Slices.{next, none as no-octet}
@@ -84,18 +85,9 @@ module _ (l : List ℕ) where
       given false = refl
 
   -- no words are left where the line ends
-  some-part : (ys : List ℕ) → null (splitOn 32 ys) ≡ false
-  some-part [] = refl
-  some-part (y ∷ ys) = by (eqb y 32) (splitOn 32 ys) (some-part ys)
-    where
-      by : (b : Bool) (ws : List (List ℕ)) → null ws ≡ false → null (parting b y ws) ≡ false
-      by true ws h = refl
-      by false [] h = h
-      by false (w ∷ ws) h = refl
-
   pub words-left : (end : ℕ) → end ≤ length l → null (wordsAt l end) ≡ eqb end (length l)
   words-left end h = by (decLe (length l) end)
     where
       by : Dec (length l ≤ end) → null (wordsAt l end) ≡ eqb end (length l)
       by (yes k) = rw (no-words end k, eq-eqb end (length l) (omega arith))
-      by (no k) = rw (some-words end (omega arith), some-part (drop (end + 1) l), ne-eqb end (length l) (λ q. omega arith))
+      by (no k) = rw (some-words end (omega arith), split-some (λ x. eqb x 32) (drop (end + 1) l), ne-eqb end (length l) (λ q. omega arith))

@@ -29,18 +29,19 @@ abbrev pub textAt : List ℕ → Span → List ℕ
 textAt xs s = slice (s .from) (s .to) xs
 
 -- A request whose texts stand in a buffer; with the letter 0 it is none.
+abbrev pub named : Request → List ℕ → Asked
+named r xs = record {
+  letter = r .letter;
+  stanza = textAt xs (r .stanza);
+  first = r .first;
+  many = r .many;
+  origin = textAt xs (r .origin);
+  octets = textAt xs (r .octets);
+  room = r .room;
+}
+
 abbrev pub asked : Request → List ℕ → Option Asked
-asked r xs =
-    cond (eqb (r .letter) 0) none
-    (some (record {
-      letter = r .letter;
-      stanza = textAt xs (r .stanza);
-      first = r .first;
-      many = r .many;
-      origin = textAt xs (r .origin);
-      octets = textAt xs (r .octets);
-      room = r .room;
-    }))
+asked r xs = cond (eqb (r .letter) 0) none (some (named r xs))
 
 -- the words after the one that ends at `end`, where the line ends or a space stands
 abbrev pub wordsAt : List ℕ → ℕ → List (List ℕ)

@@ -8,12 +8,12 @@ use native.Mathlib.Omega.{arith}
 use lib.Dec.{eqb}
 use borrow.Author.Tests.{eq-eqb, ne-eqb}
 use lib.Seq.{slice}
-use Rattle.format.specs.Lists.{_>>=_, consBoth, eachOf, anyOf, allOf, twice, provided, null, parting}
-use Rattle.format.specs.Lines.{placed}
+use Rattle.format.specs.Lists.{_>>=_, consBoth, eachOf, anyOf, allOf, twice, provided, null}
 use Rattle.format.specs.Octets.{ascii, sameOctets, splitOn}
 use Rattle.format.specs.Field.{Part, Kind, Symbol, name, rrtype, bitmap, str, strs, raw, hex, hexc}
 use Rattle.format.specs.Grammar.{Qualifier, qualifier}
 use Rattle.format.specs.Types.{Takes, symbols, words, noWords, hasWord, nameKind, stringKind, unknownWord, symbolOf, wordOf, sameSymbol, allowed, Meaning, unknown, forbidden, means, orForbidden, meaningOf, typeRows, takesOf}
+use Rattle.format.proofs.Lists.{split-some, placed-some}
 use Rattle.qualifiers.specs.Qualifiers.{piecesIn, qualifiersIn, anyIn, twiceIn, wordsFor}
 use Rattle.qualifiers.specs.declared.Words.{Words}
 use Rattle.qualifiers.specs.declared.Words.the-variants.{Nothing, OnR, OnN, OnS, OnX}
@@ -113,19 +113,6 @@ words-once OnS s a b h k = let g = words-given OnS s a b h in rw (g .found, g .k
 words-once OnX s a b h k = let g = words-given OnX s a b h in rw (g .found, g .known, g .all, g .taken, g .once, k, g .some-given)
 
 -- a part has one qualifier at least
-some-split : (xs : List ℕ) → null (splitOn 44 xs) ≡ false
-some-split [] = refl
-some-split (x ∷ xs) = by (eqb x 44) (splitOn 44 xs) (some-split xs)
-  where
-    by : (b : Bool) (ts : List (List ℕ)) → null ts ≡ false → null (parting b x ts) ≡ false
-    by true ts h = refl
-    by false [] h = h
-    by false (t ∷ ts) h = refl
-
-some-piece : (a : ℕ) (ts : List (List ℕ)) → null ts ≡ false → null (placed a ts) ≡ false
-some-piece a [] h = h
-some-piece a (t ∷ ts) h = refl
-
 some-each : (ps : List Part) (qs : List Qualifier) → null ps ≡ false → eachOf qualifier ps ≡ some qs → null qs ≡ false
 some-each [] qs h e = absurd (true≢false h)
 some-each (p ∷ ps) qs h e = by (qualifier p) (eachOf qualifier ps) e
@@ -146,7 +133,7 @@ none-allowed k (q ∷ qs) h = by (wordOf q) (eachOf wordOf qs)
 
 -- a type that takes nothing, with some qualifier
 pub nothing-taken : (k : Kind) (s : List ℕ) (a b : ℕ) → meaningBy (λ qs. none) s a b ≡ qualifiedIn (some (noWords k)) s a b
-nothing-taken k s a b = as-refused (allowed (noWords k)) s a b (λ qs e. none-allowed k qs (some-each (piecesIn s a b) qs (some-piece a (splitOn 44 (slice a b s)) (some-split (slice a b s))) e))
+nothing-taken k s a b = as-refused (allowed (noWords k)) s a b (λ qs e. none-allowed k qs (some-each (piecesIn s a b) qs (placed-some a (splitOn 44 (slice a b s)) (split-some (λ x. eqb x 44) (slice a b s))) e))
 
 -- a kind without symbols is the same with none of them
 pub plain-kind : (s : List ℕ) (a : ℕ) (f : Form) → some (means (kindIn s a a f)) ≡ some (means (kindOf [] f))
