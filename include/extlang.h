@@ -41,8 +41,8 @@ static inline uint32_t extlang_place(uint64_t answer)
  *
  * Number 0: accepted; the lower half counts its fields, 1 to 64.
  * Number 1: it has more than 8,192 octets; the place is 0.
- * Number 2: a line breaks the grammar; or no line does, and there is no header
- *           or no field line: the place is then 0.
+ * Number 2: a line breaks the grammar; or no line is faulty, and there is no
+ *           header or no field line: the place is then 0.
  * Number 3: a field type or a qualifier is unknown, or the type is Z.
  * Number 4: the line's parts are known, but not allowed there.
  * Number 5: it has a 65th field line.
