@@ -4,6 +4,7 @@ use mathlib.Core.Path.{_≡_}
 use mathlib.Core.Bool.{Bool, true, false, cond}
 use mathlib.Core.List.{List, [], _∷_}
 use mathlib.Core.Option.{Option, none, some}
+use lib.ListN.{length}
 use lib.Seq.{slice}
 use lib.Dec.{eqb, leb}
 use lib.Bits.{bitOr}
@@ -11,7 +12,7 @@ use Rattle.format.specs.Lists.{_>>=_, eachOf, anyOf, null}
 use Rattle.format.specs.Octets.{ascii}
 use Rattle.format.specs.Field.{Symbol, NameMarks, Kind, int, rrtype, bitmap, a4, aa, aaaa, name, str, strs, raw, b32, b64, hex, hexc, eui, time}
 use Rattle.format.specs.Grammar.{Qualifier, qualifier}
-use Rattle.format.specs.Types.{Takes, symbols, words, noWords, nameKind, stringKind, unknownWord, symbolOf, allowed, Meaning, unknown, forbidden, means, orForbidden, meaningOf, meaning}
+use Rattle.format.specs.Types.{TypeRow, Takes, symbols, words, noWords, nameKind, stringKind, unknownWord, symbolOf, allowed, Meaning, unknown, forbidden, means, orForbidden, meaningOf, meaning}
 use Rattle.qualifiers.specs.Qualifiers.{piecesIn, qualifiersIn, anyIn}
 use Rattle.qualifiers.specs.declared.Words.{Words}
 use Rattle.qualifiers.specs.declared.Words.the-variants.{Nothing, OnR, OnN, OnS, OnX}
@@ -44,6 +45,14 @@ kindOf l Hexc = hexc
 kindOf l (Eui w) = eui w
 kindOf l Time = time
 
+-- the types that take words
+abbrev pub listed : Words → Takes
+listed Nothing = words [] (λ given. none)
+listed OnR = words (ascii "L" ∷ []) (λ given. some (cond (null given) rrtype bitmap))
+listed OnN = words (ascii "C" ∷ ascii "A" ∷ ascii "L" ∷ ascii "O" ∷ []) (λ given. some (nameKind given))
+listed OnS = words (ascii "M" ∷ ascii "X" ∷ []) stringKind
+listed OnX = words (ascii "C" ∷ []) (λ given. some (cond (null given) hex hexc))
+
 -- what a type takes
 abbrev pub takenBy : FieldType → Option Takes
 takenBy NoType = none
@@ -51,10 +60,15 @@ takenBy Int1 = some (symbols 1)
 takenBy Int2 = some (symbols 2)
 takenBy Int4 = some (symbols 4)
 takenBy (Plain k) = some (noWords (kindOf [] k))
-takenBy TypeR = some (words (ascii "L" ∷ []) (λ given. some (cond (null given) rrtype bitmap)))
-takenBy TypeN = some (words (ascii "C" ∷ ascii "A" ∷ ascii "L" ∷ ascii "O" ∷ []) (λ given. some (nameKind given)))
-takenBy TypeS = some (words (ascii "M" ∷ ascii "X" ∷ []) stringKind)
-takenBy TypeX = some (words (ascii "C" ∷ []) (λ given. some (cond (null given) hex hexc)))
+takenBy TypeR = some (listed OnR)
+takenBy TypeN = some (listed OnN)
+takenBy TypeS = some (listed OnS)
+takenBy TypeX = some (listed OnX)
+
+-- the rows of types of more than one letter
+abbrev pub longer : List TypeRow → List TypeRow
+longer [] = []
+longer (r ∷ rs) = cond (eqb (length (r .typeWord)) 1) (longer rs) (r ∷ longer rs)
 
 -- the octets of an integer
 abbrev pub intWidth : Form → ℕ
@@ -104,14 +118,6 @@ qualifiedIn t s a b = eachOf qualifier (piecesIn s a b) >>= λ qs. some (meaning
 -- what the type k is with the qualifiers from a to b
 abbrev pub meaningIn : List ℕ → List ℕ → ℕ → ℕ → Option Meaning
 meaningIn k s a b = qualifiersIn s a b >>= λ qs. some (meaning k qs)
-
--- the types that take words
-abbrev pub listed : Words → Takes
-listed Nothing = words [] (λ given. none)
-listed OnR = words (ascii "L" ∷ []) (λ given. some (cond (null given) rrtype bitmap))
-listed OnN = words (ascii "C" ∷ ascii "A" ∷ ascii "L" ∷ ascii "O" ∷ []) (λ given. some (nameKind given))
-listed OnS = words (ascii "M" ∷ ascii "X" ∷ []) stringKind
-listed OnX = words (ascii "C" ∷ []) (λ given. some (cond (null given) hex hexc))
 
 -- the marks of a name in one octet
 abbrev pub markOf : Bool → ℕ → ℕ

@@ -7,7 +7,7 @@ ghost use mathlib.Core.List.{List, [], _∷_};
 ghost use mathlib.Core.Option.{none, some};
 ghost use Rattle.format.specs.Octets.{sameOctets};
 ghost use Rattle.format.specs.Types.{typeRows, takesOf, allowed, symbols, meaningOf};
-ghost use Rattle.types.specs.Types.{takenBy, meantIn, meaningBy, qualifiedIn, meaningIn, listed, markOf, marksOf, nameForm, madeOf, MadeBy};
+ghost use Rattle.types.specs.Types.{takenBy, longer, meantIn, meaningBy, qualifiedIn, meaningIn, listed, markOf, marksOf, nameForm, madeOf, MadeBy};
 ghost use Rattle.qualifiers.specs.declared.Words.the-variants.{OnN, OnS};
 use qualifiers::Test;
 use qualifiers::Words;
@@ -70,7 +70,7 @@ enum ByLetter {
 }
 
 // Whether the text from a to e is the word w.
-pub fn is_word(s: &[u8], a: usize, e: usize, w: &[u8]) -> bool
+fn is_word(s: &[u8], a: usize, e: usize, w: &[u8]) -> bool
     requires { ⌜ (a ≤ e) × (e ≤ length (now s)) ⌝ }
     ensures { λ r. ⌜ r ≡ sameOctets (slice a e (now (s .entry))) (now (w .entry)) ⌝ }
 {
@@ -89,7 +89,7 @@ pub fn is_word(s: &[u8], a: usize, e: usize, w: &[u8]) -> bool
 }
 
 // The type from a to e. Those of one letter are told at once.
-pub fn type_of(s: &[u8], a: usize, e: usize) -> FieldType
+fn type_of(s: &[u8], a: usize, e: usize) -> FieldType
     requires { ⌜ (a ≤ e) × (e ≤ length (now s)) ⌝ }
     ensures { λ r. ⌜ takenBy r ≡ takesOf typeRows (slice a e (now (s .entry))) ⌝ }
 {
@@ -103,31 +103,31 @@ pub fn type_of(s: &[u8], a: usize, e: usize) -> FieldType
 fn letter_type(x: u8) -> FieldType
     ensures { λ r. ⌜ takenBy r ≡ takesOf typeRows (x ∷ []) ⌝ }
 {
-    if x == 78 {
+    if x == b'N' {
         return FieldType::TypeN;
     }
-    if x == 83 {
+    if x == b'S' {
         return FieldType::TypeS;
     }
-    if x == 65 {
+    if x == b'A' {
         return FieldType::Plain(Form::Dotted);
     }
-    if x == 88 {
+    if x == b'X' {
         return FieldType::TypeX;
     }
-    if x == 82 {
+    if x == b'R' {
         return FieldType::TypeR;
     }
-    if x == 84 {
+    if x == b'T' {
         return FieldType::Plain(Form::Time);
     }
     FieldType::NoType
 }
 
-// The type from a to e, by the table.
+// The type from a to e among those of more than one letter.
 fn word_type(s: &[u8], a: usize, e: usize) -> FieldType
     requires { ⌜ (a ≤ e) × (e ≤ length (now s)) ⌝ }
-    ensures { λ r. ⌜ takenBy r ≡ takesOf typeRows (slice a e (now (s .entry))) ⌝ }
+    ensures { λ r. ⌜ takenBy r ≡ takesOf (longer typeRows) (slice a e (now (s .entry))) ⌝ }
 {
     if is_word(s, a, e, b"I1") {
         return FieldType::Int1;
@@ -138,57 +138,17 @@ fn word_type(s: &[u8], a: usize, e: usize) -> FieldType
     if is_word(s, a, e, b"I4") {
         return FieldType::Int4;
     }
-    if is_word(s, a, e, b"R") {
-        return FieldType::TypeR;
-    }
-    after_r(s, a, e)
-}
-
-// The types after R in the table.
-fn after_r(s: &[u8], a: usize, e: usize) -> FieldType
-    requires { ⌜ (a ≤ e) × (e ≤ length (now s)) ⌝ }
-    ensures { λ r. ⌜ takenBy r ≡ takesOf (drop 4 typeRows) (slice a e (now (s .entry))) ⌝ }
-{
-    if is_word(s, a, e, b"A") {
-        return FieldType::Plain(Form::Dotted);
-    }
     if is_word(s, a, e, b"AA") {
         return FieldType::Plain(Form::Aa);
     }
     if is_word(s, a, e, b"AAAA") {
         return FieldType::Plain(Form::Aaaa);
     }
-    if is_word(s, a, e, b"N") {
-        return FieldType::TypeN;
-    }
-    after_n(s, a, e)
-}
-
-fn after_n(s: &[u8], a: usize, e: usize) -> FieldType
-    requires { ⌜ (a ≤ e) × (e ≤ length (now s)) ⌝ }
-    ensures { λ r. ⌜ takenBy r ≡ takesOf (drop 8 typeRows) (slice a e (now (s .entry))) ⌝ }
-{
-    if is_word(s, a, e, b"S") {
-        return FieldType::TypeS;
-    }
     if is_word(s, a, e, b"B32") {
         return FieldType::Plain(Form::Base32);
     }
     if is_word(s, a, e, b"B64") {
         return FieldType::Plain(Form::Base64);
-    }
-    if is_word(s, a, e, b"X") {
-        return FieldType::TypeX;
-    }
-    after_x(s, a, e)
-}
-
-fn after_x(s: &[u8], a: usize, e: usize) -> FieldType
-    requires { ⌜ (a ≤ e) × (e ≤ length (now s)) ⌝ }
-    ensures { λ r. ⌜ takenBy r ≡ takesOf (drop 12 typeRows) (slice a e (now (s .entry))) ⌝ }
-{
-    if is_word(s, a, e, b"T") {
-        return FieldType::Plain(Form::Time);
     }
     if is_word(s, a, e, b"EUI48") {
         return FieldType::Plain(Form::Eui(6));

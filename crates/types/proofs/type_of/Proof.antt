@@ -1,6 +1,8 @@
 use mathlib.Core.Path.{sym, ap, _∙_}
 use Rattle.format.specs.Types.{typeRows, takesOf}
+use lib.Seq.{slice, length-slice}
 use Rattle.qualifiers.proofs.Laws.{letter-word}
+use Rattle.types.proofs.Laws.{longer-only}
 use native.Mathlib.Omega.{arith}
 use borrow.Author.Needs.{needs}
 use Rattle.types.proofs.type_of.Statement.{statement}
@@ -22,7 +24,7 @@ word-type-requires : tie.Need-word-type-requires
 word-type-requires c κs = search needs
 
 returns-2 : tie.Need-returns-2
-returns-2 c = search needs
+returns-2 c = c .word-type .ensures ∙ sym (longer-only typeRows (slice (c .before .before .before .args .a) (c .before .before .before .args .e) (c .before .before .before .args .s .now)) (λ q. c .before .if1 .left (sym (length-slice (c .before .before .before .args .a) (c .before .before .before .args .e) (c .before .before .before .args .s .now) (c .before .before .before .pre .1)) ∙ q)))
 
 pub type-of-spec : {M : Type 1} → statement M
 type-of-spec =
