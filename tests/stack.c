@@ -15,7 +15,8 @@ struct call {
     const char *text;
 };
 
-static uint8_t rdata[65535], text_out[ROOM], words[ROOM];
+static uint8_t rdata[65535], text_out[ROOM];
+static char word[2001], types[4001];
 static const uint8_t root[] = {0};
 static uint64_t answer;
 
@@ -61,7 +62,10 @@ static size_t depth(void *(*run)(void *), struct call *c)
 int main(void)
 {
     static const char *names[] = {"", "judging", "reading", "printing"};
-    memset(words, 'a', 2000); /* a text that goes through the longer array */
+    /* texts that go through the longer array */
+    memset(word, 'a', sizeof word - 1);
+    for (size_t i = 0; i + 10 < sizeof types; i += 10)
+        snprintf(types + i, 11, "TYPE%05u ", (unsigned)i);
     struct call calls[] = {
         {0, "DOOR:65280:I Door timing\n I2:opening Tenths\n I2:dwell Tenths\n I1[STEP=1,HOLD=2]:mode Mode\n N:site Site\n", "30 70 HOLD lobby"},
         {0, "T:1\n N[C,A]\n R[L]\n", "a.b. TYPE1 TYPE28 TYPE65535"},
@@ -69,7 +73,8 @@ int main(void)
         {0, "T:1\n B32\n X[C]\n B64\n", "VS 00FF /w=="},
         {0, "T:1\n S\n X\n", "\"a\\255\" 00 FF"},
         {0, "T:1\n S\n S[M]\n", "a \"b c\" 'd'"},
-        {0, "T:1\n S[X]\n", (const char *)words},
+        {0, "T:1\n S[X]\n", word},
+        {0, "T:1\n R[L]\n", types},
         {0, "T:1\n N[O]\n", "@"},
     };
     /* once here, so that the loader has found every function of the C library before a stack is looked at */
