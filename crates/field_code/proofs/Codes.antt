@@ -1,9 +1,10 @@
 -- A code and its parts, and the fields of codes by their numbers.
 use Prim.Native.Nat.{ℕ, zero, suc, _+_, _*_, _/_, _%_, _<_}
-use mathlib.Core.Path.{_≡_, refl, ap}
+use mathlib.Core.Path.{_≡_, refl, ap, _∙_}
 use mathlib.Core.List.{List, [], _∷_}
 use native.Mathlib.Omega.{arith}
 use lib.ListN.{length, getD, set}
+use Rattle.types.specs.declared.FieldDesc.{FieldDesc}
 use Rattle.types.specs.Fields.{noField}
 use Rattle.field_code.specs.Code.{formAt, fieldWith, fieldAt, fieldsOf}
 
@@ -41,7 +42,32 @@ pub codes-many : (cs : List ℕ) → length (fieldsOf cs) ≡ length cs
 codes-many [] = refl
 codes-many (c ∷ cs) = ap suc (codes-many cs)
 
-pub fields-set : (cs : List ℕ) (k c : ℕ) → fieldsOf (set cs k c) ≡ set (fieldsOf cs) k (fieldAt c)
+fields-set : (cs : List ℕ) (k c : ℕ) → fieldsOf (set cs k c) ≡ set (fieldsOf cs) k (fieldAt c)
 fields-set [] k c = refl
 fields-set (x ∷ cs) zero c = refl
 fields-set (x ∷ cs) (suc k) c = ap (λ l. fieldAt x ∷ l) (fields-set cs k c)
+
+-- codes of fields: the same fields but for their texts
+abbrev pub withoutText : FieldDesc → FieldDesc
+withoutText d = fieldWith (d .form) (d .«qualifiers_at») (d .«qualifiers_end»)
+
+abbrev pub withoutTexts : List FieldDesc → List FieldDesc
+withoutTexts [] = []
+withoutTexts (d ∷ ds) = withoutText d ∷ withoutTexts ds
+
+pub coded-start : (cs : List ℕ) → fieldsOf cs ≡ withoutTexts (fieldsOf cs)
+coded-start [] = refl
+coded-start (c ∷ cs) = ap (λ l. fieldAt c ∷ l) (coded-start cs)
+
+pub coded-at : (ds : List FieldDesc) (k : ℕ) → getD (withoutTexts ds) k noField ≡ withoutText (getD ds k noField)
+coded-at [] k = refl
+coded-at (d ∷ ds) zero = refl
+coded-at (d ∷ ds) (suc k) = coded-at ds k
+
+coded-set : (ds : List FieldDesc) (k : ℕ) (d : FieldDesc) → set (withoutTexts ds) k (withoutText d) ≡ withoutTexts (set ds k d)
+coded-set [] k d = refl
+coded-set (x ∷ ds) zero d = refl
+coded-set (x ∷ ds) (suc k) d = ap (λ l. withoutText x ∷ l) (coded-set ds k d)
+
+pub coded-more : (cs : List ℕ) (ds : List FieldDesc) (k c : ℕ) (d : FieldDesc) → fieldsOf cs ≡ withoutTexts ds → fieldAt c ≡ withoutText d → fieldsOf (set cs k c) ≡ withoutTexts (set ds k d)
+coded-more cs ds k c d e f = fields-set cs k c ∙ rw (e, f) (coded-set ds k d)

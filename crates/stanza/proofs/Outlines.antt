@@ -15,7 +15,7 @@ use Rattle.format.specs.Lists.{anyOf, null, span}
 use Rattle.format.specs.Octets.{blank, inRange}
 use Rattle.format.specs.Grammar.{Header, FieldLine, headerLine, fieldLine}
 use Rattle.format.specs.Types.{Meaning, unknown, forbidden, means, meaning}
-use Rattle.format.specs.Field.{Part, Field, tail}
+use Rattle.format.specs.Field.{Part, Field, kinds, tail}
 use Rattle.format.specs.Lines.{lines}
 use Rattle.format.specs.Judge.{Description, Progress, beforeHeader, afterHeader, Verdict, faulty, goesOn, afterTail, sameName, withField, ofMeaning, ofFieldLine, ofHeader, contentLine, ignored, lineVerdict, rejected, described, atEnd, afterLine, judgedFrom, judged}
 use Rattle.octets.specs.Octets.{inClass, lineEnd, partIn}
@@ -25,6 +25,8 @@ use Rattle.octets.proofs.Lines.{linesFrom, next-line, no-line}
 use Rattle.types.specs.declared.FieldDesc.{FieldDesc}
 use Rattle.types.specs.Types.{kindIn}
 use Rattle.types.specs.Fields.{fieldOf, Placed, noField, fieldsFrom}
+use Rattle.field_code.specs.Code.{fieldsOf}
+use Rattle.field_code.proofs.Codes.{withoutText, withoutTexts, coded-at}
 use Rattle.verdict.specs.declared.HeaderDesc.{HeaderDesc}
 use Rattle.verdict.specs.declared.NewField.{NewField}
 use Rattle.verdict.specs.declared.Step.{Step}
@@ -227,9 +229,27 @@ judged-long : (s : List ℕ) → 8192 < length s → judged s ≡ rejected 1 0
 unfolding judged
 judged-long s h = rw (lt-leb (length s) 8192 h)
 
+-- the kinds of the codes' fields, and their places
+module _ (s codes : List ℕ) (fs : List FieldDesc) (e : fieldsOf codes ≡ withoutTexts fs) where
+  coded-field : (k : ℕ) → getD (fieldsOf codes) k noField ≡ withoutText (getD fs k noField)
+  coded-field k = ap (λ ds. getD ds k noField) e ∙ coded-at fs k
+
+  coded-kinds : (names ends : List ℕ) (k m : ℕ) → kinds (fieldsFrom s fs names ends k m) ≡ kinds (fieldsFrom s (fieldsOf codes) [] [] k m)
+  coded-kinds names ends k zero = refl
+  coded-kinds names ends k (suc m) = rw (coded-field k, coded-kinds names ends (k + 1) m)
+
+  coded-placed : (n : ℕ) → AllPlaced s fs n → AllPlaced s (fieldsOf codes) n
+  coded-placed n p k l = subst (Placed s) (sym (coded-field k)) (record { from = p k l .from; to = p k l .to; listed = p k l .listed })
+
 -- an outline of a refusal
-refused-outlined : (s : List ℕ) (o : Outline) (number line : ℕ) → (o .number ≡ number) × (o .line ≡ line) → 1 ≤ number → rejected number line ≡ judged s → Outlined s o
-refused-outlined s o number line q h j = record { judges = rw (q .0, q .1, ne-eqb number 0 (λ z. omega arith)) j; placed = λ z. absurd (omega (arith, q .0)) }
+refused-outlined : (s codes : List ℕ) (o : Outline) (d : Description) → kinds (d .fields) ≡ kinds (fieldsFrom s (fieldsOf codes) [] [] 0 (o .count))
+    → (number line : ℕ) → (o .number ≡ number) × (o .line ≡ line) → 1 ≤ number → rejected number line ≡ judged s → Outlined s codes o
+refused-outlined s codes o d e number line q h j = record {
+  found = d;
+  judges = rw (q .0, q .1, ne-eqb number 0 (λ z. omega arith)) j;
+  coded = e;
+  placed = λ z. absurd (omega (arith, q .0));
+}
 
 -- What is told after `line` lines: nothing so far, and how things stand; or a refusal's number and place, and no line is left.
 pub record Judging (s : List ℕ) (h : HeaderDesc) (fs : List FieldDesc) (names ends : List ℕ) (n : ℕ) (have last : Bool) (number place at line : ℕ) : Type 0 where
@@ -243,6 +263,10 @@ pub record Judging (s : List ℕ) (h : HeaderDesc) (fs : List FieldDesc) (names 
   pub no-place : number ≡ 0 → place ≡ 0
   pub kept : number ≡ 0 → Kept s h fs names ends n have last at (line + 1)
   pub told : 1 ≤ number → (rejected number place ≡ judged s) × (length s ≤ at)
+
+-- before any line there is no header
+abbrev pub noHeader : HeaderDesc
+noHeader = record { «name_at» = 0; «name_end» = 0; number = 0; «text_at» = 0; «text_end» = 0 }
 
 pub judging-start : (s : List ℕ) (h : HeaderDesc) (fs : List FieldDesc) (names ends : List ℕ) → length fs ≡ 64 → length names ≡ 64 → length ends ≡ 64
     → (r : ℕ) → (length s ≤ 8192 → r ≡ 0) × (8192 < length s → r ≡ 1) → (a : ℕ) → (r ≡ 0 → a ≡ 0) × (1 ≤ r → a ≡ length s) → Judging s h fs names ends 0 false false r 0 a 0
@@ -354,14 +378,23 @@ module _ {s : List ℕ} {h : HeaderDesc} {fs : List FieldDesc} {names ends : Lis
           }
 
 -- after the last turn: the outline
-pub judging-end : {s : List ℕ} {h : HeaderDesc} {fs : List FieldDesc} {names ends : List ℕ} {n : ℕ} {have last : Bool} {number place at line : ℕ}
-    → Judging s h fs names ends n have last number place at line → length s ≤ at → (r : ℕ) → (1 ≤ number → r ≡ number) × (number ≡ 0 → 1 ≤ n → r ≡ 0) × (number ≡ 0 → n ≡ 0 → r ≡ 2)
-    → Outlined s (record { number = r; line = place; header = h; fields = fs; names = names; ends = ends; count = n })
-judging-end {s} {h} {fs} {names} {ends} {n} {number = number} {place = place} j m r q = by number refl n refl
+pub judging-end : {s codes : List ℕ} {h : HeaderDesc} {fs : List FieldDesc} {names ends : List ℕ} {n : ℕ} {have last : Bool} {number place at line : ℕ}
+    → Judging s h fs names ends n have last number place at line → fieldsOf codes ≡ withoutTexts fs → length s ≤ at
+    → (r : ℕ) → (1 ≤ number → r ≡ number) × (number ≡ 0 → 1 ≤ n → r ≡ 0) × (number ≡ 0 → n ≡ 0 → r ≡ 2) → Outlined s codes (record { number = r; line = place; count = n })
+judging-end {s} {codes} {h} {fs} {names} {ends} {n} {number = number} {place = place} j c m r q = by number refl n refl
   where
-    by : (k : ℕ) → number ≡ k → (i : ℕ) → n ≡ i → Outlined s (record { number = r; line = place; header = h; fields = fs; names = names; ends = ends; count = n })
-    by (suc k) z i y = refused-outlined s _ number place (q .0 (omega arith), refl) (omega arith) (j .told (omega arith) .0)
-    by zero z zero y = refused-outlined s _ 2 0 (q .2 z y, j .no-place z) (omega arith) (no-fields (j .kept z) m y ∙ sym (judged-lines s (j .short z)))
+    alike : kinds (fieldsFrom s fs names ends 0 n) ≡ kinds (fieldsFrom s (fieldsOf codes) [] [] 0 n)
+    alike = coded-kinds s codes fs c names ends 0 n
+
+    by : (k : ℕ) → number ≡ k → (i : ℕ) → n ≡ i → Outlined s codes (record { number = r; line = place; count = n })
+    by (suc k) z i y = refused-outlined s codes _ (soFar s h fs names ends n) alike number place (q .0 (omega arith), refl) (omega arith) (j .told (omega arith) .0)
+    by zero z zero y =
+        refused-outlined s codes _ (soFar s h fs names ends n) alike 2 0 (q .2 z y, j .no-place z) (omega arith) (no-fields (j .kept z) m y ∙ sym (judged-lines s (j .short z)))
     by zero z (suc i) y =
         let e : r ≡ 0 = q .1 z (omega arith) in
-        record { judges = rw e (some-fields (j .kept z) m (λ x. omega arith) ∙ sym (judged-lines s (j .short z))); placed = λ x. j .kept z .placed }
+        record {
+          found = soFar s h fs names ends n;
+          judges = rw e (some-fields (j .kept z) m (λ x. omega arith) ∙ sym (judged-lines s (j .short z)));
+          coded = alike;
+          placed = λ x. coded-placed s codes fs c n (j .kept z .placed);
+        }

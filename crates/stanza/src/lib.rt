@@ -1,43 +1,15 @@
 // The judge of a stanza, and the description that it finds.
 ghost use Prim.Native.Nat.{_≤_, _<_};
 ghost use mathlib.Core.Path.{_≡_};
+ghost use lib.ListN.{length};
 ghost use Rattle.stanza.specs.Stanza.{Outlined};
-use types::FieldDesc;
-use types::Form;
-use verdict::HeaderDesc;
 use verdict::Step;
 
-// A judged stanza: 0, or a refusal's number and line; and its description.
+// A judged stanza: 0, or a refusal's number and line; and how many fields it describes.
 pub struct Outline {
     pub number: u8,
     pub line: u16,
-    pub header: HeaderDesc,
-    pub fields: [FieldDesc; 64],
-    pub names: [u16; 64],
-    pub ends: [u16; 64],
     pub count: usize,
-}
-
-// A header before any line is read.
-fn no_header() -> HeaderDesc {
-    HeaderDesc {
-        name_at: 0,
-        name_end: 0,
-        number: 0,
-        text_at: 0,
-        text_end: 0,
-    }
-}
-
-// A field of zeros alone, so that an array of it is cleared at once.
-fn no_field() -> FieldDesc {
-    FieldDesc {
-        form: Form::Int(0),
-        qualifiers_at: 0,
-        qualifiers_end: 0,
-        text_at: 0,
-        text_end: 0,
-    }
 }
 
 // What is told of a stanza of n octets before its lines: 1, or 0.
@@ -66,13 +38,11 @@ fn at_end(number: u8, n: usize) -> u8
     number
 }
 
-// The judged stanza. There is one way out, so that the arrays are copied as a whole.
-pub fn judged_outline(s: &[u8]) -> Outline
-    ensures { λ r. ⌜ Outlined (now (s .entry)) r ⌝ }
+// The judged stanza, and the codes of its fields in an array of the caller's.
+pub fn judged_outline(s: &[u8], codes: &mut [u64; 64]) -> Outline
+    requires { ⌜ length (now codes) ≡ 64 ⌝ }
+    ensures { λ r. ⌜ Outlined (now (s .entry)) (now (codes .exit)) r ⌝ }
 {
-    let mut header = no_header();
-    let nothing = no_field();
-    let mut fields = [nothing; 64];
     let mut names = [0u16; 64];
     let mut ends = [0u16; 64];
     let mut n = 0;
@@ -95,14 +65,13 @@ pub fn judged_outline(s: &[u8]) -> Outline
                 // no line after it is judged
                 at = s.len();
             }
-            Step::Head(h) => {
-                header = h;
+            Step::Head(_) => {
                 have = true;
             }
             Step::Add(x) => {
                 let f = x.field;
                 let form = f.form;
-                fields[n] = f;
+                codes[n] = field_code::code(form, f.qualifiers_at, f.qualifiers_end);
                 names[n] = x.name_at;
                 ends[n] = x.name_end;
                 last = verdict::tail_after(last, form);
@@ -113,10 +82,6 @@ pub fn judged_outline(s: &[u8]) -> Outline
     Outline {
         number: at_end(number, n),
         line: place,
-        header: header,
-        fields: fields,
-        names: names,
-        ends: ends,
         count: n,
     }
 }
