@@ -1,6 +1,6 @@
 -- A code and its parts, and the fields of codes by their numbers.
 use Prim.Native.Nat.{ℕ, zero, suc, _+_, _*_, _/_, _%_, _<_}
-use mathlib.Core.Path.{_≡_, refl, ap, _∙_}
+use mathlib.Core.Path.{_≡_, refl, sym, ap, _∙_}
 use mathlib.Core.List.{List, [], _∷_}
 use native.Mathlib.Omega.{arith}
 use lib.ListN.{length, getD, set}
@@ -32,11 +32,15 @@ pub no-code : fieldAt 0 ≡ noField
 unfolding formAt
 no-code = refl
 
-pub field-at : (cs : List ℕ) (k : ℕ) → getD (fieldsOf cs) k noField ≡ fieldAt (getD cs k 0)
+field-at : (cs : List ℕ) (k : ℕ) → getD (fieldsOf cs) k noField ≡ fieldAt (getD cs k 0)
 unfolding formAt
 field-at [] k = refl
 field-at (c ∷ cs) zero = refl
 field-at (c ∷ cs) (suc k) = field-at cs k
+
+-- the field that is read at a number
+pub read-at : (cs : List ℕ) (k : ℕ) {d : FieldDesc} → d ≡ fieldAt (getD cs k 0) → d ≡ getD (fieldsOf cs) k noField
+read-at cs k e = e ∙ sym (field-at cs k)
 
 pub codes-many : (cs : List ℕ) → length (fieldsOf cs) ≡ length cs
 codes-many [] = refl

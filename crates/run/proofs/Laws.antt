@@ -103,24 +103,24 @@ module _ {ks : List Kind} {xs : List ℕ} {ls : List Kind} {ys : List ℕ} {k : 
   unfolding partsOf
   ahead-done q = a .accepts [] (rw (e, q))
 
--- a turn of the loop over a run: k fields are gone and the octets from `at` on are left, of which the next field takes t
-module _ (fs : List FieldDesc) (first many : ℕ) (p : List ℕ) (k at : ℕ) (t : Take)
+-- a turn of the loop over a run: k fields are gone and the octets from `at` on are left, of which the next field, d, takes t
+module _ (fs : List FieldDesc) (first many : ℕ) (p : List ℕ) (k at : ℕ) (t : Take) (d : FieldDesc) (e : d ≡ getD fs (first + k) noField)
     (a : (s : List ℕ) → Ahead (kindsFrom s fs first many) p (kindsFrom s fs (first + k) (many - k)) (drop at p) k) (h : k < many)
-    (g : (l : List Symbol) → takenIn t ≡ taken (start (kindOf l (getD fs (first + k) noField .form))) (slice at (length p) p)) where
+    (g : (l : List Symbol) → takenIn t ≡ taken (start (kindOf l (d .form))) (slice at (length p) p)) where
   here : (s : List ℕ) → taken (start (kindFor s (getD fs (first + k) noField))) (drop at p) ≡ takenIn t
-  here s = ap (taken (start (kindFor s (getD fs (first + k) noField)))) (sym (to-end p at)) ∙ sym (g (orNone (symbolsIn (intWidth (getD fs (first + k) noField .form)) s (getD fs (first + k) noField .«qualifiers_at») (getD fs (first + k) noField .«qualifiers_end»))))
+  here s = rw (← e) (ap (taken (start (kindFor s d))) (sym (to-end p at)) ∙ sym (g (orNone (symbolsIn (intWidth (d .form)) s (d .«qualifiers_at») (d .«qualifiers_end»)))))
 
   pub turn-short : t ≡ Short → (s : List ℕ) → partsOf (kindsFrom s fs first many) p ≡ refused 8 (k + 1)
-  turn-short e s = ahead-short (a s) _ _ (next-kind s fs first many k h) (here s ∙ ap takenIn e)
+  turn-short q s = ahead-short (a s) _ _ (next-kind s fs first many k h) (here s ∙ ap takenIn q)
 
   pub turn-bad : t ≡ Bad → (s : List ℕ) → partsOf (kindsFrom s fs first many) p ≡ refused 9 (k + 1)
-  turn-bad e s = ahead-bad (a s) _ _ (next-kind s fs first many k h) (here s ∙ ap takenIn e)
+  turn-bad q s = ahead-bad (a s) _ _ (next-kind s fs first many k h) (here s ∙ ap takenIn q)
 
-  module _ (w : ℕ) (e : t ≡ Took w) where
+  module _ (w : ℕ) (q : t ≡ Took w) where
     pub turn-within : at ≤ length p → at + w ≤ length p
-    turn-within l = omega (arith, fits (start (kindFor [] (getD fs (first + k) noField))) (drop at p) w (here [] ∙ ap takenIn e), length-drop at p)
+    turn-within l = omega (arith, fits (start (kindFor [] (getD fs (first + k) noField))) (drop at p) w (here [] ∙ ap takenIn q), length-drop at p)
 
     pub turn-took : (s : List ℕ) → Ahead (kindsFrom s fs first many) p (kindsFrom s fs (first + (k + 1)) (many - (k + 1))) (drop (at + w) p) (k + 1)
     turn-took s =
         subst (λ ys. Ahead (kindsFrom s fs first many) p (kindsFrom s fs (first + (k + 1)) (many - (k + 1))) ys (k + 1)) (drop-drop w at p)
-        (ahead-took (a s) _ _ (next-kind s fs first many k h) w (here s ∙ ap takenIn e))
+        (ahead-took (a s) _ _ (next-kind s fs first many k h) w (here s ∙ ap takenIn q))

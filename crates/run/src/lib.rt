@@ -2,8 +2,8 @@
 ghost use Prim.Native.Nat.{ℕ, _+_, _≤_};
 ghost use mathlib.Core.List.{List};
 ghost use lib.ListN.{length};
+ghost use Rattle.field_code.specs.Code.{fieldsOf};
 ghost use Rattle.run.specs.Run.{kindsFrom, Checks};
-use types::FieldDesc;
 use wire::Take;
 
 // What a run makes of RDATA: its fields take it all, or a refusal's number and place.
@@ -13,14 +13,14 @@ pub enum Checked {
 }
 
 // The fields from number first on, so many, taken from the left.
-pub fn check(fields: [FieldDesc; 64], first: usize, many: usize, p: &[u8]) -> Checked
+pub fn check(codes: &[u64; 64], first: usize, many: usize, p: &[u8]) -> Checked
     requires { ⌜ (first + many ≤ 64) × (length (now p) ≤ 65535) ⌝ }
-    ensures { λ r. ⌜ ((s : List ℕ) → Checks (kindsFrom s fields first many) (now (p .entry)) r) ⌝ }
+    ensures { λ r. ⌜ ((s : List ℕ) → Checks (kindsFrom s (fieldsOf (now (codes .entry))) first many) (now (p .entry)) r) ⌝ }
 {
     let mut k = 0;
     let mut at = 0;
     while k < many {
-        let d = fields[first + k];
+        let d = field_code::field(codes[first + k]);
         let form = d.form;
         let t = wire::take_field(form, p, at, p.len());
         match t {

@@ -5,31 +5,37 @@ use lib.ListN.{length, drop, length-drop, drop-of-length-le}
 use Rattle.format.specs.Run.{refused, partsOf}
 use Rattle.run.specs.Run.{kindsFrom}
 use Rattle.run.proofs.Laws.{Ahead, all-kinds, no-kind, ahead-start, ahead-over, ahead-done, turn-short, turn-bad, turn-within, turn-took}
+use Rattle.field_code.specs.Code.{fieldsOf}
+use Rattle.field_code.proofs.Codes.{read-at}
 use native.Mathlib.Omega.{arith}
 use borrow.Author.Needs.{needs}
 use Rattle.run.proofs.check.Statement.{statement}
 use Rattle.run.proofs.check.Tie as tie
 use Rattle.run.proofs.check.Reads as reads
 use Rattle.run.proofs.check.Lts as lts
+use Rattle.field_code.proofs.field.Reads as field-reads
 use Rattle.wire.proofs.take_field.Reads as take-field-reads
 
 abbrev Inv-loop : tie.InvT-loop
-Inv-loop first many p fields k₀ at₀ k at = (k ≤ many) × (at ≤ length p) × ((s : List ℕ) → Ahead (kindsFrom s fields first many) p (kindsFrom s fields (first + k) (many - k)) (drop at p) k)
+Inv-loop codes first many p k₀ at₀ k at = (k ≤ many) × (at ≤ length p) × ((s : List ℕ) → Ahead (kindsFrom s (fieldsOf codes) first many) p (kindsFrom s (fieldsOf codes) (first + k) (many - k)) (drop at p) k)
 
 abbrev μ-loop : tie.MeasureT-loop
-μ-loop first many p fields k₀ at₀ k at = many - k
+μ-loop codes first many p k₀ at₀ k at = many - k
 
 loop-holds : tie.Need-loop-holds Inv-loop μ-loop
-loop-holds c = (search needs, search needs, λ s. subst (λ ks. Ahead (kindsFrom s (c .before .args .t1) (c .before .args .first) (c .before .args .many)) (c .before .args .p .now) ks (c .before .args .p .now) 0) (sym (all-kinds s (c .before .args .t1) (c .before .args .first) (c .before .args .many))) (ahead-start _ _))
+loop-holds c = (search needs, search needs, λ s. subst (λ ks. Ahead (kindsFrom s (fieldsOf (c .before .args .codes .now)) (c .before .args .first) (c .before .args .many)) (c .before .args .p .now) ks (c .before .args .p .now) 0) (sym (all-kinds s (fieldsOf (c .before .args .codes .now)) (c .before .args .first) (c .before .args .many))) (ahead-start _ _))
 
-add-d : tie.Need-add-d Inv-loop μ-loop
-add-d c = search needs
+add-field : tie.Need-add-field Inv-loop μ-loop
+add-field c = search needs
 
-mul-d : tie.Need-mul-d Inv-loop μ-loop
-mul-d c = search needs
+mul-field : tie.Need-mul-field Inv-loop μ-loop
+mul-field c = search needs
 
-array-copy-out-d : tie.Need-array-copy-out-d Inv-loop μ-loop
-array-copy-out-d c = search needs
+element-copy-out-field : tie.Need-element-copy-out-field Inv-loop μ-loop
+element-copy-out-field c = search needs
+
+field-requires : tie.Need-field-requires Inv-loop μ-loop
+field-requires c κs = search needs
 
 take-field-requires : tie.Need-take-field-requires Inv-loop μ-loop
 take-field-requires c κs = search needs
@@ -37,32 +43,32 @@ take-field-requires c κs = search needs
 enum-told : tie.Need-enum-told Inv-loop μ-loop
 enum-told c = search needs
 
-cast-t18 : tie.Need-cast-t18 Inv-loop μ-loop
-cast-t18 c = search needs
+cast-t17 : tie.Need-cast-t17 Inv-loop μ-loop
+cast-t17 c = search needs
 
-add-t19 : tie.Need-add-t19 Inv-loop μ-loop
-add-t19 c = search needs
+add-t18 : tie.Need-add-t18 Inv-loop μ-loop
+add-t18 c = search needs
 
 returns : tie.Need-returns Inv-loop μ-loop
-returns c = turn-short (c .before .before .before .before .before .before .before .args .t1) (c .before .before .before .before .before .before .before .args .first) (c .before .before .before .before .before .before .before .args .many) (c .before .before .before .before .before .before .before .args .p .now) (c .before .before .before .before .before .loop .k) (c .before .before .before .before .before .loop .at) (c .before .before .take-field .result) (c .before .before .before .before .before .loop .inv .2) (c .before .before .before .before .loop-test .taken) (c .before .before .take-field .ensures) (c .enum-told .given .1)
+returns c = turn-short (fieldsOf (c .before .before .before .before .before .before .before .before .args .codes .now)) (c .before .before .before .before .before .before .before .before .args .first) (c .before .before .before .before .before .before .before .before .args .many) (c .before .before .before .before .before .before .before .before .args .p .now) (c .before .before .before .before .before .before .loop .k) (c .before .before .before .before .before .before .loop .at) (c .before .before .take-field .result) (c .before .before .before .field .result) (read-at (c .before .before .before .before .before .before .before .before .args .codes .now) _ (c .before .before .before .field .ensures)) (c .before .before .before .before .before .before .loop .inv .2) (c .before .before .before .before .before .loop-test .taken) (c .before .before .take-field .ensures) (c .enum-told .given .1)
 
 enum-told-2 : tie.Need-enum-told-2 Inv-loop μ-loop
 enum-told-2 c = search needs
 
-cast-t20 : tie.Need-cast-t20 Inv-loop μ-loop
-cast-t20 c = search needs
+cast-t19 : tie.Need-cast-t19 Inv-loop μ-loop
+cast-t19 c = search needs
 
-add-t21 : tie.Need-add-t21 Inv-loop μ-loop
-add-t21 c = search needs
+add-t20 : tie.Need-add-t20 Inv-loop μ-loop
+add-t20 c = search needs
 
 returns-2 : tie.Need-returns-2 Inv-loop μ-loop
-returns-2 c = turn-bad (c .before .before .before .before .before .before .before .args .t1) (c .before .before .before .before .before .before .before .args .first) (c .before .before .before .before .before .before .before .args .many) (c .before .before .before .before .before .before .before .args .p .now) (c .before .before .before .before .before .loop .k) (c .before .before .before .before .before .loop .at) (c .before .before .take-field .result) (c .before .before .before .before .before .loop .inv .2) (c .before .before .before .before .loop-test .taken) (c .before .before .take-field .ensures) (c .enum-told2 .given .1)
+returns-2 c = turn-bad (fieldsOf (c .before .before .before .before .before .before .before .before .args .codes .now)) (c .before .before .before .before .before .before .before .before .args .first) (c .before .before .before .before .before .before .before .before .args .many) (c .before .before .before .before .before .before .before .before .args .p .now) (c .before .before .before .before .before .before .loop .k) (c .before .before .before .before .before .before .loop .at) (c .before .before .take-field .result) (c .before .before .before .field .result) (read-at (c .before .before .before .before .before .before .before .before .args .codes .now) _ (c .before .before .before .field .ensures)) (c .before .before .before .before .before .before .loop .inv .2) (c .before .before .before .before .before .loop-test .taken) (c .before .before .take-field .ensures) (c .enum-told2 .given .1)
 
 enum-known-t : tie.Need-enum-known-t Inv-loop μ-loop
 enum-known-t c = search needs
 
 add-at : tie.Need-add-at Inv-loop μ-loop
-add-at c = omega (arith, turn-within (c .before .before .before .before .before .before .before .before .args .t1) (c .before .before .before .before .before .before .before .before .args .first) (c .before .before .before .before .before .before .before .before .args .many) (c .before .before .before .before .before .before .before .before .args .p .now) (c .before .before .before .before .before .before .loop .k) (c .before .before .before .before .before .before .loop .at) (c .before .before .before .take-field .result) (c .before .before .before .before .before .before .loop .inv .2) (c .before .before .before .before .before .loop-test .taken) (c .before .before .before .take-field .ensures) (c .before .t .given .0 .0) (c .before .t .given .1) (c .before .before .before .before .before .before .loop .inv .1))
+add-at c = omega (arith, turn-within (fieldsOf (c .before .before .before .before .before .before .before .before .before .args .codes .now)) (c .before .before .before .before .before .before .before .before .before .args .first) (c .before .before .before .before .before .before .before .before .before .args .many) (c .before .before .before .before .before .before .before .before .before .args .p .now) (c .before .before .before .before .before .before .before .loop .k) (c .before .before .before .before .before .before .before .loop .at) (c .before .before .before .take-field .result) (c .before .before .before .before .field .result) (read-at (c .before .before .before .before .before .before .before .before .before .args .codes .now) _ (c .before .before .before .before .field .ensures)) (c .before .before .before .before .before .before .before .loop .inv .2) (c .before .before .before .before .before .before .loop-test .taken) (c .before .before .before .take-field .ensures) (c .before .t .given .0 .0) (c .before .t .given .1) (c .before .before .before .before .before .before .before .loop .inv .1))
 
 add-k : tie.Need-add-k Inv-loop μ-loop
 add-k c = search needs
@@ -71,19 +77,19 @@ loop-less : tie.Need-loop-less Inv-loop μ-loop
 loop-less c = search needs
 
 loop-again : tie.Need-loop-again Inv-loop μ-loop
-loop-again c = (search needs, turn-within (c .before .before .before .before .before .before .before .before .args .t1) (c .before .before .before .before .before .before .before .before .args .first) (c .before .before .before .before .before .before .before .before .args .many) (c .before .before .before .before .before .before .before .before .args .p .now) (c .before .before .before .before .before .before .loop .k) (c .before .before .before .before .before .before .loop .at) (c .before .before .before .take-field .result) (c .before .before .before .before .before .before .loop .inv .2) (c .before .before .before .before .before .loop-test .taken) (c .before .before .before .take-field .ensures) (c .before .t .given .0 .0) (c .before .t .given .1) (c .before .before .before .before .before .before .loop .inv .1), turn-took (c .before .before .before .before .before .before .before .before .args .t1) (c .before .before .before .before .before .before .before .before .args .first) (c .before .before .before .before .before .before .before .before .args .many) (c .before .before .before .before .before .before .before .before .args .p .now) (c .before .before .before .before .before .before .loop .k) (c .before .before .before .before .before .before .loop .at) (c .before .before .before .take-field .result) (c .before .before .before .before .before .before .loop .inv .2) (c .before .before .before .before .before .loop-test .taken) (c .before .before .before .take-field .ensures) (c .before .t .given .0 .0) (c .before .t .given .1))
+loop-again c = (search needs, turn-within (fieldsOf (c .before .before .before .before .before .before .before .before .before .args .codes .now)) (c .before .before .before .before .before .before .before .before .before .args .first) (c .before .before .before .before .before .before .before .before .before .args .many) (c .before .before .before .before .before .before .before .before .before .args .p .now) (c .before .before .before .before .before .before .before .loop .k) (c .before .before .before .before .before .before .before .loop .at) (c .before .before .before .take-field .result) (c .before .before .before .before .field .result) (read-at (c .before .before .before .before .before .before .before .before .before .args .codes .now) _ (c .before .before .before .before .field .ensures)) (c .before .before .before .before .before .before .before .loop .inv .2) (c .before .before .before .before .before .before .loop-test .taken) (c .before .before .before .take-field .ensures) (c .before .t .given .0 .0) (c .before .t .given .1) (c .before .before .before .before .before .before .before .loop .inv .1), turn-took (fieldsOf (c .before .before .before .before .before .before .before .before .before .args .codes .now)) (c .before .before .before .before .before .before .before .before .before .args .first) (c .before .before .before .before .before .before .before .before .before .args .many) (c .before .before .before .before .before .before .before .before .before .args .p .now) (c .before .before .before .before .before .before .before .loop .k) (c .before .before .before .before .before .before .before .loop .at) (c .before .before .before .take-field .result) (c .before .before .before .before .field .result) (read-at (c .before .before .before .before .before .before .before .before .before .args .codes .now) _ (c .before .before .before .before .field .ensures)) (c .before .before .before .before .before .before .before .loop .inv .2) (c .before .before .before .before .before .before .loop-test .taken) (c .before .before .before .take-field .ensures) (c .before .t .given .0 .0) (c .before .t .given .1))
 
-cast-t24 : tie.Need-cast-t24 Inv-loop μ-loop
-cast-t24 c = search needs
+cast-t23 : tie.Need-cast-t23 Inv-loop μ-loop
+cast-t23 c = search needs
 
-add-t25 : tie.Need-add-t25 Inv-loop μ-loop
-add-t25 c = search needs
+add-t24 : tie.Need-add-t24 Inv-loop μ-loop
+add-t24 c = search needs
 
 returns-3 : tie.Need-returns-3 Inv-loop μ-loop
-returns-3 c = λ s. let q : c .before .before .loop .k ≡ c .before .before .before .before .args .many = omega arith in subst (λ n. partsOf (kindsFrom s (c .before .before .before .before .args .t1) (c .before .before .before .before .args .first) (c .before .before .before .before .args .many)) (c .before .before .before .before .args .p .now) ≡ refused 10 (n + 1)) q (ahead-over (c .before .before .loop .inv .2 s) (no-kind s (c .before .before .before .before .args .t1) (c .before .before .before .before .args .first) (c .before .before .before .before .args .many) (c .before .before .loop .k) (c .before .loop-test .left)) (omega (arith, length-drop (c .before .before .loop .at) (c .before .before .before .before .args .p .now))))
+returns-3 c = λ s. let q : c .before .before .loop .k ≡ c .before .before .before .before .args .many = omega arith in subst (λ n. partsOf (kindsFrom s (fieldsOf (c .before .before .before .before .args .codes .now)) (c .before .before .before .before .args .first) (c .before .before .before .before .args .many)) (c .before .before .before .before .args .p .now) ≡ refused 10 (n + 1)) q (ahead-over (c .before .before .loop .inv .2 s) (no-kind s (fieldsOf (c .before .before .before .before .args .codes .now)) (c .before .before .before .before .args .first) (c .before .before .before .before .args .many) (c .before .before .loop .k) (c .before .loop-test .left)) (omega (arith, length-drop (c .before .before .loop .at) (c .before .before .before .before .args .p .now))))
 
 returns-4 : tie.Need-returns-4 Inv-loop μ-loop
-returns-4 c = λ s. ahead-done (c .before .before .loop .inv .2 s) (no-kind s (c .before .before .before .before .args .t1) (c .before .before .before .before .args .first) (c .before .before .before .before .args .many) (c .before .before .loop .k) (c .before .loop-test .left)) (drop-of-length-le (c .before .before .before .before .args .p .now) (c .if1 .left))
+returns-4 c = λ s. ahead-done (c .before .before .loop .inv .2 s) (no-kind s (fieldsOf (c .before .before .before .before .args .codes .now)) (c .before .before .before .before .args .first) (c .before .before .before .before .args .many) (c .before .before .loop .k) (c .before .loop-test .left)) (drop-of-length-le (c .before .before .before .before .args .p .now) (c .if1 .left))
 
 pub check-spec : {M : Type 1} → statement M
 check-spec =
@@ -92,24 +98,25 @@ check-spec =
     Inv-loop
     μ-loop
     loop-holds
-    add-d
-    mul-d
-    array-copy-out-d
+    add-field
+    mul-field
+    element-copy-out-field
+    field-requires
     take-field-requires
     enum-told
-    cast-t18
-    add-t19
+    cast-t17
+    add-t18
     returns
     enum-told-2
-    cast-t20
-    add-t21
+    cast-t19
+    add-t20
     returns-2
     enum-known-t
     add-at
     add-k
     loop-less
     loop-again
-    cast-t24
-    add-t25
+    cast-t23
+    add-t24
     returns-3
     returns-4)
