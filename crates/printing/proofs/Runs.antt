@@ -88,43 +88,42 @@ field-short s d u p i e b l t =
     let n = length-slice i e p l in
     omega (arith, field-laws (kindFor s d) (u .sound) .bound (slice i e p) (below-drop 256 i (take e p) (below-take 256 e p (octets-all p b))) (t ∙ ap took (sym n)), n, cap-most (kindFor s d))
 
--- A turn of the loop over a run: k fields are gone, the octets from i on are left, and the next field takes w of them.
-pub record Turn (s : List ℕ) (fs : List FieldDesc) (first many : ℕ) (p : List ℕ) (k i w : ℕ) : Type 0 where
+-- A turn of the loop over a run: k fields are gone, the octets from i on are left, and the next field, d, takes w of them.
+pub record Turn (s : List ℕ) (fs : List FieldDesc) (first many : ℕ) (p : List ℕ) (k i w : ℕ) (d : FieldDesc) : Type 0 where
   pub within : i + w ≤ length p
-  pub takes : taken (start (kindFor s (getD fs (first + k) noField))) (slice i (i + w) p) ≡ took (i + w - i)
+  pub takes : taken (start (kindFor s d)) (slice i (i + w) p) ≡ took (i + w - i)
   pub others : (qs : List (List ℕ)) × (partsOf (kindsFrom s fs (first + (k + 1)) (many - (k + 1))) (drop (i + w) p) ≡ parts qs)
-  pub text : textOf (kindsFrom s fs (first + k) (many - k)) (drop i p)
-      ≡ joined (shown (kindFor s (getD fs (first + k) noField)) (slice i (i + w) p)) (textOf (kindsFrom s fs (first + (k + 1)) (many - (k + 1))) (drop (i + w) p))
+  pub text : textOf (kindsFrom s fs (first + k) (many - k)) (drop i p) ≡ joined (shown (kindFor s d) (slice i (i + w) p)) (textOf (kindsFrom s fs (first + (k + 1)) (many - (k + 1))) (drop (i + w) p))
 
 module _ (s : List ℕ) (fs : List FieldDesc) (first many : ℕ) (p : List ℕ) (k i : ℕ) (h : k < many) (l : i ≤ length p)
     (a : (ps : List (List ℕ)) × (partsOf (kindsFrom s fs (first + k) (many - k)) (drop i p) ≡ parts ps)) where
-  pub turn : (r : ℕ) → ((m : List Symbol) (w : ℕ) → taken (start (kindOf m (getD fs (first + k) noField .form))) (slice i (length p) p) ≡ took w → r ≡ w)
-      → Turn s fs first many p k i r
-  turn r g = by (text-next kind others-kinds (drop i p) (a .0) (ap (λ ks. partsOf ks (drop i p)) (sym (next-kind s fs first many k h)) ∙ a .1))
+  pub turn : (d : FieldDesc) → d ≡ getD fs (first + k) noField → (r : ℕ) → ((m : List Symbol) (w : ℕ) → taken (start (kindOf m (d .form))) (slice i (length p) p) ≡ took w → r ≡ w)
+      → Turn s fs first many p k i r d
+  turn d f r g = by (text-next (kindFor s d) others-kinds (drop i p) (a .0) (ap (λ ks. partsOf ks (drop i p)) (sym next) ∙ a .1))
     where
-      kind : Kind
-      kind = kindFor s (getD fs (first + k) noField)
-
       others-kinds : List Kind
       others-kinds = kindsFrom s fs (first + (k + 1)) (many - (k + 1))
 
-      by : ((w : ℕ) × (taken (start (kindFor s (getD fs (first + k) noField))) (drop i p) ≡ took w)
+      next : kindsFrom s fs (first + k) (many - k) ≡ kindFor s d ∷ others-kinds
+      next = rw f (next-kind s fs first many k h)
+
+      by : ((w : ℕ) × (taken (start (kindFor s d)) (drop i p) ≡ took w)
           × ((qs : List (List ℕ)) × (partsOf (kindsFrom s fs (first + (k + 1)) (many - (k + 1))) (drop w (drop i p)) ≡ parts qs))
-          × (textOf (kindFor s (getD fs (first + k) noField) ∷ kindsFrom s fs (first + (k + 1)) (many - (k + 1))) (drop i p)
-          ≡ joined (shown (kindFor s (getD fs (first + k) noField)) (take w (drop i p))) (textOf (kindsFrom s fs (first + (k + 1)) (many - (k + 1))) (drop w (drop i p)))))
-          → Turn s fs first many p k i r
+          × (textOf (kindFor s d ∷ kindsFrom s fs (first + (k + 1)) (many - (k + 1))) (drop i p)
+          ≡ joined (shown (kindFor s d) (take w (drop i p))) (textOf (kindsFrom s fs (first + (k + 1)) (many - (k + 1))) (drop w (drop i p)))))
+          → Turn s fs first many p k i r d
       by (w, t, q, e) =
-          let z : r ≡ w = g (orNone (symbolsIn (intWidth (getD fs (first + k) noField .form)) s (getD fs (first + k) noField .«qualifiers_at») (getD fs (first + k) noField .«qualifiers_end»))) w (ap (taken (start (kindFor s (getD fs (first + k) noField)))) (to-end p i) ∙ t) in
-          let m : i + w ≤ length p = omega (arith, fits (start (kindFor s (getD fs (first + k) noField))) (drop i p) w t, length-drop i p) in
+          let z : r ≡ w = g (orNone (symbolsIn (intWidth (d .form)) s (d .«qualifiers_at») (d .«qualifiers_end»))) w (ap (taken (start (kindFor s d))) (to-end p i) ∙ t) in
+          let m : i + w ≤ length p = omega (arith, fits (start (kindFor s d)) (drop i p) w t, length-drop i p) in
           let n : i + w - i ≡ w = omega arith in
           let c : take w (drop i p) ≡ slice i (i + w) p = subst (λ j. take j (drop i p) ≡ slice i (i + w) p) n (lent p i (i + w) (omega arith)) in
           rw z (record {
             within = m;
-            takes = ap (taken (start (kindFor s (getD fs (first + k) noField)))) (sym c) ∙ alone (start (kindFor s (getD fs (first + k) noField))) (drop i p) w t ∙ ap took (sym n);
+            takes = ap (taken (start (kindFor s d))) (sym c) ∙ alone (start (kindFor s d)) (drop i p) w t ∙ ap took (sym n);
             others = (q .0, ap (partsOf (kindsFrom s fs (first + (k + 1)) (many - (k + 1)))) (sym (drop-drop w i p)) ∙ q .1);
-            text = ap (λ ks. textOf ks (drop i p)) (next-kind s fs first many k h) ∙ e
-                ∙ ap (λ t. joined (shown (kindFor s (getD fs (first + k) noField)) t) (textOf (kindsFrom s fs (first + (k + 1)) (many - (k + 1))) (drop w (drop i p)))) c
-                ∙ ap (λ ys. joined (shown (kindFor s (getD fs (first + k) noField)) (slice i (i + w) p)) (textOf (kindsFrom s fs (first + (k + 1)) (many - (k + 1))) ys)) (drop-drop w i p);
+            text = ap (λ ks. textOf ks (drop i p)) next ∙ e
+                ∙ ap (λ t. joined (shown (kindFor s d) t) (textOf (kindsFrom s fs (first + (k + 1)) (many - (k + 1))) (drop w (drop i p)))) c
+                ∙ ap (λ ys. joined (shown (kindFor s d) (slice i (i + w) p)) (textOf (kindsFrom s fs (first + (k + 1)) (many - (k + 1))) ys)) (drop-drop w i p);
           })
 
 -- the text that is left, after a field's is written

@@ -7,6 +7,7 @@ ghost use Rattle.format.specs.Wire.{taken, took};
 ghost use Rattle.format.specs.Field.{start};
 ghost use Rattle.format.specs.Run.{shown, textOf};
 ghost use Rattle.writing.specs.Writing.{Wrote};
+ghost use Rattle.field_code.specs.Code.{fieldsOf};
 ghost use Rattle.run.specs.Run.{kindFor, kindsFrom, Usable};
 ghost use Rattle.printing.specs.Printing.{Accepted, lead};
 use types::FieldDesc;
@@ -39,20 +40,20 @@ fn put_next(
 // The text of the fields from number first on, so many, of RDATA that they take.
 pub fn put_run(
     out: &mut [u8],
-    fields: [FieldDesc; 64],
+    codes: &[u64; 64],
     first: usize,
     many: usize,
     s: &[u8],
     p: &[u8],
 ) -> usize
-    requires { ⌜ Accepted (now s) fields first many (now p) ⌝ }
-    ensures { λ r. ⌜ Wrote (now (out .entry)) (now (out .exit)) 0 r (textOf (kindsFrom (now (s .entry)) fields first many) (now (p .entry))) ⌝ }
+    requires { ⌜ Accepted (now s) (fieldsOf (now codes)) first many (now p) ⌝ }
+    ensures { λ r. ⌜ Wrote (now (out .entry)) (now (out .exit)) 0 r (textOf (kindsFrom (now (s .entry)) (fieldsOf (now (codes .entry))) first many) (now (p .entry))) ⌝ }
 {
     let mut at = 0;
     let mut i = 0;
     let mut k = 0;
     while k < many {
-        let d = fields[first + k];
+        let d = field_code::field(codes[first + k]);
         let form = d.form;
         let e = i + print_field::width(form, p, i);
         at = put_next(out, at, d, s, p, i, e);
