@@ -105,7 +105,7 @@ module _ (s : List ℕ) (fs : List FieldDesc) (first many : ℕ) (p : List ℕ) 
       others-kinds = kindsFrom s fs (first + (k + 1)) (many - (k + 1))
 
       next : kindsFrom s fs (first + k) (many - k) ≡ kindFor s d ∷ others-kinds
-      next = rw f (next-kind s fs first many k h)
+      next = next-kind s fs first many k h d f
 
       by : ((w : ℕ) × (taken (start (kindFor s d)) (drop i p) ≡ took w)
           × ((qs : List (List ℕ)) × (partsOf (kindsFrom s fs (first + (k + 1)) (many - (k + 1))) (drop w (drop i p)) ≡ parts qs))

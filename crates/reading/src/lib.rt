@@ -11,6 +11,7 @@ ghost use Rattle.format.specs.Name.{isWireName};
 ghost use Rattle.format.specs.Run.{readField, readRun, oneToken};
 ghost use Rattle.format.specs.Text.{readString};
 ghost use Rattle.types.specs.Types.{kindOf};
+ghost use Rattle.field_code.specs.Code.{fieldsOf};
 ghost use Rattle.run.specs.Run.{kindFor, kindsFrom, Usable, UsableRun};
 ghost use Rattle.reading.specs.Reading.{takesOne, placedAt, gotAt, Gives, Onward, Reads};
 use read_base::rest;
@@ -178,21 +179,21 @@ fn none_from(t: &[u8], i: usize) -> bool
 // The fields from number first on, so many. 65,536 octets stand for any number of them over 65,535.
 pub fn read_run(
     out: &mut [u8],
-    fields: [FieldDesc; 64],
+    codes: &[u64; 64],
     first: usize,
     many: usize,
     s: &[u8],
     origin: &[u8],
     t: &[u8],
 ) -> Run
-    requires { ⌜ UsableRun (now s) fields first many × (isWireName (now origin) ≡ true) × (length (now t) ≤ 1048576) ⌝ }
-    ensures { λ r. ⌜ Reads (now (out .entry)) (now (out .exit)) r (readRun (λ k ts. readField k (now (origin .entry)) ts) (kindsFrom (now (s .entry)) fields first many) (tokens (now (t .entry)))) ⌝ }
+    requires { ⌜ UsableRun (now s) (fieldsOf (now codes)) first many × (isWireName (now origin) ≡ true) × (length (now t) ≤ 1048576) ⌝ }
+    ensures { λ r. ⌜ Reads (now (out .entry)) (now (out .exit)) r (readRun (λ k ts. readField k (now (origin .entry)) ts) (kindsFrom (now (s .entry)) (fieldsOf (now (codes .entry))) first many) (tokens (now (t .entry)))) ⌝ }
 {
     let mut n = 0;
     let mut i = 0;
     let mut k = 0;
     while k < many {
-        let d = fields[first + k];
+        let d = field_code::field(codes[first + k]);
         let r = read_field(out, n, d, s, origin, t, i);
         match r {
             Field::Missing => {

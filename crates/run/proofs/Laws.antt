@@ -46,13 +46,13 @@ module _ (s : List ℕ) (fs : List FieldDesc) where
       let q : 0 + j ≡ j = omega arith in
       rw p (ap (take n) (kinds-drop j 0 (n + (m - j - n)) ∙ ap (λ i. kindsFrom s fs i (n + (m - j - n))) q) ∙ kinds-take n j (m - j - n))
 
-  -- the next field of a run of which k are gone
-  pub next-kind : (first many k : ℕ) → k < many
-      → kindsFrom s fs (first + k) (many - k) ≡ kindFor s (getD fs (first + k) noField) ∷ kindsFrom s fs (first + (k + 1)) (many - (k + 1))
-  next-kind first many k h =
+  -- the next field, d, of a run of which k are gone
+  pub next-kind : (first many k : ℕ) → k < many → (d : FieldDesc) → d ≡ getD fs (first + k) noField
+      → kindsFrom s fs (first + k) (many - k) ≡ kindFor s d ∷ kindsFrom s fs (first + (k + 1)) (many - (k + 1))
+  next-kind first many k h d e =
       let p : many - k ≡ suc (many - (k + 1)) = omega arith in
       let q : first + k + 1 ≡ first + (k + 1) = omega arith in
-      rw p (ap (λ i. kindFor s (getD fs (first + k) noField) ∷ kindsFrom s fs i (many - (k + 1))) q)
+      rw (p, e) (ap (λ i. kindFor s (getD fs (first + k) noField) ∷ kindsFrom s fs i (many - (k + 1))) q)
 
   pub no-kind : (first many k : ℕ) → many ≤ k → kindsFrom s fs (first + k) (many - k) ≡ []
   no-kind first many k h = let p : many - k ≡ 0 = omega arith in rw p
@@ -107,20 +107,20 @@ module _ {ks : List Kind} {xs : List ℕ} {ls : List Kind} {ys : List ℕ} {k : 
 module _ (fs : List FieldDesc) (first many : ℕ) (p : List ℕ) (k at : ℕ) (t : Take) (d : FieldDesc) (e : d ≡ getD fs (first + k) noField)
     (a : (s : List ℕ) → Ahead (kindsFrom s fs first many) p (kindsFrom s fs (first + k) (many - k)) (drop at p) k) (h : k < many)
     (g : (l : List Symbol) → takenIn t ≡ taken (start (kindOf l (d .form))) (slice at (length p) p)) where
-  here : (s : List ℕ) → taken (start (kindFor s (getD fs (first + k) noField))) (drop at p) ≡ takenIn t
-  here s = rw (← e) (ap (taken (start (kindFor s d))) (sym (to-end p at)) ∙ sym (g (orNone (symbolsIn (intWidth (d .form)) s (d .«qualifiers_at») (d .«qualifiers_end»)))))
+  here : (s : List ℕ) → taken (start (kindFor s d)) (drop at p) ≡ takenIn t
+  here s = ap (taken (start (kindFor s d))) (sym (to-end p at)) ∙ sym (g (orNone (symbolsIn (intWidth (d .form)) s (d .«qualifiers_at») (d .«qualifiers_end»))))
 
   pub turn-short : t ≡ Short → (s : List ℕ) → partsOf (kindsFrom s fs first many) p ≡ refused 8 (k + 1)
-  turn-short q s = ahead-short (a s) _ _ (next-kind s fs first many k h) (here s ∙ ap takenIn q)
+  turn-short q s = ahead-short (a s) _ _ (next-kind s fs first many k h d e) (here s ∙ ap takenIn q)
 
   pub turn-bad : t ≡ Bad → (s : List ℕ) → partsOf (kindsFrom s fs first many) p ≡ refused 9 (k + 1)
-  turn-bad q s = ahead-bad (a s) _ _ (next-kind s fs first many k h) (here s ∙ ap takenIn q)
+  turn-bad q s = ahead-bad (a s) _ _ (next-kind s fs first many k h d e) (here s ∙ ap takenIn q)
 
   module _ (w : ℕ) (q : t ≡ Took w) where
     pub turn-within : at ≤ length p → at + w ≤ length p
-    turn-within l = omega (arith, fits (start (kindFor [] (getD fs (first + k) noField))) (drop at p) w (here [] ∙ ap takenIn q), length-drop at p)
+    turn-within l = omega (arith, fits (start (kindFor [] d)) (drop at p) w (here [] ∙ ap takenIn q), length-drop at p)
 
     pub turn-took : (s : List ℕ) → Ahead (kindsFrom s fs first many) p (kindsFrom s fs (first + (k + 1)) (many - (k + 1))) (drop (at + w) p) (k + 1)
     turn-took s =
         subst (λ ys. Ahead (kindsFrom s fs first many) p (kindsFrom s fs (first + (k + 1)) (many - (k + 1))) ys (k + 1)) (drop-drop w at p)
-        (ahead-took (a s) _ _ (next-kind s fs first many k h) w (here s ∙ ap takenIn q))
+        (ahead-took (a s) _ _ (next-kind s fs first many k h d e) w (here s ∙ ap takenIn q))

@@ -1,6 +1,7 @@
 use Prim.Native.Nat.{_+_}
 use Rattle.printing.proofs.Runs.{lead-none, lead-some, field-short}
 use Rattle.writing.proofs.Laws.{part-wrote}
+use mathlib.Core.Path.{_≡_, ap, sym, _∙_}
 use native.Mathlib.Omega.{arith}
 use borrow.Author.Needs.{needs}
 use Rattle.printing.proofs.put_next.Statement.{statement}
