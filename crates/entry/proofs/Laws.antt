@@ -12,18 +12,14 @@ use Rattle.format.specs.Judge.{Description, Judged, rejected, described, judged
 use Rattle.format.specs.Entries.{Outcome, judgeOutcome, judge}
 use Rattle.format.proofs.Judge.{judges}
 use Rattle.stanza.specs.declared.Outline.{Outline}
-use Rattle.stanza.specs.Stanza.{descriptionOf, outlineOf}
-use Rattle.stanza.proofs.Outlines.{fields-many}
+use Rattle.stanza.specs.Stanza.{Outlined}
 
-module _ (s : List ℕ) (o : Outline) (q : outlineOf s o ≡ judged s) where
-  pub accepted : o .number ≡ 0 → judged s ≡ described (descriptionOf s o)
-  accepted h = sym q ∙ rw (eq-eqb (o .number) 0 h)
-
-  pub many : length (descriptionOf s o .fields) ≡ o .count
-  many = fields-many s (o .fields) (o .names) (o .ends) 0 (o .count)
+module _ {s codes : List ℕ} {o : Outline} (q : Outlined s codes o) where
+  pub accepted : o .number ≡ 0 → judged s ≡ described (q .found)
+  accepted h = sym (q .judges) ∙ rw (eq-eqb (o .number) 0 h)
 
   pub accepted-count : o .number ≡ 0 → o .count ≤ 64
-  accepted-count h = omega (arith, judges s (descriptionOf s o) (accepted h) .most-fields, many)
+  accepted-count h = omega (arith, judges s (q .found) (accepted h) .most-fields, q .many)
 
   pub accepted-number : o .number ≡ 0 → 0 ≡ judge s .number
   unfolding judge
@@ -31,10 +27,10 @@ module _ (s : List ℕ) (o : Outline) (q : outlineOf s o ≡ judged s) where
 
   pub accepted-place : o .number ≡ 0 → o .count ≡ judge s .place
   unfolding judge
-  accepted-place h = rw (accepted h) (sym many)
+  accepted-place h = rw (accepted h) (sym (q .many))
 
   pub refused : (o .number ≡ 0 → ⊥) → judged s ≡ rejected (o .number) (o .line)
-  refused h = sym q ∙ rw (ne-eqb (o .number) 0 h)
+  refused h = sym (q .judges) ∙ rw (ne-eqb (o .number) 0 h)
 
   pub refused-number : (o .number ≡ 0 → ⊥) → o .number ≡ judge s .number
   unfolding judge

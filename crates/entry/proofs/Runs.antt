@@ -2,7 +2,7 @@
 use Prim.Native.Nat.{ℕ, zero, suc, _+_, _-_, _≤_, _<_}
 use mathlib.Core.Path.{_≡_, sym, ap, _∙_, subst}
 use mathlib.Core.Bool.{Bool, true, _&&_}
-use mathlib.Core.List.{List}
+use mathlib.Core.List.{List, []}
 use native.Mathlib.Omega.{arith}
 use native.Mathlib.Decide.{decLt}
 use lib.ListN.{length, take, drop, getD}
@@ -19,9 +19,10 @@ use Rattle.format.proofs.Demands.{Fit, run-fit}
 use Rattle.types.specs.declared.FieldDesc.{FieldDesc}
 use Rattle.stanza.specs.declared.Outline.{Outline}
 use Rattle.types.specs.Fields.{noField}
-use Rattle.stanza.specs.Stanza.{descriptionOf, Outlined}
+use Rattle.field_code.specs.Code.{fieldsOf}
+use Rattle.stanza.specs.Stanza.{Outlined}
 use Rattle.run.specs.Run.{kindFor, kindsFrom, UsableRun}
-use Rattle.run.proofs.Laws.{kinds-from, kinds-many, kinds-run}
+use Rattle.run.proofs.Laws.{kinds-from, kinds-run}
 use Rattle.entry.proofs.Laws.{accepted, accepted-count}
 
 -- every kind of a run by its number
@@ -33,15 +34,12 @@ module _ (f : Kind → Bool) (s : List ℕ) (fs : List FieldDesc) where
       let q : k + 1 + j ≡ k + suc j = omega arith in
       rw (← q) (all-at (k + 1) m (and-right (f (kindFor s (getD fs k noField))) (allOf f (kindsFrom s fs (k + 1) m)) h) j (omega arith))
 
-module _ (s : List ℕ) (o : Outline) (q : Outlined s o) (n : o .number ≡ 0) where
-  all-kinds : kinds (descriptionOf s o .fields) ≡ kindsFrom s (o .fields) 0 (o .count)
-  all-kinds = kinds-from s (o .fields) (o .names) (o .ends) 0 (o .count)
+module _ {s codes : List ℕ} {o : Outline} (q : Outlined s codes o) (n : o .number ≡ 0) where
+  all-kinds : kinds (q .found .fields) ≡ kindsFrom s (fieldsOf codes) 0 (o .count)
+  all-kinds = q .coded ∙ kinds-from s (fieldsOf codes) [] [] 0 (o .count)
 
-  sound : Sound (descriptionOf s o)
-  sound = judges s (descriptionOf s o) (accepted s o (q .judges) n)
-
-  pub kinds-length : length (kinds (descriptionOf s o .fields)) ≡ o .count
-  kinds-length = ap length all-kinds ∙ kinds-many s (o .fields) 0 (o .count)
+  sound : Sound (q .found)
+  sound = judges s (q .found) (accepted q n)
 
   module _ (first many : ℕ) (r : true ≡ leb 1 first && leb (first - 1 + many) (o .count)) where
     pub from-one : 1 ≤ first
@@ -50,18 +48,18 @@ module _ (s : List ℕ) (o : Outline) (q : Outlined s o) (n : o .number ≡ 0) w
     in-count : first - 1 + many ≤ o .count
     in-count = leb-true (first - 1 + many) (o .count) (and-right (leb 1 first) (leb (first - 1 + many) (o .count)) (sym r))
 
-    pub run-kinds : run first many (kinds (descriptionOf s o .fields)) ≡ kindsFrom s (o .fields) (first - 1) many
-    run-kinds = ap (λ ks. take many (drop (first - 1) ks)) all-kinds ∙ kinds-run s (o .fields) (first - 1) many (o .count) in-count
+    pub run-kinds : run first many (kinds (q .found .fields)) ≡ kindsFrom s (fieldsOf codes) (first - 1) many
+    run-kinds = ap (λ ks. take many (drop (first - 1) ks)) all-kinds ∙ kinds-run s (fieldsOf codes) (first - 1) many (o .count) in-count
 
-    pub usable-run : length s ≤ 8192 → UsableRun s (o .fields) (first - 1) many
+    pub usable-run : length s ≤ 8192 → UsableRun s (fieldsOf codes) (first - 1) many
     usable-run l = record {
       short = l;
-      within = omega (arith, in-count, accepted-count s o (q .judges) n);
+      within = omega (arith, in-count, accepted-count q n);
       fields = λ k h. record {
         placed = q .placed n (first - 1 + k) (omega (arith, in-count));
-        sound = all-at soundKind s (o .fields) (first - 1) many (subst (λ ks. allOf soundKind ks ≡ true) run-kinds (run-fit (descriptionOf s o) sound first many .sound)) k h;
+        sound = all-at soundKind s (fieldsOf codes) (first - 1) many (subst (λ ks. allOf soundKind ks ≡ true) run-kinds (run-fit (q .found) sound first many .sound)) k h;
       };
-      tails = subst (λ ks. tailsLast ks ≡ true) run-kinds (run-fit (descriptionOf s o) sound first many .tails);
+      tails = subst (λ ks. tailsLast ks ≡ true) run-kinds (run-fit (q .found) sound first many .tails);
     }
 
 -- a judged stanza is short

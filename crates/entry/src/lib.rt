@@ -16,7 +16,8 @@ pub struct Reply {
 pub fn judge(s: &[u8]) -> Reply
     ensures { λ r. ⌜ Replies r (Entries.judge (now (s .entry))) ⌝ }
 {
-    let o = stanza::judged_outline(s);
+    let mut codes = [0u64; 64];
+    let o = stanza::judged_outline(s, &mut codes);
     let n = o.number;
     if n == 0 {
         return Reply {

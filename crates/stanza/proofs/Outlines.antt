@@ -33,11 +33,11 @@ use Rattle.verdict.specs.declared.Step.{Step}
 use Rattle.verdict.specs.declared.Step.the-variants.{Skip, Refuse, Head, Add}
 use Rattle.verdict.specs.Verdict.{headerOf, namedFrom, progressOf, Stands, stepOf, Due}
 use Rattle.stanza.specs.declared.Outline.{Outline}
-use Rattle.stanza.specs.Stanza.{AllPlaced, Outlined}
+use Rattle.stanza.specs.Stanza.{outlineOf, AllPlaced, Outlined}
 
 -- m fields from number k on
 module _ (s : List ℕ) (fs : List FieldDesc) (names ends : List ℕ) where
-  pub fields-many : (k m : ℕ) → length (fieldsFrom s fs names ends k m) ≡ m
+  fields-many : (k m : ℕ) → length (fieldsFrom s fs names ends k m) ≡ m
   fields-many k zero = refl
   fields-many k (suc m) = ap suc (fields-many (k + 1) m)
 
@@ -241,16 +241,6 @@ module _ (s codes : List ℕ) (fs : List FieldDesc) (e : fieldsOf codes ≡ with
   coded-placed : (n : ℕ) → AllPlaced s fs n → AllPlaced s (fieldsOf codes) n
   coded-placed n p k l = subst (Placed s) (sym (coded-field k)) (record { from = p k l .from; to = p k l .to; listed = p k l .listed })
 
--- an outline of a refusal
-refused-outlined : (s codes : List ℕ) (o : Outline) (d : Description) → kinds (d .fields) ≡ kinds (fieldsFrom s (fieldsOf codes) [] [] 0 (o .count))
-    → (number line : ℕ) → (o .number ≡ number) × (o .line ≡ line) → 1 ≤ number → rejected number line ≡ judged s → Outlined s codes o
-refused-outlined s codes o d e number line q h j = record {
-  found = d;
-  judges = rw (q .0, q .1, ne-eqb number 0 (λ z. omega arith)) j;
-  coded = e;
-  placed = λ z. absurd (omega (arith, q .0));
-}
-
 -- What is told after `line` lines: nothing so far, and how things stand; or a refusal's number and place, and no line is left.
 pub record Judging (s : List ℕ) (h : HeaderDesc) (fs : List FieldDesc) (names ends : List ℕ) (n : ℕ) (have last : Bool) (number place at line : ℕ) : Type 0 where
   pub within : at ≤ length s + 1
@@ -378,23 +368,27 @@ module _ {s : List ℕ} {h : HeaderDesc} {fs : List FieldDesc} {names ends : Lis
           }
 
 -- after the last turn: the outline
-pub judging-end : {s codes : List ℕ} {h : HeaderDesc} {fs : List FieldDesc} {names ends : List ℕ} {n : ℕ} {have last : Bool} {number place at line : ℕ}
-    → Judging s h fs names ends n have last number place at line → fieldsOf codes ≡ withoutTexts fs → length s ≤ at
-    → (r : ℕ) → (1 ≤ number → r ≡ number) × (number ≡ 0 → 1 ≤ n → r ≡ 0) × (number ≡ 0 → n ≡ 0 → r ≡ 2) → Outlined s codes (record { number = r; line = place; count = n })
-judging-end {s} {codes} {h} {fs} {names} {ends} {n} {number = number} {place = place} j c m r q = by number refl n refl
-  where
-    alike : kinds (fieldsFrom s fs names ends 0 n) ≡ kinds (fieldsFrom s (fieldsOf codes) [] [] 0 n)
-    alike = coded-kinds s codes fs c names ends 0 n
+module _ {s codes : List ℕ} {h : HeaderDesc} {fs : List FieldDesc} {names ends : List ℕ} {n : ℕ} {have last : Bool} {number place at line : ℕ}
+    (j : Judging s h fs names ends n have last number place at line) (c : fieldsOf codes ≡ withoutTexts fs) (m : length s ≤ at) (r : ℕ) where
+  outlined : outlineOf (soFar s h fs names ends n) (record { number = r; line = place; count = n }) ≡ judged s → (r ≡ 0 → AllPlaced s fs n)
+      → Outlined s codes (record { number = r; line = place; count = n })
+  outlined q p = record {
+    found = soFar s h fs names ends n;
+    judges = q;
+    many = fields-many s fs names ends 0 n;
+    coded = coded-kinds s codes fs c names ends 0 n;
+    placed = λ z. coded-placed s codes fs c n (p z);
+  }
 
-    by : (k : ℕ) → number ≡ k → (i : ℕ) → n ≡ i → Outlined s codes (record { number = r; line = place; count = n })
-    by (suc k) z i y = refused-outlined s codes _ (soFar s h fs names ends n) alike number place (q .0 (omega arith), refl) (omega arith) (j .told (omega arith) .0)
-    by zero z zero y =
-        refused-outlined s codes _ (soFar s h fs names ends n) alike 2 0 (q .2 z y, j .no-place z) (omega arith) (no-fields (j .kept z) m y ∙ sym (judged-lines s (j .short z)))
-    by zero z (suc i) y =
-        let e : r ≡ 0 = q .1 z (omega arith) in
-        record {
-          found = soFar s h fs names ends n;
-          judges = rw e (some-fields (j .kept z) m (λ x. omega arith) ∙ sym (judged-lines s (j .short z)));
-          coded = alike;
-          placed = λ x. coded-placed s codes fs c n (j .kept z .placed);
-        }
+  refused-outlined : (x : ℕ) → (r ≡ x) × (1 ≤ x) → rejected x place ≡ judged s → Outlined s codes (record { number = r; line = place; count = n })
+  refused-outlined x (e, l) q = outlined (rw (e, ne-eqb x 0 (λ z. omega arith)) q) (λ z. absurd (omega arith))
+
+  pub judging-end : (1 ≤ number → r ≡ number) × (number ≡ 0 → 1 ≤ n → r ≡ 0) × (number ≡ 0 → n ≡ 0 → r ≡ 2) → Outlined s codes (record { number = r; line = place; count = n })
+  judging-end q = by number refl n refl
+    where
+      by : (k : ℕ) → number ≡ k → (i : ℕ) → n ≡ i → Outlined s codes (record { number = r; line = place; count = n })
+      by (suc k) z i y = refused-outlined number (q .0 (omega arith), omega arith) (j .told (omega arith) .0)
+      by zero z zero y = refused-outlined 2 (q .2 z y, omega arith) (rw (j .no-place z) (no-fields (j .kept z) m y ∙ sym (judged-lines s (j .short z))))
+      by zero z (suc i) y =
+          let e : r ≡ 0 = q .1 z (omega arith) in
+          outlined (rw e (some-fields (j .kept z) m (λ x. omega arith) ∙ sym (judged-lines s (j .short z)))) (λ x. j .kept z .placed)
