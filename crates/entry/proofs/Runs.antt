@@ -22,7 +22,7 @@ use Rattle.types.specs.Fields.{noField}
 use Rattle.field_code.specs.Code.{fieldsOf}
 use Rattle.stanza.specs.Stanza.{Outlined}
 use Rattle.run.specs.Run.{kindFor, kindsFrom, UsableRun}
-use Rattle.run.proofs.Laws.{kinds-from, kinds-run}
+use Rattle.run.proofs.Laws.{kinds-from, kinds-many, kinds-run}
 use Rattle.entry.proofs.Laws.{accepted, accepted-count}
 
 -- every kind of a run by its number
@@ -40,6 +40,9 @@ module _ {s codes : List ℕ} {o : Outline} (q : Outlined s codes o) (n : o .num
 
   sound : Sound (q .found)
   sound = judges s (q .found) (accepted q n)
+
+  pub kinds-length : length (kinds (q .found .fields)) ≡ o .count
+  kinds-length = ap length all-kinds ∙ kinds-many s (fieldsOf codes) 0 (o .count)
 
   module _ (first many : ℕ) (r : true ≡ leb 1 first && leb (first - 1 + many) (o .count)) where
     pub from-one : 1 ≤ first

@@ -24,6 +24,7 @@ use Rattle.types.specs.Types.{kindOf}
 use Rattle.types.specs.declared.FieldDesc.{FieldDesc}
 use Rattle.stanza.specs.declared.Outline.{Outline}
 use Rattle.types.specs.Fields.{noField}
+use Rattle.field_code.specs.Code.{fieldsOf}
 use Rattle.stanza.specs.Stanza.{Outlined}
 use Rattle.run.specs.Run.{kindFor, kindsFrom}
 use Rattle.run.proofs.Laws.{kinds-many}
@@ -66,15 +67,15 @@ module _ (s : List ℕ) (fs : List FieldDesc) (first many : ℕ) (xs : List ℕ)
   unfolding textOf
   text-parts = rw (a .taken-all .1)
 
-  pub surely : 1 ≤ many → isBitmap (kindFor s (getD fs (first + many - 1) noField)) ≡ false → (room : ℕ) → 4 * length xs + 64 * many ≤ room → length (textOf (kindsFrom s fs first many) xs) ≤ room
-  surely h k room l = by many refl h
+  pub surely : 1 ≤ many → (d : FieldDesc) → d ≡ getD fs (first + many - 1) noField → isBitmap (kindFor s d) ≡ false → (room : ℕ) → 4 * length xs + 64 * many ≤ room → length (textOf (kindsFrom s fs first many) xs) ≤ room
+  surely h d f k room l = by many refl h
     where
       by : (m : ℕ) → many ≡ m → 1 ≤ m → length (textOf (kindsFrom s fs first many) xs) ≤ room
       by zero e h = absurd (omega arith)
       by (suc m) e h =
           let i : first + many - 1 ≡ first + m = omega arith in
           let t : tailsLast (kindsFrom s fs first (suc m)) ≡ true = subst (λ n. tailsLast (kindsFrom s fs first n) ≡ true) e (a .usable .tails) in
-          let p : anyOf isBitmap (kindsFrom s fs first many) ≡ false = subst (λ n. anyOf isBitmap (kindsFrom s fs first n) ≡ false) (sym e) (plain-run s fs first m t (rw i at k)) in
+          let p : anyOf isBitmap (kindsFrom s fs first many) ≡ false = subst (λ n. anyOf isBitmap (kindsFrom s fs first n) ≡ false) (sym e) (plain-run s fs first m t (rw (f, i) at k)) in
           omega (arith, plain-within (kindsFrom s fs first many) p all-sound xs b (a .taken-all .0) (a .taken-all .1), ap length text-parts, kinds-many s fs first many)
 
   pub text-short : length (textOf (kindsFrom s fs first many) xs) ≤ 1048576
@@ -94,20 +95,20 @@ pub print-long : (s : List ℕ) (first many : ℕ) (xs : List ℕ) → 65535 < l
 unfolding printing
 print-long s first many xs h = rw (lt-leb (length xs) 65535 h)
 
-module _ (s : List ℕ) (o : Outline) (q : Outlined s o) where
+module _ {s codes : List ℕ} {o : Outline} (q : Outlined s codes o) where
   pub print-rejected : (first many : ℕ) (xs : List ℕ) → length xs ≤ 65535 → 0 < o .number → printing s first many xs ≡ refusal (o .number) (o .line)
   unfolding printing
-  print-rejected first many xs h n = rw (le-leb (length xs) 65535 h, not-judged s o (q .judges) (λ z. omega arith))
+  print-rejected first many xs h n = rw (le-leb (length xs) 65535 h, not-judged q (λ z. omega arith))
 
   module _ (n : o .number ≡ 0) where
     pub print-no-run : (first many : ℕ) (xs : List ℕ) → length xs ≤ 65535 → false ≡ leb 1 first && leb (first - 1 + many) (o .count) → printing s first many xs ≡ refusal 6 0
     unfolding printing
-    print-no-run first many xs h r = rw (le-leb (length xs) 65535 h, accepted s o (q .judges) n, kinds-length s o q n, ← r)
+    print-no-run first many xs h r = rw (le-leb (length xs) 65535 h, accepted q n, kinds-length q n, ← r)
 
     pub print-runs : (first many : ℕ) → true ≡ leb 1 first && leb (first - 1 + many) (o .count) → (xs : List ℕ) → length xs ≤ 65535
-        → printing s first many xs ≡ runText (kindsFrom s (o .fields) (first - 1) many) xs
+        → printing s first many xs ≡ runText (kindsFrom s (fieldsOf codes) (first - 1) many) xs
     unfolding printing
-    print-runs first many r xs h = rw (le-leb (length xs) 65535 h, accepted s o (q .judges) n, kinds-length s o q n, ← r, run-kinds s o q n first many r)
+    print-runs first many r xs h = rw (le-leb (length xs) 65535 h, accepted q n, kinds-length q n, ← r, run-kinds q n first many r)
 
 -- a form other than R[L]'s
 pub other-form : (f : Form) → OneOf (0 ∷ 1 ∷ 3 ∷ 4 ∷ 5 ∷ 6 ∷ 7 ∷ 8 ∷ 9 ∷ 10 ∷ 11 ∷ 12 ∷ 13 ∷ 14 ∷ 15 ∷ []) (tagOf Rattle.types.proofs.Form.the-type f) → (l : List Symbol) → isBitmap (kindOf l f) ≡ false

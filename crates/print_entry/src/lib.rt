@@ -8,25 +8,25 @@ ghost use Rattle.format.specs.Octets.{Octets};
 ghost use Rattle.format.specs.Entries;
 ghost use Rattle.format.specs.Entries.{done};
 ghost use Rattle.format.specs.Run.{textOf};
+ghost use Rattle.field_code.specs.Code.{fieldsOf};
 ghost use Rattle.run.specs.Run.{kindsFrom, UsableRun};
 ghost use Rattle.printing.specs.Printing.{Accepted};
 ghost use Rattle.entry.specs.Entries.{Leaves, withRoom, runText};
 ghost use Rattle.print_entry.specs.Needs.{Needs};
 use entry::Reply;
 use run::Checked;
-use types::FieldDesc;
 use types::Form;
 
 // Whether the text of so many octets fits the room whatever they are; measuring tells where this does not.
 fn surely_fits(
-    fields: [FieldDesc; 64],
+    codes: &[u64; 64],
     first: usize,
     many: usize,
     octets: usize,
     room: usize,
 ) -> bool
     requires { ⌜ (first + many ≤ 64) × (octets ≤ 65535) ⌝ }
-    ensures { λ r. ⌜ (r ≡ true → (s xs : List ℕ) → Octets xs → length xs ≡ octets → Accepted s fields first many xs → length (textOf (kindsFrom s fields first many) xs) ≤ room) ⌝ }
+    ensures { λ r. ⌜ (r ≡ true → (s xs : List ℕ) → Octets xs → length xs ≡ octets → Accepted s (fieldsOf (now (codes .entry))) first many xs → length (textOf (kindsFrom s (fieldsOf (now (codes .entry))) first many) xs) ≤ room) ⌝ }
 {
     if many < 1 {
         return false;
@@ -34,7 +34,7 @@ fn surely_fits(
     if room < 4 * octets + 64 * many {
         return false;
     }
-    let d = fields[first + many - 1];
+    let d = field_code::field(codes[first + many - 1]);
     let f = d.form;
     if let Form::Bitmap = f {
         return false;
@@ -45,46 +45,46 @@ fn surely_fits(
 // The room that the text needs: 0 where it surely fits, else its length, measured on the empty part at the buffer's end.
 fn needed(
     s: &[u8],
-    fields: [FieldDesc; 64],
+    codes: &[u64; 64],
     first: usize,
     many: usize,
     p: &[u8],
     out: &mut [u8],
     room: usize,
 ) -> usize
-    requires { ⌜ Accepted (now s) fields first many (now p) ⌝ }
-    ensures { λ r. ⌜ (now (out .exit) ≡ now (out .entry)) × Needs room r (textOf (kindsFrom (now (s .entry)) fields first many) (now (p .entry))) ⌝ }
+    requires { ⌜ Accepted (now s) (fieldsOf (now codes)) first many (now p) ⌝ }
+    ensures { λ r. ⌜ (now (out .exit) ≡ now (out .entry)) × Needs room r (textOf (kindsFrom (now (s .entry)) (fieldsOf (now (codes .entry))) first many) (now (p .entry))) ⌝ }
 {
-    if surely_fits(fields, first, many, p.len(), room) {
+    if surely_fits(codes, first, many, p.len(), room) {
         return 0;
     }
     let end = out.len();
-    printing::put_run(&mut out[end..], fields, first, many, s, p)
+    printing::put_run(&mut out[end..], codes, first, many, s, p)
 }
 
 // The text of RDATA that the run takes, from a place of the buffer on.
 fn put_text(
     s: &[u8],
-    fields: [FieldDesc; 64],
+    codes: &[u64; 64],
     first: usize,
     many: usize,
     p: &[u8],
     out: &mut [u8],
     at: usize,
 ) -> Reply
-    requires { ⌜ Accepted (now s) fields first many (now p) ⌝ }
-    ensures { λ r. ⌜ Leaves r (now (out .exit)) (withRoom (now (out .entry)) at (done (textOf (kindsFrom (now (s .entry)) fields first many) (now (p .entry))))) ⌝ }
+    requires { ⌜ Accepted (now s) (fieldsOf (now codes)) first many (now p) ⌝ }
+    ensures { λ r. ⌜ Leaves r (now (out .exit)) (withRoom (now (out .entry)) at (done (textOf (kindsFrom (now (s .entry)) (fieldsOf (now (codes .entry))) first many) (now (p .entry))))) ⌝ }
 {
     let n = out.len();
     let a = writing::least(at, n);
-    let need = needed(s, fields, first, many, p, out, n - a);
+    let need = needed(s, codes, first, many, p, out, n - a);
     if n - a < need {
         return Reply {
             number: 12,
             place: need as u32,
         };
     }
-    let w = printing::put_run(&mut out[a..], fields, first, many, s, p);
+    let w = printing::put_run(&mut out[a..], codes, first, many, s, p);
     Reply {
         number: 0,
         place: w as u32,
@@ -94,23 +94,23 @@ fn put_text(
 // RDATA under a run of a judged stanza.
 fn print_run(
     s: &[u8],
-    fields: [FieldDesc; 64],
+    codes: &[u64; 64],
     first: usize,
     many: usize,
     p: &[u8],
     out: &mut [u8],
     at: usize,
 ) -> Reply
-    requires { ⌜ UsableRun (now s) fields first many × (length (now p) ≤ 65535) ⌝ }
-    ensures { λ r. ⌜ Leaves r (now (out .exit)) (withRoom (now (out .entry)) at (runText (kindsFrom (now (s .entry)) fields first many) (now (p .entry)))) ⌝ }
+    requires { ⌜ UsableRun (now s) (fieldsOf (now codes)) first many × (length (now p) ≤ 65535) ⌝ }
+    ensures { λ r. ⌜ Leaves r (now (out .exit)) (withRoom (now (out .entry)) at (runText (kindsFrom (now (s .entry)) (fieldsOf (now (codes .entry))) first many) (now (p .entry)))) ⌝ }
 {
-    let c = run::check(fields, first, many, p);
+    let c = run::check(codes, first, many, p);
     match c {
         Checked::Refused(number, place) => Reply {
             number: number,
             place: place,
         },
-        Checked::Good => put_text(s, fields, first, many, p, out, at),
+        Checked::Good => put_text(s, codes, first, many, p, out, at),
     }
 }
 
@@ -125,7 +125,8 @@ pub fn print(s: &[u8], first: usize, many: usize, p: &[u8], out: &mut [u8], at: 
             place: 0,
         };
     }
-    let o = stanza::judged_outline(s);
+    let mut codes = [0u64; 64];
+    let o = stanza::judged_outline(s, &mut codes);
     let n = o.number;
     if 0 < n {
         return Reply {
@@ -135,8 +136,7 @@ pub fn print(s: &[u8], first: usize, many: usize, p: &[u8], out: &mut [u8], at: 
     }
     let count = o.count;
     if entry::is_run(first, many, count) {
-        let fields = o.fields;
-        return print_run(s, fields, first - 1, many, p, out, at);
+        return print_run(s, &codes, first - 1, many, p, out, at);
     }
     Reply {
         number: 6,

@@ -3,7 +3,7 @@ use Rattle.entry.proofs.Runs.{from-one, usable-run, judged-short}
 use Rattle.entry.proofs.Rooms.{leaves-refused}
 use Rattle.entry.proofs.Laws.{accepted}
 use Rattle.format.specs.Entries.{print}
-use mathlib.Core.Path.{_≡_, refl, sym, _∙_}
+use mathlib.Core.Path.{refl, sym, _∙_}
 use native.Mathlib.Omega.{arith}
 use borrow.Author.Needs.{needs}
 use Rattle.print_entry.proofs.print.Statement.{statement}
@@ -21,35 +21,35 @@ returns c = leaves-refused _ (c .before .before .before .before .args .at) _ _ _
 judged-outline-requires : tie.Need-judged-outline-requires
 judged-outline-requires c κs = search needs
 
-cast-t13 : tie.Need-cast-t13
-cast-t13 c = search needs
-
 cast-t14 : tie.Need-cast-t14
 cast-t14 c = search needs
 
+cast-t15 : tie.Need-cast-t15
+cast-t15 c = search needs
+
 returns-2 : tie.Need-returns-2
 unfolding print
-returns-2 c = leaves-refused _ (c .before .before .before .before .before .before .before .args .at) _ _ _ _ (print-rejected (c .before .before .before .before .before .before .before .args .s .now) (c .before .before .judged-outline .result) (c .before .before .judged-outline .ensures) (c .before .before .before .before .before .before .before .args .first) (c .before .before .before .before .before .before .before .args .many) (c .before .before .before .before .before .before .before .args .p .now) (c .before .before .before .if1 .left) (c .before .if2 .taken)) refl refl
+returns-2 c = leaves-refused _ (c .before .before .before .before .before .before .before .before .args .at) _ _ _ _ (print-rejected (c .before .before .judged-outline .ensures) (c .before .before .before .before .before .before .before .before .args .first) (c .before .before .before .before .before .before .before .before .args .many) (c .before .before .before .before .before .before .before .before .args .p .now) (c .before .before .before .before .if1 .left) (c .before .if2 .taken)) refl refl
 
 is-run-requires : tie.Need-is-run-requires
 is-run-requires c κs = search needs
 
 sub-print-run : tie.Need-sub-print-run
-sub-print-run c = omega (arith, from-one (c .before .before .before .before .before .before .before .before .before .args .s .now) (c .before .before .before .before .judged-outline .result) (c .before .before .before .before .judged-outline .ensures) (omega arith) (c .before .before .before .before .before .before .before .before .before .args .first) (c .before .before .before .before .before .before .before .before .before .args .many) (sym (c .before .if3 .taken) ∙ c .before .before .is-run .ensures))
+sub-print-run c = omega (arith, from-one (c .before .before .before .before .judged-outline .ensures) (omega arith) (c .before .before .before .before .before .before .before .before .before .before .args .first) (c .before .before .before .before .before .before .before .before .before .before .args .many) (sym (c .before .if3 .taken) ∙ c .before .before .is-run .ensures))
 
 print-run-requires : tie.Need-print-run-requires
-print-run-requires c κs = (usable-run (c .before .before .before .before .before .before .before .before .before .before .args .s .now) (c .before .before .before .before .before .judged-outline .result) (c .before .before .before .before .before .judged-outline .ensures) (omega arith) (c .before .before .before .before .before .before .before .before .before .before .args .first) (c .before .before .before .before .before .before .before .before .before .before .args .many) (sym (c .before .before .if3 .taken) ∙ c .before .before .before .is-run .ensures) (judged-short (c .before .before .before .before .before .before .before .before .before .before .args .s .now) _ (accepted (c .before .before .before .before .before .before .before .before .before .before .args .s .now) (c .before .before .before .before .before .judged-outline .result) (c .before .before .before .before .before .judged-outline .ensures .judges) (omega arith))), c .before .before .before .before .before .before .if1 .left)
+print-run-requires c κs = (usable-run (c .before .before .before .before .before .judged-outline .ensures) (omega arith) (c .before .before .before .before .before .before .before .before .before .before .before .args .first) (c .before .before .before .before .before .before .before .before .before .before .before .args .many) (sym (c .before .before .if3 .taken) ∙ c .before .before .before .is-run .ensures) (judged-short (c .before .before .before .before .before .before .before .before .before .before .before .args .s .now) _ (accepted (c .before .before .before .before .before .judged-outline .ensures) (omega arith))), c .before .before .before .before .before .before .before .if1 .left)
 
 same-length : tie.Need-same-length
 same-length c = search needs
 
 returns-3 : tie.Need-returns-3
 unfolding print
-returns-3 c = rw (print-runs (c .before .before .before .before .before .before .before .before .before .before .before .before .before .args .s .now) (c .before .before .before .before .before .before .before .before .judged-outline .result) (c .before .before .before .before .before .before .before .before .judged-outline .ensures) (omega arith) (c .before .before .before .before .before .before .before .before .before .before .before .before .before .args .first) (c .before .before .before .before .before .before .before .before .before .before .before .before .before .args .many) (sym (c .before .before .before .before .before .if3 .taken) ∙ c .before .before .before .before .before .before .is-run .ensures) (c .before .before .before .before .before .before .before .before .before .before .before .before .before .args .p .now) (c .before .before .before .before .before .before .before .before .before .if1 .left)) (c .before .before .print-run .ensures)
+returns-3 c = rw (print-runs (c .before .before .before .before .before .before .before .before .judged-outline .ensures) (omega arith) (c .before .before .before .before .before .before .before .before .before .before .before .before .before .before .args .first) (c .before .before .before .before .before .before .before .before .before .before .before .before .before .before .args .many) (sym (c .before .before .before .before .before .if3 .taken) ∙ c .before .before .before .before .before .before .is-run .ensures) (c .before .before .before .before .before .before .before .before .before .before .before .before .before .before .args .p .now) (c .before .before .before .before .before .before .before .before .before .before .if1 .left)) (c .before .before .print-run .ensures)
 
 returns-4 : tie.Need-returns-4
 unfolding print
-returns-4 c = leaves-refused _ (c .before .before .before .before .before .before .before .before .args .at) _ _ _ _ (print-no-run (c .before .before .before .before .before .before .before .before .args .s .now) (c .before .before .before .judged-outline .result) (c .before .before .before .judged-outline .ensures) (omega arith) (c .before .before .before .before .before .before .before .before .args .first) (c .before .before .before .before .before .before .before .before .args .many) (c .before .before .before .before .before .before .before .before .args .p .now) (c .before .before .before .before .if1 .left) (sym (c .if3 .left) ∙ c .before .is-run .ensures)) refl refl
+returns-4 c = leaves-refused _ (c .before .before .before .before .before .before .before .before .before .args .at) _ _ _ _ (print-no-run (c .before .before .before .judged-outline .ensures) (omega arith) (c .before .before .before .before .before .before .before .before .before .args .first) (c .before .before .before .before .before .before .before .before .before .args .many) (c .before .before .before .before .before .before .before .before .before .args .p .now) (c .before .before .before .before .before .if1 .left) (sym (c .if3 .left) ∙ c .before .is-run .ensures)) refl refl
 
 pub print-spec : {M : Type 1} → statement M
 print-spec =
@@ -57,8 +57,8 @@ print-spec =
     (tie.spec
     returns
     judged-outline-requires
-    cast-t13
     cast-t14
+    cast-t15
     returns-2
     is-run-requires
     sub-print-run

@@ -2,6 +2,7 @@ use Rattle.entry.proofs.Rooms.{leaves-refused}
 use Rattle.print_entry.proofs.Printings.{text-answer, no-answer}
 use Rattle.run.specs.Run.{kindsFrom, Checks}
 use mathlib.Core.Path.{_≡_, refl, subst}
+use Rattle.field_code.specs.Code.{fieldsOf}
 use native.Mathlib.Omega.{arith}
 use borrow.Author.Needs.{needs}
 use Rattle.print_entry.proofs.print_run.Statement.{statement}
@@ -21,16 +22,16 @@ enum-told : tie.Need-enum-told
 enum-told c = search needs
 
 put-text-requires : tie.Need-put-text-requires
-put-text-requires c κs = record { usable = c .before .before .before .before .before .before .before .pre .0; short = c .before .before .before .before .before .before .before .pre .1; taken-all = subst (Checks (kindsFrom (c .before .before .before .before .before .before .before .args .s .now) (c .before .before .before .before .before .before .before .args .fields) (c .before .before .before .before .before .before .before .args .first) (c .before .before .before .before .before .before .before .args .many)) (c .before .before .before .before .before .before .before .args .p .now)) (c .before .enum-told .given .1) (c .before .before .before .check .ensures (c .before .before .before .before .before .before .before .args .s .now)) }
+put-text-requires c κs = record { usable = c .before .before .before .before .before .before .before .pre .0; short = c .before .before .before .before .before .before .before .pre .1; taken-all = subst (Checks (kindsFrom (c .before .before .before .before .before .before .before .args .s .now) (fieldsOf (c .before .before .before .before .before .before .before .args .codes .now)) (c .before .before .before .before .before .before .before .args .first) (c .before .before .before .before .before .before .before .args .many)) (c .before .before .before .before .before .before .before .args .p .now)) (c .before .enum-told .given .1) (c .before .before .before .check .ensures (c .before .before .before .before .before .before .before .args .s .now)) }
 
 returns : tie.Need-returns
-returns c = leaves-refused _ (c .before .before .before .before .before .before .before .args .at) _ _ _ _ (no-answer _ _ _ _ (subst (Checks (kindsFrom (c .before .before .before .before .before .before .before .args .s .now) (c .before .before .before .before .before .before .before .args .fields) (c .before .before .before .before .before .before .before .args .first) (c .before .before .before .before .before .before .before .args .many)) (c .before .before .before .before .before .before .before .args .p .now)) (c .before .c .given .1) (c .before .before .before .check .ensures (c .before .before .before .before .before .before .before .args .s .now)))) refl refl
+returns c = leaves-refused _ (c .before .before .before .before .before .before .before .args .at) _ _ _ _ (no-answer _ _ _ _ (subst (Checks (kindsFrom (c .before .before .before .before .before .before .before .args .s .now) (fieldsOf (c .before .before .before .before .before .before .before .args .codes .now)) (c .before .before .before .before .before .before .before .args .first) (c .before .before .before .before .before .before .before .args .many)) (c .before .before .before .before .before .before .before .args .p .now)) (c .before .c .given .1) (c .before .before .before .check .ensures (c .before .before .before .before .before .before .before .args .s .now)))) refl refl
 
 same-length : tie.Need-same-length
 same-length c = search needs
 
 returns-2 : tie.Need-returns-2
-returns-2 c = let z = subst (Checks (kindsFrom (c .before .before .before .before .before .before .before .before .before .before .args .s .now) (c .before .before .before .before .before .before .before .before .before .before .args .fields) (c .before .before .before .before .before .before .before .before .before .before .args .first) (c .before .before .before .before .before .before .before .before .before .before .args .many)) (c .before .before .before .before .before .before .before .before .before .before .args .p .now)) (c .before .before .before .before .enum-told .given .1) (c .before .before .before .before .before .before .check .ensures (c .before .before .before .before .before .before .before .before .before .before .args .s .now)) in rw (text-answer _ _ (z .0) (z .1)) (c .before .before .put-text .ensures)
+returns-2 c = let z = subst (Checks (kindsFrom (c .before .before .before .before .before .before .before .before .before .before .args .s .now) (fieldsOf (c .before .before .before .before .before .before .before .before .before .before .args .codes .now)) (c .before .before .before .before .before .before .before .before .before .before .args .first) (c .before .before .before .before .before .before .before .before .before .before .args .many)) (c .before .before .before .before .before .before .before .before .before .before .args .p .now)) (c .before .before .before .before .enum-told .given .1) (c .before .before .before .before .before .before .check .ensures (c .before .before .before .before .before .before .before .before .before .before .args .s .now)) in rw (text-answer _ _ (z .0) (z .1)) (c .before .before .put-text .ensures)
 
 pub print-run-spec : {M : Type 1} → statement M
 print-run-spec =

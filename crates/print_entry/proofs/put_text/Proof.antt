@@ -2,6 +2,7 @@ use Rattle.entry.proofs.Rooms.{leaves-done, leaves-measured}
 use Rattle.run.specs.Run.{kindsFrom}
 use Rattle.format.specs.Run.{textOf}
 use mathlib.Core.Path.{refl, _∙_}
+use Rattle.field_code.specs.Code.{fieldsOf}
 use native.Mathlib.Omega.{arith}
 use borrow.Author.Needs.{needs}
 use Rattle.print_entry.proofs.put_text.Statement.{statement}
@@ -31,7 +32,7 @@ same-length : tie.Need-same-length
 same-length c = search needs
 
 returns : tie.Need-returns
-returns c = leaves-measured (c .before .before .before .before .before .before .before .before .before .args .out .now) _ (c .before .before .before .before .before .before .before .before .before .args .at) (c .before .before .before .needed .result) (textOf (kindsFrom (c .before .before .before .before .before .before .before .before .before .args .s .now) (c .before .before .before .before .before .before .before .before .before .args .fields) (c .before .before .before .before .before .before .before .before .before .args .first) (c .before .before .before .before .before .before .before .before .before .args .many)) (c .before .before .before .before .before .before .before .before .before .args .p .now)) _ (c .before .before .before .needed .ensures .0) (omega (arith, c .before .before .before .needed .ensures .1 .told (c .if1 .taken))) (omega (arith, c .before .before .before .before .before .least .ensures, c .if1 .taken)) refl refl
+returns c = leaves-measured (c .before .before .before .before .before .before .before .before .before .args .out .now) _ (c .before .before .before .before .before .before .before .before .before .args .at) (c .before .before .before .needed .result) (textOf (kindsFrom (c .before .before .before .before .before .before .before .before .before .args .s .now) (fieldsOf (c .before .before .before .before .before .before .before .before .before .args .codes .now)) (c .before .before .before .before .before .before .before .before .before .args .first) (c .before .before .before .before .before .before .before .before .before .args .many)) (c .before .before .before .before .before .before .before .before .before .args .p .now)) _ (c .before .before .before .needed .ensures .0) (omega (arith, c .before .before .before .needed .ensures .1 .told (c .if1 .taken))) (omega (arith, c .before .before .before .before .before .least .ensures, c .if1 .taken)) refl refl
 
 sub-put-run : tie.Need-sub-put-run
 sub-put-run c = search needs
@@ -52,7 +53,7 @@ same-length-2 : tie.Need-same-length-2
 same-length-2 c = search needs
 
 returns-2 : tie.Need-returns-2
-returns-2 c = leaves-done _ (c .before .before .before .before .before .before .before .before .before .before .before .before .before .args .out .now) _ (c .before .before .before .before .before .before .before .before .before .before .before .before .before .args .at) _ _ (textOf (kindsFrom (c .before .before .before .before .before .before .before .before .before .before .before .before .before .args .s .now) (c .before .before .before .before .before .before .before .before .before .before .before .before .before .args .fields) (c .before .before .before .before .before .before .before .before .before .before .before .before .before .args .first) (c .before .before .before .before .before .before .before .before .before .before .before .before .before .args .many)) (c .before .before .before .before .before .before .before .before .before .before .before .before .before .args .p .now)) _ (c .before .before .before .before .before .before .before .needed .ensures .0) (c .before .before .before .before .before .before .before .before .before .least .ensures) (omega (arith, c .before .before .before .before .before .before .before .before .before .least .ensures, c .before .before .before .before .before .before .before .needed .ensures .1 .fits (c .before .before .before .before .if1 .left))) (c .before .before .put-run .ensures) refl refl
+returns-2 c = leaves-done _ (c .before .before .before .before .before .before .before .before .before .before .before .before .before .args .out .now) _ (c .before .before .before .before .before .before .before .before .before .before .before .before .before .args .at) _ _ (textOf (kindsFrom (c .before .before .before .before .before .before .before .before .before .before .before .before .before .args .s .now) (fieldsOf (c .before .before .before .before .before .before .before .before .before .before .before .before .before .args .codes .now)) (c .before .before .before .before .before .before .before .before .before .before .before .before .before .args .first) (c .before .before .before .before .before .before .before .before .before .before .before .before .before .args .many)) (c .before .before .before .before .before .before .before .before .before .before .before .before .before .args .p .now)) _ (c .before .before .before .before .before .before .before .needed .ensures .0) (c .before .before .before .before .before .before .before .before .before .least .ensures) (omega (arith, c .before .before .before .before .before .before .before .before .before .least .ensures, c .before .before .before .before .before .before .before .needed .ensures .1 .fits (c .before .before .before .before .if1 .left))) (c .before .before .put-run .ensures) refl refl
 
 pub put-text-spec : {M : Type 1} → statement M
 put-text-spec =
