@@ -26,6 +26,7 @@ fn is_name(p: &[u8]) -> bool
 pub fn read_judged(
     s: &[u8],
     o: Outline,
+    codes: &[u64; 64],
     first: usize,
     many: usize,
     origin: &[u8],
@@ -33,7 +34,7 @@ pub fn read_judged(
     out: &mut [u8],
     at: usize,
 ) -> Reply
-    requires { ⌜ Outlined (now s) o × (length (now t) ≤ 1048576) ⌝ }
+    requires { ⌜ Outlined (now s) (now codes) o × (length (now t) ≤ 1048576) ⌝ }
     ensures { λ r. ⌜ Leaves r (now (out .exit)) (Entries.read (now (s .entry)) first many (now (origin .entry)) (now (t .entry)) (now (out .entry)) at) ⌝ }
 {
     let n = o.number;
@@ -45,8 +46,7 @@ pub fn read_judged(
     }
     if entry::is_run(first, many, o.count) {
         if is_name(origin) {
-            let fields = o.fields;
-            return read_room::read_run(s, fields, first - 1, many, origin, t, out, at);
+            return read_room::read_run(s, codes, first - 1, many, origin, t, out, at);
         }
         return Reply {
             number: 7,
@@ -79,6 +79,7 @@ pub fn read(
             place: 0,
         };
     }
-    let o = stanza::judged_outline(s);
-    read_judged(s, o, first, many, origin, t, out, at)
+    let mut codes = [0u64; 64];
+    let o = stanza::judged_outline(s, &mut codes);
+    read_judged(s, o, &codes, first, many, origin, t, out, at)
 }

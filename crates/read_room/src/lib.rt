@@ -4,16 +4,16 @@ ghost use mathlib.Core.Path.{_≡_};
 ghost use mathlib.Core.Bool.{true};
 ghost use lib.ListN.{length};
 ghost use Rattle.format.specs.Name.{isWireName};
+ghost use Rattle.field_code.specs.Code.{fieldsOf};
 ghost use Rattle.run.specs.Run.{kindsFrom, UsableRun};
 ghost use Rattle.entry.specs.Entries.{Leaves, withRoom, runOctets, ReadsIn};
 use entry::Reply;
 use reading::Run;
-use types::FieldDesc;
 
 // The octets of a text that the run reads, from a place of the buffer on, where there is room: read a second time.
 fn read_again(
     s: &[u8],
-    fields: [FieldDesc; 64],
+    codes: &[u64; 64],
     first: usize,
     many: usize,
     origin: &[u8],
@@ -21,11 +21,11 @@ fn read_again(
     out: &mut [u8],
     at: usize,
 ) -> Reply
-    requires { ⌜ UsableRun (now s) fields first many × (isWireName (now origin) ≡ true) × (length (now t) ≤ 1048576) × ReadsIn (kindsFrom (now s) fields first many) (now origin) (now t) (length (now out) - at) ⌝ }
-    ensures { λ r. ⌜ Leaves r (now (out .exit)) (withRoom (now (out .entry)) at (runOctets (kindsFrom (now (s .entry)) fields first many) (now (origin .entry)) (now (t .entry)))) ⌝ }
+    requires { ⌜ UsableRun (now s) (fieldsOf (now codes)) first many × (isWireName (now origin) ≡ true) × (length (now t) ≤ 1048576) × ReadsIn (kindsFrom (now s) (fieldsOf (now codes)) first many) (now origin) (now t) (length (now out) - at) ⌝ }
+    ensures { λ r. ⌜ Leaves r (now (out .exit)) (withRoom (now (out .entry)) at (runOctets (kindsFrom (now (s .entry)) (fieldsOf (now (codes .entry))) first many) (now (origin .entry)) (now (t .entry)))) ⌝ }
 {
     let a = writing::least(at, out.len());
-    let r = reading::read_run(&mut out[a..], fields, first, many, s, origin, t);
+    let r = reading::read_run(&mut out[a..], codes, first, many, s, origin, t);
     match r {
         Run::Refused(number, place) => Reply {
             number: number,
@@ -43,7 +43,7 @@ fn read_again(
 fn read_through(
     short: &mut [u8],
     s: &[u8],
-    fields: [FieldDesc; 64],
+    codes: &[u64; 64],
     first: usize,
     many: usize,
     origin: &[u8],
@@ -51,10 +51,10 @@ fn read_through(
     out: &mut [u8],
     at: usize,
 ) -> Reply
-    requires { ⌜ UsableRun (now s) fields first many × (isWireName (now origin) ≡ true) × (length (now t) ≤ 1048576) ⌝ }
-    ensures { λ r. ⌜ Leaves r (now (out .exit)) (withRoom (now (out .entry)) at (runOctets (kindsFrom (now (s .entry)) fields first many) (now (origin .entry)) (now (t .entry)))) ⌝ }
+    requires { ⌜ UsableRun (now s) (fieldsOf (now codes)) first many × (isWireName (now origin) ≡ true) × (length (now t) ≤ 1048576) ⌝ }
+    ensures { λ r. ⌜ Leaves r (now (out .exit)) (withRoom (now (out .entry)) at (runOctets (kindsFrom (now (s .entry)) (fieldsOf (now (codes .entry))) first many) (now (origin .entry)) (now (t .entry)))) ⌝ }
 {
-    let r = reading::read_run(short, fields, first, many, s, origin, t);
+    let r = reading::read_run(short, codes, first, many, s, origin, t);
     match r {
         Run::Refused(number, place) => Reply {
             number: number,
@@ -76,7 +76,7 @@ fn read_through(
                 };
             }
             if short.len() < m {
-                return read_again(s, fields, first, many, origin, t, out, at);
+                return read_again(s, codes, first, many, origin, t, out, at);
             }
             let w = writing::put_all(&mut out[from..], 0, &short[0..m]);
             Reply {
@@ -90,7 +90,7 @@ fn read_through(
 // The same by way of an array of its own: one that is soon cleared where the text is short, else one that every bitmap fits.
 pub fn read_run(
     s: &[u8],
-    fields: [FieldDesc; 64],
+    codes: &[u64; 64],
     first: usize,
     many: usize,
     origin: &[u8],
@@ -98,13 +98,13 @@ pub fn read_run(
     out: &mut [u8],
     at: usize,
 ) -> Reply
-    requires { ⌜ UsableRun (now s) fields first many × (isWireName (now origin) ≡ true) × (length (now t) ≤ 1048576) ⌝ }
-    ensures { λ r. ⌜ Leaves r (now (out .exit)) (withRoom (now (out .entry)) at (runOctets (kindsFrom (now (s .entry)) fields first many) (now (origin .entry)) (now (t .entry)))) ⌝ }
+    requires { ⌜ UsableRun (now s) (fieldsOf (now codes)) first many × (isWireName (now origin) ≡ true) × (length (now t) ≤ 1048576) ⌝ }
+    ensures { λ r. ⌜ Leaves r (now (out .exit)) (withRoom (now (out .entry)) at (runOctets (kindsFrom (now (s .entry)) (fieldsOf (now (codes .entry))) first many) (now (origin .entry)) (now (t .entry)))) ⌝ }
 {
     if t.len() <= 1024 {
         let mut short = [0u8; 1024];
-        return read_through(&mut short, s, fields, first, many, origin, t, out, at);
+        return read_through(&mut short, s, codes, first, many, origin, t, out, at);
     }
     let mut long = [0u8; 12288];
-    read_through(&mut long, s, fields, first, many, origin, t, out, at)
+    read_through(&mut long, s, codes, first, many, origin, t, out, at)
 }
