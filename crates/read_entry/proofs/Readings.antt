@@ -11,6 +11,7 @@ use borrow.Author.Tests.{le-leb, lt-leb}
 use Rattle.format.specs.Wire.{labelLength, taken, takesAll}
 use Rattle.format.specs.Name.{isWireName}
 use Rattle.format.specs.Entries.{refusal, reading}
+use Rattle.field_code.specs.Code.{fieldsOf}
 use Rattle.stanza.specs.declared.Outline.{Outline}
 use Rattle.stanza.specs.Stanza.{Outlined}
 use Rattle.run.specs.Run.{kindsFrom}
@@ -30,21 +31,21 @@ pub read-long : (s : List ℕ) (first many : ℕ) (origin text : List ℕ) → 1
 unfolding reading
 read-long s first many origin text h = rw (lt-leb (length text) 1048576 h)
 
-module _ (s : List ℕ) (o : Outline) (q : Outlined s o) (origin text : List ℕ) (h : length text ≤ 1048576) where
+module _ {s codes : List ℕ} {o : Outline} (q : Outlined s codes o) (origin text : List ℕ) (h : length text ≤ 1048576) where
   pub read-rejected : (first many : ℕ) → 0 < o .number → reading s first many origin text ≡ refusal (o .number) (o .line)
   unfolding reading
-  read-rejected first many n = rw (le-leb (length text) 1048576 h, not-judged s o (q .judges) (λ z. omega arith))
+  read-rejected first many n = rw (le-leb (length text) 1048576 h, not-judged q (λ z. omega arith))
 
   module _ (n : o .number ≡ 0) (first many : ℕ) where
     pub read-no-run : false ≡ leb 1 first && leb (first - 1 + many) (o .count) → reading s first many origin text ≡ refusal 6 0
     unfolding reading
-    read-no-run r = rw (le-leb (length text) 1048576 h, accepted s o (q .judges) n, kinds-length s o q n, ← r)
+    read-no-run r = rw (le-leb (length text) 1048576 h, accepted q n, kinds-length q n, ← r)
 
     module _ (r : true ≡ leb 1 first && leb (first - 1 + many) (o .count)) where
       pub read-no-origin : isWireName origin ≡ false → reading s first many origin text ≡ refusal 7 0
       unfolding reading
-      read-no-origin w = rw (le-leb (length text) 1048576 h, accepted s o (q .judges) n, kinds-length s o q n, ← r, w)
+      read-no-origin w = rw (le-leb (length text) 1048576 h, accepted q n, kinds-length q n, ← r, w)
 
-      pub read-runs : isWireName origin ≡ true → reading s first many origin text ≡ runOctets (kindsFrom s (o .fields) (first - 1) many) origin text
+      pub read-runs : isWireName origin ≡ true → reading s first many origin text ≡ runOctets (kindsFrom s (fieldsOf codes) (first - 1) many) origin text
       unfolding reading
-      read-runs w = rw (le-leb (length text) 1048576 h, accepted s o (q .judges) n, kinds-length s o q n, ← r, w, run-kinds s o q n first many r)
+      read-runs w = rw (le-leb (length text) 1048576 h, accepted q n, kinds-length q n, ← r, w, run-kinds q n first many r)

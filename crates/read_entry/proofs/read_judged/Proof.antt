@@ -1,4 +1,4 @@
-use mathlib.Core.Path.{_≡_, refl, sym, ap, subst, _∙_}
+use mathlib.Core.Path.{refl, sym, _∙_}
 use Rattle.format.specs.Entries.{read}
 use Rattle.entry.proofs.Rooms.{leaves-refused}
 use Rattle.entry.proofs.Laws.{accepted}
@@ -22,7 +22,7 @@ cast-t13 c = search needs
 
 returns : tie.Need-returns
 unfolding read
-returns c = leaves-refused _ (c .before .before .before .before .before .before .args .at) _ _ _ _ (read-rejected (c .before .before .before .before .before .before .args .s .now) (c .before .before .before .before .before .before .args .o) (c .before .before .before .before .before .before .pre .0) (c .before .before .before .before .before .before .args .origin .now) (c .before .before .before .before .before .before .args .t .now) (c .before .before .before .before .before .before .pre .1) (c .before .before .before .before .before .before .args .first) (c .before .before .before .before .before .before .args .many) (c .before .if1 .taken)) refl refl
+returns c = leaves-refused _ (c .before .before .before .before .before .before .args .at) _ _ _ _ (read-rejected (c .before .before .before .before .before .before .pre .0) (c .before .before .before .before .before .before .args .origin .now) (c .before .before .before .before .before .before .args .t .now) (c .before .before .before .before .before .before .pre .1) (c .before .before .before .before .before .before .args .first) (c .before .before .before .before .before .before .args .many) (c .before .if1 .taken)) refl refl
 
 is-run-requires : tie.Need-is-run-requires
 is-run-requires c κs = search needs
@@ -31,25 +31,25 @@ is-name-requires : tie.Need-is-name-requires
 is-name-requires c κs = search needs
 
 sub-read-run : tie.Need-sub-read-run
-sub-read-run c = omega (arith, from-one (c .before .before .before .before .before .before .before .before .before .before .args .s .now) (c .before .before .before .before .before .before .before .before .before .before .args .o) (c .before .before .before .before .before .before .before .before .before .before .pre .0) (omega (arith, c .before .before .before .before .before .if1 .left)) (c .before .before .before .before .before .before .before .before .before .before .args .first) (c .before .before .before .before .before .before .before .before .before .before .args .many) (sym (c .before .before .before .if2 .taken) ∙ c .before .before .before .before .is-run .ensures))
+sub-read-run c = omega (arith, from-one (c .before .before .before .before .before .before .before .before .before .pre .0) (omega (arith, c .before .before .before .before .if1 .left)) (c .before .before .before .before .before .before .before .before .before .args .first) (c .before .before .before .before .before .before .before .before .before .args .many) (sym (c .before .before .if2 .taken) ∙ c .before .before .before .is-run .ensures))
 
 read-run-requires : tie.Need-read-run-requires
-read-run-requires c κs = (usable-run (c .before .before .before .before .before .before .before .before .before .before .before .args .s .now) (c .before .before .before .before .before .before .before .before .before .before .before .args .o) (c .before .before .before .before .before .before .before .before .before .before .before .pre .0) (omega (arith, c .before .before .before .before .before .before .if1 .left)) (c .before .before .before .before .before .before .before .before .before .before .before .args .first) (c .before .before .before .before .before .before .before .before .before .before .before .args .many) (sym (c .before .before .before .before .if2 .taken) ∙ c .before .before .before .before .before .is-run .ensures) (judged-short _ _ (accepted (c .before .before .before .before .before .before .before .before .before .before .before .args .s .now) (c .before .before .before .before .before .before .before .before .before .before .before .args .o) (c .before .before .before .before .before .before .before .before .before .before .before .pre .0 .judges) (omega (arith, c .before .before .before .before .before .before .if1 .left)))), sym (c .before .before .before .is-name .ensures) ∙ c .before .before .if3 .taken, c .before .before .before .before .before .before .before .before .before .before .before .pre .1)
+read-run-requires c κs = (usable-run (c .before .before .before .before .before .before .before .before .before .before .pre .0) (omega (arith, c .before .before .before .before .before .if1 .left)) (c .before .before .before .before .before .before .before .before .before .before .args .first) (c .before .before .before .before .before .before .before .before .before .before .args .many) (sym (c .before .before .before .if2 .taken) ∙ c .before .before .before .before .is-run .ensures) (judged-short _ _ (accepted (c .before .before .before .before .before .before .before .before .before .before .pre .0) (omega (arith, c .before .before .before .before .before .if1 .left)))), sym (c .before .before .is-name .ensures) ∙ c .before .if3 .taken, c .before .before .before .before .before .before .before .before .before .before .pre .1)
 
 same-length : tie.Need-same-length
 same-length c = search needs
 
 returns-2 : tie.Need-returns-2
 unfolding read
-returns-2 c = rw (read-runs (c .before .before .before .before .before .before .before .before .before .before .before .before .before .before .args .s .now) (c .before .before .before .before .before .before .before .before .before .before .before .before .before .before .args .o) (c .before .before .before .before .before .before .before .before .before .before .before .before .before .before .pre .0) (c .before .before .before .before .before .before .before .before .before .before .before .before .before .before .args .origin .now) (c .before .before .before .before .before .before .before .before .before .before .before .before .before .before .args .t .now) (c .before .before .before .before .before .before .before .before .before .before .before .before .before .before .pre .1) (omega (arith, c .before .before .before .before .before .before .before .before .before .if1 .left)) (c .before .before .before .before .before .before .before .before .before .before .before .before .before .before .args .first) (c .before .before .before .before .before .before .before .before .before .before .before .before .before .before .args .many) (sym (c .before .before .before .before .before .before .before .if2 .taken) ∙ c .before .before .before .before .before .before .before .before .is-run .ensures) (sym (c .before .before .before .before .before .before .is-name .ensures) ∙ c .before .before .before .before .before .if3 .taken)) (c .before .before .read-run .ensures)
+returns-2 c = rw (read-runs (c .before .before .before .before .before .before .before .before .before .before .before .before .before .pre .0) (c .before .before .before .before .before .before .before .before .before .before .before .before .before .args .origin .now) (c .before .before .before .before .before .before .before .before .before .before .before .before .before .args .t .now) (c .before .before .before .before .before .before .before .before .before .before .before .before .before .pre .1) (omega (arith, c .before .before .before .before .before .before .before .before .if1 .left)) (c .before .before .before .before .before .before .before .before .before .before .before .before .before .args .first) (c .before .before .before .before .before .before .before .before .before .before .before .before .before .args .many) (sym (c .before .before .before .before .before .before .if2 .taken) ∙ c .before .before .before .before .before .before .before .is-run .ensures) (sym (c .before .before .before .before .before .is-name .ensures) ∙ c .before .before .before .before .if3 .taken)) (c .before .before .read-run .ensures)
 
 returns-3 : tie.Need-returns-3
 unfolding read
-returns-3 c = leaves-refused _ (c .before .before .before .before .before .before .before .before .before .args .at) _ _ _ _ (read-no-origin (c .before .before .before .before .before .before .before .before .before .args .s .now) (c .before .before .before .before .before .before .before .before .before .args .o) (c .before .before .before .before .before .before .before .before .before .pre .0) (c .before .before .before .before .before .before .before .before .before .args .origin .now) (c .before .before .before .before .before .before .before .before .before .args .t .now) (c .before .before .before .before .before .before .before .before .before .pre .1) (omega (arith, c .before .before .before .before .if1 .left)) (c .before .before .before .before .before .before .before .before .before .args .first) (c .before .before .before .before .before .before .before .before .before .args .many) (sym (c .before .before .if2 .taken) ∙ c .before .before .before .is-run .ensures) (sym (c .before .is-name .ensures) ∙ c .if3 .left)) refl refl
+returns-3 c = leaves-refused _ (c .before .before .before .before .before .before .before .before .before .args .at) _ _ _ _ (read-no-origin (c .before .before .before .before .before .before .before .before .before .pre .0) (c .before .before .before .before .before .before .before .before .before .args .origin .now) (c .before .before .before .before .before .before .before .before .before .args .t .now) (c .before .before .before .before .before .before .before .before .before .pre .1) (omega (arith, c .before .before .before .before .if1 .left)) (c .before .before .before .before .before .before .before .before .before .args .first) (c .before .before .before .before .before .before .before .before .before .args .many) (sym (c .before .before .if2 .taken) ∙ c .before .before .before .is-run .ensures) (sym (c .before .is-name .ensures) ∙ c .if3 .left)) refl refl
 
 returns-4 : tie.Need-returns-4
 unfolding read
-returns-4 c = leaves-refused _ (c .before .before .before .before .before .before .before .args .at) _ _ _ _ (read-no-run (c .before .before .before .before .before .before .before .args .s .now) (c .before .before .before .before .before .before .before .args .o) (c .before .before .before .before .before .before .before .pre .0) (c .before .before .before .before .before .before .before .args .origin .now) (c .before .before .before .before .before .before .before .args .t .now) (c .before .before .before .before .before .before .before .pre .1) (omega (arith, c .before .before .if1 .left)) (c .before .before .before .before .before .before .before .args .first) (c .before .before .before .before .before .before .before .args .many) (sym (c .if2 .left) ∙ c .before .is-run .ensures)) refl refl
+returns-4 c = leaves-refused _ (c .before .before .before .before .before .before .before .args .at) _ _ _ _ (read-no-run (c .before .before .before .before .before .before .before .pre .0) (c .before .before .before .before .before .before .before .args .origin .now) (c .before .before .before .before .before .before .before .args .t .now) (c .before .before .before .before .before .before .before .pre .1) (omega (arith, c .before .before .if1 .left)) (c .before .before .before .before .before .before .before .args .first) (c .before .before .before .before .before .before .before .args .many) (sym (c .if2 .left) ∙ c .before .is-run .ensures)) refl refl
 
 pub read-judged-spec : {M : Type 1} → statement M
 read-judged-spec =
