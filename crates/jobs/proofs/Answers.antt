@@ -14,7 +14,7 @@ use Rattle.format.specs.Job.{answerLine, fieldCount}
 use Rattle.job_line.proofs.Answers.{Short, reading-short}
 use Rattle.stanza.specs.declared.Outline.{Outline}
 use Rattle.stanza.specs.Stanza.{Outlined}
-use Rattle.entry.proofs.Laws.{accepted, many}
+use Rattle.entry.proofs.Laws.{accepted}
 use Rattle.entry.specs.declared.Reply.{Reply}
 use Rattle.entry.specs.Entries.{Leaves}
 use Rattle.read_entry.proofs.Readings.{read-rejected}
@@ -50,24 +50,24 @@ module _ (a : Answer) (h : Short a) (out : List ℕ) (big : 65535 ≤ length out
         rw (f, z) (take-at t (drop (0 + length t) out) (length t) refl)
 
 -- Under a judged stanza, as many fields as were counted give each record's answer.
-pub counted-answer : (s : List ℕ) (o : Outline) → Outlined s o → (origin t : List ℕ) → length t ≤ 1048576 → reading s 1 (o .count) origin t ≡ reading s 1 (fieldCount (judged s)) origin t
-counted-answer s o q origin t h = by (o .number) refl
+pub counted-answer : {s codes : List ℕ} {o : Outline} → Outlined s codes o → (origin t : List ℕ) → length t ≤ 1048576 → reading s 1 (o .count) origin t ≡ reading s 1 (fieldCount (judged s)) origin t
+counted-answer {s} {codes} {o} q origin t h = by (o .number) refl
   where
     by : (n : ℕ) → o .number ≡ n → reading s 1 (o .count) origin t ≡ reading s 1 (fieldCount (judged s)) origin t
-    by zero z = ap (λ k. reading s 1 k origin t) (sym (ap fieldCount (accepted s o (q .judges) z) ∙ many s o (q .judges)))
+    by zero z = ap (λ k. reading s 1 k origin t) (sym (ap fieldCount (accepted q z) ∙ q .many))
     by (suc n) z =
         let p : 0 < o .number = omega arith in
-        read-rejected s o q origin t h 1 (o .count) p ∙ sym (read-rejected s o q origin t h 1 (fieldCount (judged s)) p)
+        read-rejected q origin t h 1 (o .count) p ∙ sym (read-rejected q origin t h 1 (fieldCount (judged s)) p)
 
 -- So each record's line is that of what reading answered and left.
-module _ (s : List ℕ) (o : Outline) (h : Outlined s o) (origin t : List ℕ) (l : length t ≤ 1048576) (out : List ℕ) (big : 65535 ≤ length out)
+module _ {s codes : List ℕ} {o : Outline} (h : Outlined s codes o) (origin t : List ℕ) (l : length t ≤ 1048576) (out : List ℕ) (big : 65535 ≤ length out)
     (r : Reply) (after : List ℕ) (w : Leaves r after (read s 1 (o .count) origin t out 0)) where
   answer : Answer
   answer = reading s 1 (o .count) origin t
 
   told : answer ≡ reading s 1 (fieldCount (judged s)) origin t
   unfolding answer
-  told = counted-answer s o h origin t l
+  told = counted-answer h origin t l
 
   short : Short answer
   unfolding answer

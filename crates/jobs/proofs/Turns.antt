@@ -35,11 +35,11 @@ pub form-bad : (j buffer : List ℕ) {f : Form} → Forms j buffer f → f ≡ B
 form-bad j buffer {f} h e = rw e at h
 
 -- the parts of a job that are lent to a call
-pub outlined-part : (j : List ℕ) (from to : ℕ) (o : Outline) → from ≤ to → Outlined (take (to - from) (drop from j)) o → Outlined (slice from to j) o
-outlined-part j from to o h q = rw (lent j from to h) at q
+pub outlined-part : (j : List ℕ) (from to : ℕ) (codes : List ℕ) (o : Outline) → from ≤ to → Outlined (take (to - from) (drop from j)) codes o → Outlined (slice from to j) codes o
+outlined-part j from to codes o h q = rw (lent j from to h) at q
 
-pub outlined-lent : (j : List ℕ) (from to : ℕ) (o : Outline) → from ≤ to → Outlined (slice from to j) o → Outlined (take (to - from) (drop from j)) o
-outlined-lent j from to o h q = rw (lent j from to h) q
+pub outlined-lent : (j : List ℕ) (from to : ℕ) (codes : List ℕ) (o : Outline) → from ≤ to → Outlined (slice from to j) codes o → Outlined (take (to - from) (drop from j)) codes o
+outlined-lent j from to codes o h q = rw (lent j from to h) q
 
 pub line-lent : (j g : List ℕ) (from to end m e : ℕ) → from ≤ to → m ≤ e
     → lineUnder (take (to - from) (drop from j)) (take (end - 0) (drop 0 g)) (take (e - m) (drop m j)) ≡ lineUnder (slice from to j) (take end g) (slice m e j)

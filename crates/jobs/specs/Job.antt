@@ -10,7 +10,6 @@ use Rattle.format.specs.Lists.{flatMap}
 use Rattle.format.specs.Job.{recordLine, written}
 use Rattle.stanza.specs.Stanza.{Outlined}
 use Rattle.writing.specs.Writing.{Wrote}
-use Rattle.jobs.specs.Answer.{lineUnder}
 use Rattle.job_form.specs.Lines.{linesAt}
 use Rattle.job_form.specs.Form.{jobAt, Forms}
 use Rattle.job_form.specs.declared.form.Form.{Form}
@@ -24,11 +23,7 @@ formOf b = cond (b .good) (Good (b .places)) Bad
 -- the form is read, and the stanza judged
 pub record Begins (j : List ℕ) (b : Job) : Type 0 where
   pub form : Forms j (b .origin) (formOf b)
-  pub judged : Outlined (slice (b .places .from) (b .places .to) j) (b .outline)
-
--- the line of a record of the job
-abbrev pub lineOf : List ℕ → Job → List ℕ → List ℕ
-lineOf j b t = lineUnder (slice (b .places .from) (b .places .to) j) (take (b .places .origin) (b .origin)) t
+  pub judged : Outlined (slice (b .places .from) (b .places .to) j) (b .codes) (b .outline)
 
 -- what is to be written from a record on
 abbrev pub leftAt : List ℕ → Job → ℕ → List ℕ

@@ -3,11 +3,10 @@ ghost use Prim.Native.Nat.{_^_, _≤_, _<_};
 ghost use mathlib.Core.Path.{_≡_};
 ghost use mathlib.Core.Bool.{true};
 ghost use lib.ListN.{length};
-ghost use lib.Seq.{slice};
 ghost use Rattle.stanza.specs.Stanza.{Outlined};
 ghost use Rattle.writing.specs.Writing.{Wrote};
 ghost use Rattle.jobs.specs.Answer.{lineUnder};
-ghost use Rattle.jobs.specs.Job.{Begins, lineOf, Turns};
+ghost use Rattle.jobs.specs.Job.{Begins, Turns};
 use job_form::form::Form;
 use job_form::form::Places;
 use job_form::form::read_form;
@@ -20,12 +19,13 @@ use stanza::Outline;
 // The longest RDATA.
 const RDATA: usize = 65535;
 
-// A job: whether it keeps the form, its places, its origin, and its judged stanza.
+// A job: whether it keeps the form, its places, its origin, and its judged stanza with the codes of its fields.
 pub struct Job {
     pub good: bool,
     pub places: Places,
     pub origin: [u8; 255],
     pub outline: Outline,
+    pub codes: [u64; 64],
 }
 
 // A turn: how many octets it wrote, whether records are left, and where they begin.
@@ -40,10 +40,11 @@ pub fn begin(j: &[u8]) -> Job
     ensures { λ r. ⌜ Begins (now (j .entry)) r ⌝ }
 {
     let mut origin = [0u8; 255];
+    let mut codes = [0u64; 64];
     let f = read_form(j, &mut origin);
     match f {
         Form::Bad => {
-            let outline = stanza::judged_outline(&j[0..0]);
+            let outline = stanza::judged_outline(&j[0..0], &mut codes);
             Job {
                 good: false,
                 places: Places {
@@ -54,17 +55,19 @@ pub fn begin(j: &[u8]) -> Job
                 },
                 origin: origin,
                 outline: outline,
+                codes: codes,
             }
         }
         Form::Good(places) => {
             let from = places.from;
             let to = places.to;
-            let outline = stanza::judged_outline(&j[from..to]);
+            let outline = stanza::judged_outline(&j[from..to], &mut codes);
             Job {
                 good: true,
                 places: places,
                 origin: origin,
                 outline: outline,
+                codes: codes,
             }
         }
     }
@@ -76,14 +79,15 @@ pub fn put_record(
     n: usize,
     s: &[u8],
     o: Outline,
+    codes: &[u64; 64],
     origin: &[u8],
     t: &[u8],
     rdata: &mut [u8],
 ) -> usize
-    requires { ⌜ (n < 2 ^ 31) × Outlined (now s) o × (length (now t) ≤ 1048576) × (65535 ≤ length (now rdata)) ⌝ }
+    requires { ⌜ (n < 2 ^ 31) × Outlined (now s) (now codes) o × (length (now t) ≤ 1048576) × (65535 ≤ length (now rdata)) ⌝ }
     ensures { λ r. ⌜ Wrote (now (out .entry)) (now (out .exit)) n r (lineUnder (now (s .entry)) (now (origin .entry)) (now (t .entry))) ⌝ }
 {
-    let r = read_entry::read_judged(s, o, 1, o.count, origin, t, rdata, 0);
+    let r = read_entry::read_judged(s, o, codes, 1, o.count, origin, t, rdata, 0);
     let number = r.number;
     let place = r.place;
     if number == 0 {
@@ -93,40 +97,17 @@ pub fn put_record(
     put_no(out, n, number, place)
 }
 
-// The line of the record that stands from m to e.
-fn put_next(
-    out: &mut [u8],
-    n: usize,
-    j: &[u8],
-    job: Job,
-    m: usize,
-    e: usize,
-    rdata: &mut [u8],
-) -> usize
-    requires { ⌜ (n < 2 ^ 31) × Begins (now j) job × (job .good ≡ true) × (m ≤ e) × (e ≤ length (now j)) × (65535 ≤ length (now rdata)) ⌝ }
-    ensures { λ r. ⌜ Wrote (now (out .entry)) (now (out .exit)) n r (lineOf (now (j .entry)) job (slice m e (now (j .entry)))) ⌝ }
-{
-    let origin = job.origin;
-    let outline = job.outline;
-    let from = job.places.from;
-    let to = job.places.to;
-    let end = job.places.origin;
-    put_record(
-        out,
-        n,
-        &j[from..to],
-        outline,
-        &origin[0..end],
-        &j[m..e],
-        rdata,
-    )
-}
-
 // The lines of the records from a place on, while there is room for the longest.
 fn put_lines(out: &mut [u8], j: &[u8], job: Job, at: usize, rdata: &mut [u8; RDATA]) -> Turn
     requires { ⌜ Begins (now j) job × (job .good ≡ true) × (131074 ≤ length (now out)) × (length (now out) ≤ 1048576) ⌝ }
     ensures { λ r. ⌜ Turns (now (j .entry)) job at (now (out .entry)) (now (out .exit)) r ⌝ }
 {
+    let origin = job.origin;
+    let codes = job.codes;
+    let outline = job.outline;
+    let from = job.places.from;
+    let to = job.places.to;
+    let end = job.places.origin;
     let mut m = at;
     let mut n = 0;
     while m < j.len() {
@@ -138,7 +119,16 @@ fn put_lines(out: &mut [u8], j: &[u8], job: Job, at: usize, rdata: &mut [u8; RDA
             };
         }
         let e = line_end(j, m);
-        n = put_next(out, n, j, job, m, e, rdata);
+        n = put_record(
+            out,
+            n,
+            &j[from..to],
+            outline,
+            &codes,
+            &origin[0..end],
+            &j[m..e],
+            rdata,
+        );
         m = e + 1;
     }
     Turn {

@@ -41,10 +41,10 @@ judged-outline-requires-2 : tie.Need-judged-outline-requires-2
 judged-outline-requires-2 c κs = search needs
 
 returns : tie.Need-returns
-returns c = record { form = form-bad _ _ (c .before .before .before .before .before .read-form .ensures) (c .before .before .enum-told .given .1); judged = c .judged-outline .ensures }
+returns c = record { form = form-bad _ _ (c .before .before .before .before .before .before .read-form .ensures) (c .before .before .before .enum-told .given .1); judged = c .judged-outline .ensures }
 
 returns-2 : tie.Need-returns-2
-returns-2 c = record { form = form-good (c .before .before .before .before .before .before .read-form .ensures) (c .before .before .before .f .given .1); judged = outlined-part _ _ _ _ (form-good (c .before .before .before .before .before .before .read-form .ensures) (c .before .before .before .f .given .1) .stanza-after) (c .judged-outline2 .ensures) }
+returns-2 c = record { form = form-good (c .before .before .before .before .before .before .before .read-form .ensures) (c .before .before .before .before .f .given .1); judged = outlined-part _ _ _ _ _ (form-good (c .before .before .before .before .before .before .before .read-form .ensures) (c .before .before .before .before .f .given .1) .stanza-after) (c .judged-outline2 .ensures) }
 
 pub begin-spec : {M : Type 1} → statement M
 begin-spec =
