@@ -130,6 +130,6 @@ pub fn base64(out: &mut [u8], n: usize, p: &[u8], i: usize, e: usize) -> usize
     let m = groups(out, n, t, 6, 3, p, i, c);
     let r = rest(out, m, t, 6, 3, p, i + 3 * c, e);
     let k = (4 - (r - n) % 4) % 4;
-    let padding = [61u8; 3];
+    let padding = [b'='; 3];
     put_all(out, r, &padding[0..k])
 }

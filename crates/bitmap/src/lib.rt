@@ -20,7 +20,7 @@ fn put_type(out: &mut [u8], n: usize, start: usize, v: u64) -> usize
     ensures { λ r. ⌜ Wrote (now (out .entry)) (now (out .exit)) n r (typesText (ltb start n) (v ∷ [])) ⌝ }
 {
     if start < n {
-        let m = put_octet(out, n, 32);
+        let m = put_octet(out, n, b' ');
         return rrtype::number(out, m, v);
     }
     rrtype::number(out, n, v)

@@ -25,10 +25,10 @@ fn fold(ignoring: bool, b: u8) -> u8
     ensures { λ r. ⌜ r ≡ cond ignoring (lowered b) b ⌝ }
 {
     if ignoring {
-        if b < 65 {
+        if b < b'A' {
             return b;
         }
-        if b <= 90 {
+        if b <= b'Z' {
             return b + 32;
         }
         return b;
@@ -149,7 +149,7 @@ fn ends_at(s: &[u8], z: usize, b: usize) -> bool
     if z == b {
         return true;
     }
-    s[z] == 44
+    s[z] == b','
 }
 
 // The symbol from i on and before b, found in one pass.
@@ -159,7 +159,7 @@ fn symbol_at(s: &[u8], i: usize, b: usize) -> Piece
 {
     let n = octets::skip(s, i, b, octets::Class::NameOctet);
     if begins_name(s, i, n) {
-        if octets::octet_at(s, n, b) == 61 {
+        if octets::octet_at(s, n, b) == b'=' as u16 {
             let z = octets::skip(s, n + 1, b, octets::Class::Digit);
             if ends_at(s, z, b) {
                 return numbered(s, n, z);

@@ -119,7 +119,7 @@ fn number_after(s: &[u8], i: usize, end: usize) -> Digits
     requires { ⌜ (i ≤ end) × (end ≤ length (now s)) ⌝ }
     ensures { λ r. ⌜ (numberIn (now (s .entry)) end r ≡ numberAfter (slice i end (now (s .entry)))) × DigitsWithin end r ⌝ }
 {
-    if octets::octet_at(s, i, end) == 58 {
+    if octets::octet_at(s, i, end) == b':' as u16 {
         let e = octets::skip(s, i + 1, end, Class::Digit);
         let n = octets::decimal(s, i + 1, e);
         match n {
@@ -139,7 +139,7 @@ fn after_options(s: &[u8], i: usize, end: usize) -> Place
     requires { ⌜ (i ≤ end) × (end ≤ length (now s)) ⌝ }
     ensures { λ r. ⌜ (restIn (now (s .entry)) end r ≡ afterOptions (slice i end (now (s .entry)))) × Within i end r ⌝ }
 {
-    if octets::octet_at(s, i, end) == 58 {
+    if octets::octet_at(s, i, end) == b':' as u16 {
         let e = octets::skip(s, i + 1, end, Class::Letter);
         if i + 1 < e {
             return Place::At(e);
@@ -194,10 +194,10 @@ fn bracketed(s: &[u8], i: usize, end: usize) -> Brackets
     requires { ⌜ (i ≤ end) × (end ≤ length (now s)) ⌝ }
     ensures { λ r. ⌜ (bracketsIn (now (s .entry)) end r ≡ qualifiersAt end (slice i end (now (s .entry)))) × BracketsWithin end r ⌝ }
 {
-    if octets::octet_at(s, i, end) == 91 {
+    if octets::octet_at(s, i, end) == b'[' as u16 {
         let e = octets::skip(s, i + 1, end, Class::NotBracket);
         if i + 1 < e {
-            if octets::octet_at(s, e, end) == 93 {
+            if octets::octet_at(s, e, end) == b']' as u16 {
                 return Brackets::Between(i + 1, e, e + 1);
             }
         }
@@ -211,7 +211,7 @@ fn field_name(s: &[u8], i: usize, end: usize) -> Named
     requires { ⌜ (i ≤ end) × (end ≤ length (now s)) ⌝ }
     ensures { λ r. ⌜ (namedIn (now (s .entry)) end r ≡ fieldNameAt (slice i end (now (s .entry)))) × NamedWithin end r ⌝ }
 {
-    if octets::octet_at(s, i, end) == 58 {
+    if octets::octet_at(s, i, end) == b':' as u16 {
         let p = name_end(s, i + 1, end);
         match p {
             Place::NoPlace => {

@@ -20,7 +20,7 @@ pub fn put_ok(out: &mut [u8], n: usize, rdata: &[u8]) -> usize
     }
     let hex = put_all(out, n, b"ok ");
     let end = put_hex_upper(out, hex, rdata);
-    put_octet(out, end, 10)
+    put_octet(out, end, b'\n')
 }
 
 // `no`, then a refusal's number and place.
@@ -30,9 +30,9 @@ pub fn put_no(out: &mut [u8], n: usize, number: u32, place: u32) -> usize
 {
     let first = put_all(out, n, b"no ");
     let blank = put_decimal(out, first, number as u64);
-    let second = put_octet(out, blank, 32);
+    let second = put_octet(out, blank, b' ');
     let end = put_decimal(out, second, place as u64);
-    put_octet(out, end, 10)
+    put_octet(out, end, b'\n')
 }
 
 // The line that answers a job that breaks the form.

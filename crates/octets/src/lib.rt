@@ -34,10 +34,10 @@ pub enum Number {
 fn is_digit(b: u8) -> bool
     ensures { λ r. ⌜ r ≡ Rattle.format.specs.Octets.digit b ⌝ }
 {
-    if b < 48 {
+    if b < b'0' {
         return false;
     }
-    b <= 57
+    b <= b'9'
 }
 
 // A capital differs from its small letter by one bit, so that one range is tested.
@@ -45,10 +45,10 @@ fn is_letter(b: u8) -> bool
     ensures { λ r. ⌜ r ≡ Rattle.format.specs.Octets.letter b ⌝ }
 {
     let small = b | 32;
-    if small < 97 {
+    if small < b'a' {
         return false;
     }
-    small <= 122
+    small <= b'z'
 }
 
 // Whether an octet is of a class.
@@ -56,12 +56,12 @@ pub fn is_in(c: Class, b: u8) -> bool
     ensures { λ r. ⌜ r ≡ inClass c b ⌝ }
 {
     match c {
-        Class::NotNewline => b != 10,
+        Class::NotNewline => b != b'\n',
         Class::Blank => {
-            if b == 32 {
+            if b == b' ' {
                 return true;
             }
-            b == 9
+            b == b'\t'
         }
         Class::Digit => is_digit(b),
         Class::Letter => is_letter(b),
@@ -78,12 +78,12 @@ pub fn is_in(c: Class, b: u8) -> bool
             if is_digit(b) {
                 return true;
             }
-            b == 45
+            b == b'-'
         }
-        Class::NotBracket => b != 93,
-        Class::NotComma => b != 44,
+        Class::NotBracket => b != b']',
+        Class::NotComma => b != b',',
         Class::FreeText => {
-            if b < 32 {
+            if b < b' ' {
                 return false;
             }
             b <= 254
@@ -245,13 +245,13 @@ pub fn decimal(s: &[u8], i: usize, e: usize) -> Number
     let mut j = i;
     while j < e {
         let b = s[j];
-        if b < 48 {
+        if b < b'0' {
             return Number::Fault;
         }
-        if 57 < b {
+        if b'9' < b {
             return Number::Fault;
         }
-        v = v * 10 + (b - 48) as u64;
+        v = v * 10 + (b - b'0') as u64;
         j = j + 1;
     }
     Number::Value(v)

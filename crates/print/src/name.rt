@@ -38,7 +38,7 @@ fn labels(out: &mut [u8], n: usize, p: &[u8], i: usize, e: usize) -> usize
     while j + 1 < e {
         let k = j + 1 + p[j] as usize;
         let a = escaped(out, m, p, j + 1, k);
-        m = put_octet(out, a, 46);
+        m = put_octet(out, a, b'.');
         j = k;
     }
     m
@@ -53,7 +53,7 @@ pub fn name(out: &mut [u8], n: usize, p: &[u8], i: usize, e: usize) -> usize
         return n;
     }
     if e <= i + 1 {
-        return put_octet(out, n, 46);
+        return put_octet(out, n, b'.');
     }
     labels(out, n, p, i, e)
 }

@@ -19,16 +19,16 @@ use writing::put_octet;
 fn is_plain(b: u8) -> bool
     ensures { λ r. ⌜ r ≡ plainText b ⌝ }
 {
-    if b < 32 {
+    if b < b' ' {
         return false;
     }
-    if b == 34 {
+    if b == b'"' {
         return false;
     }
-    if 126 < b {
+    if b'~' < b {
         return false;
     }
-    b != 92
+    b != b'\\'
 }
 
 // Whether 32 octets from i on stand for themselves: no way out of the loop, so that many are tested at once.
@@ -130,9 +130,9 @@ pub fn string(out: &mut [u8], n: usize, p: &[u8], i: usize, e: usize) -> usize
     requires { ⌜ (n < 2 ^ 31) × (i ≤ e) × (e ≤ length (now p)) × (length (now p) ≤ 65535) ⌝ }
     ensures { λ r. ⌜ Wrote (now (out .entry)) (now (out .exit)) n r (stringText (slice i e (now (p .entry)))) ⌝ }
 {
-    let a = put_octet(out, n, 34);
+    let a = put_octet(out, n, b'"');
     let b = escaped(out, a, p, i, e);
-    put_octet(out, b, 34)
+    put_octet(out, b, b'"')
 }
 
 // The strings of p from i to e, each after its count: a space before each but the first.
@@ -144,7 +144,7 @@ pub fn strings(out: &mut [u8], n: usize, p: &[u8], i: usize, e: usize) -> usize
     let mut m = string(out, n, p, i + 1, j);
     while j < e {
         let k = j + 1 + p[j] as usize;
-        let a = put_octet(out, m, 32);
+        let a = put_octet(out, m, b' ');
         m = string(out, a, p, j + 1, k);
         j = k;
     }

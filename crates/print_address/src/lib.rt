@@ -27,7 +27,7 @@ pub fn dotted(out: &mut [u8], n: usize, p: &[u8], i: usize, e: usize) -> usize
     let mut m = put_decimal(out, n, p[i] as u64);
     let mut j = i + 1;
     while j < e {
-        m = put_octet(out, m, 46);
+        m = put_octet(out, m, b'.');
         m = put_decimal(out, m, p[j] as u64);
         j = j + 1;
     }
@@ -39,9 +39,9 @@ fn lower_digit(d: u64) -> u8
     ensures { λ r. ⌜ r ≡ lowerDigit d ⌝ }
 {
     if d < 10 {
-        return 48 + d as u8;
+        return b'0' + d as u8;
     }
-    97 + (d as u8 - 10)
+    b'a' + (d as u8 - 10)
 }
 
 // A group in hex without leading zeros.
@@ -74,7 +74,7 @@ pub fn groups(out: &mut [u8], n: usize, p: &[u8], i: usize, e: usize) -> usize
     let mut m = group(out, n, two(p, i));
     let mut j = i + 2;
     while j < e {
-        m = put_octet(out, m, 58);
+        m = put_octet(out, m, b':');
         m = group(out, m, two(p, j));
         j = j + 2;
     }
@@ -136,7 +136,7 @@ pub fn aaaa(out: &mut [u8], n: usize, p: &[u8], i: usize, e: usize) -> usize
         return groups(out, n, p, i, e);
     }
     let a = groups(out, n, p, i, at);
-    let b = put_octet(out, a, 58);
-    let c = put_octet(out, b, 58);
+    let b = put_octet(out, a, b':');
+    let c = put_octet(out, b, b':');
     groups(out, c, p, at + 2 * count, e)
 }

@@ -18,7 +18,7 @@ pub fn field(out: &mut [u8], n: usize, p: &[u8], i: usize, e: usize) -> usize
     let mut m = put_hex_lower_octet(out, n, p[i]);
     let mut j = i + 1;
     while j < e {
-        m = put_octet(out, m, 45);
+        m = put_octet(out, m, b'-');
         m = put_hex_lower_octet(out, m, p[j]);
         j = j + 1;
     }

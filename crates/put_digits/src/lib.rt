@@ -19,7 +19,7 @@ pub fn put_fixed(out: &mut [u8], n: usize, w: usize, v: u64) -> usize
     let mut x = v;
     while 0 < k {
         k = k - 1;
-        put(out, n + k, 48 + (x % 10) as u8);
+        put(out, n + k, b'0' + (x % 10) as u8);
         x = x / 10;
     }
     n + w
@@ -44,14 +44,14 @@ fn upper_digit(d: u8) -> u8
     requires { ⌜ d < 16 ⌝ }
     ensures { λ r. ⌜ r ≡ upperDigit d ⌝ }
 {
-    if d < 10 { 48 + d } else { 65 + (d - 10) }
+    if d < 10 { b'0' + d } else { b'A' + (d - 10) }
 }
 
 fn lower_digit(d: u8) -> u8
     requires { ⌜ d < 16 ⌝ }
     ensures { λ r. ⌜ r ≡ lowerDigit d ⌝ }
 {
-    if d < 10 { 48 + d } else { 97 + (d - 10) }
+    if d < 10 { b'0' + d } else { b'a' + (d - 10) }
 }
 
 fn put_hex_upper_octet(out: &mut [u8], n: usize, b: u8) -> usize

@@ -17,31 +17,31 @@ use writing::put_octet;
 fn name_special(b: u8) -> bool
     ensures { λ r. ⌜ r ≡ among b (ascii ".\\\"';()@$") ⌝ }
 {
-    if b == 46 {
+    if b == b'.' {
         return true;
     }
-    if b == 92 {
+    if b == b'\\' {
         return true;
     }
-    if b == 34 {
+    if b == b'"' {
         return true;
     }
-    if b == 39 {
+    if b == b'\'' {
         return true;
     }
-    if b == 59 {
+    if b == b';' {
         return true;
     }
-    if b == 40 {
+    if b == b'(' {
         return true;
     }
-    if b == 41 {
+    if b == b')' {
         return true;
     }
-    if b == 64 {
+    if b == b'@' {
         return true;
     }
-    if b == 36 {
+    if b == b'$' {
         return true;
     }
     false
@@ -51,7 +51,7 @@ fn put_slashed(out: &mut [u8], n: usize, b: u8) -> usize
     requires { ⌜ n < 2 ^ 32 ⌝ }
     ensures { λ r. ⌜ Wrote (now (out .entry)) (now (out .exit)) n r (92 ∷ b ∷ []) ⌝ }
 {
-    put(out, n, 92);
+    put(out, n, b'\\');
     put(out, n + 1, b);
     n + 2
 }
@@ -61,7 +61,7 @@ fn put_ddd(out: &mut [u8], n: usize, b: u8) -> usize
     requires { ⌜ n < 2 ^ 32 ⌝ }
     ensures { λ r. ⌜ Wrote (now (out .entry)) (now (out .exit)) n r (92 ∷ fixedDecimal 3 b) ⌝ }
 {
-    let m = put_octet(out, n, 92);
+    let m = put_octet(out, n, b'\\');
     put_fixed(out, m, 3, b as u64)
 }
 
@@ -73,7 +73,7 @@ fn put_shown(out: &mut [u8], n: usize, lo: u8, b: u8) -> usize
     if b < lo {
         return put_ddd(out, n, b);
     }
-    if 126 < b {
+    if b'~' < b {
         return put_ddd(out, n, b);
     }
     put_octet(out, n, b)
@@ -87,7 +87,7 @@ pub fn put_escaped_name(out: &mut [u8], n: usize, b: u8) -> usize
     if name_special(b) {
         return put_slashed(out, n, b);
     }
-    put_shown(out, n, 33, b)
+    put_shown(out, n, b'!', b)
 }
 
 // An octet of a quoted string.
@@ -95,11 +95,11 @@ pub fn put_escaped_string(out: &mut [u8], n: usize, b: u8) -> usize
     requires { ⌜ n < 2 ^ 32 ⌝ }
     ensures { λ r. ⌜ Wrote (now (out .entry)) (now (out .exit)) n r (stringEscape b) ⌝ }
 {
-    if b == 34 {
+    if b == b'"' {
         return put_slashed(out, n, b);
     }
-    if b == 92 {
+    if b == b'\\' {
         return put_slashed(out, n, b);
     }
-    put_shown(out, n, 32, b)
+    put_shown(out, n, b' ', b)
 }

@@ -74,7 +74,7 @@ pub fn find(s: &[u8], a: usize, z: usize) -> Found
         if n == z {
             return Found::Word;
         }
-        if s[n] == 61 {
+        if s[n] == b'=' {
             let d = octets::decimal(s, n + 1, z);
             match d {
                 octets::Number::Value(v) => {
@@ -94,22 +94,22 @@ pub fn find(s: &[u8], a: usize, z: usize) -> Found
 fn known_letter(x: u8) -> bool
     ensures { λ r. ⌜ r ≡ knownWord (x ∷ []) ⌝ }
 {
-    if x == 76 {
+    if x == b'L' {
         return true;
     }
-    if x == 67 {
+    if x == b'C' {
         return true;
     }
-    if x == 65 {
+    if x == b'A' {
         return true;
     }
-    if x == 79 {
+    if x == b'O' {
         return true;
     }
-    if x == 77 {
+    if x == b'M' {
         return true;
     }
-    x == 88
+    x == b'X'
 }
 
 // A letter that is a word of a type.
@@ -118,26 +118,26 @@ fn takes_letter(t: Words, x: u8) -> bool
 {
     match t {
         Words::Nothing => false,
-        Words::OnR => x == 76,
+        Words::OnR => x == b'L',
         Words::OnN => {
-            if x == 67 {
+            if x == b'C' {
                 return true;
             }
-            if x == 65 {
+            if x == b'A' {
                 return true;
             }
-            if x == 76 {
+            if x == b'L' {
                 return true;
             }
-            x == 79
+            x == b'O'
         }
         Words::OnS => {
-            if x == 77 {
+            if x == b'M' {
                 return true;
             }
-            x == 88
+            x == b'X'
         }
-        Words::OnX => x == 67,
+        Words::OnX => x == b'C',
     }
 }
 

@@ -35,8 +35,8 @@ fn two_colons(t: &[u8], j: usize) -> bool
     requires { ⌜ j + 1 < length (now t) ⌝ }
     ensures { λ r. ⌜ r ≡ eqb (getD (now (t .entry)) j 0) 58 && eqb (getD (now (t .entry)) (j + 1) 0) 58 ⌝ }
 {
-    if t[j] == 58 {
-        return t[j + 1] == 58;
+    if t[j] == b':' {
+        return t[j + 1] == b':';
     }
     false
 }
@@ -83,7 +83,7 @@ fn groups(out: &mut [u8], n: usize, t: &[u8], i: usize, e: usize, tail: bool) ->
 {
     let mut m = n;
     let mut j = i;
-    let mut z = part::part_end(t, i, e, 58);
+    let mut z = part::part_end(t, i, e, b':');
     while z < e {
         let x = part::piece(out, m, Form::Group, t, j, z);
         match x {
@@ -93,7 +93,7 @@ fn groups(out: &mut [u8], n: usize, t: &[u8], i: usize, e: usize, tail: bool) ->
             Value::Upto(r) => {
                 m = r;
                 j = z + 1;
-                z = part::part_end(t, j, e, 58);
+                z = part::part_end(t, j, e, b':');
             }
         }
     }

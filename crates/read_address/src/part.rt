@@ -24,22 +24,22 @@ pub enum Form {
 fn hex_value(b: u8) -> u8
     ensures { λ r. ⌜ r ≡ hexOf b ⌝ }
 {
-    if b < 48 {
+    if b < b'0' {
         return 16;
     }
-    if b < 58 {
-        return b - 48;
+    if b < b':' {
+        return b - b'0';
     }
-    if b < 65 {
+    if b < b'A' {
         return 16;
     }
-    if b < 71 {
+    if b < b'G' {
         return b - 55;
     }
-    if b < 97 {
+    if b < b'a' {
         return 16;
     }
-    if b < 103 {
+    if b < b'g' {
         return b - 87;
     }
     16
@@ -94,7 +94,7 @@ fn zero_first(t: &[u8], i: usize, e: usize) -> bool
     if e - i < 2 {
         return false;
     }
-    t[i] == 48
+    t[i] == b'0'
 }
 
 // A number 0 to 255 without leading zeros.
@@ -134,9 +134,9 @@ fn mark(f: Form) -> u8
     ensures { λ r. ⌜ r ≡ markOf f ⌝ }
 {
     match f {
-        Form::Pair => 45,
-        Form::Small => 46,
-        Form::Group => 58,
+        Form::Pair => b'-',
+        Form::Small => b'.',
+        Form::Group => b':',
     }
 }
 

@@ -20,7 +20,7 @@ fn padded(t: &[u8], i: usize, e: usize, a: &[u8], skip: usize, k: usize) -> bool
         if e <= j {
             return false;
         }
-        if t[j] != 61 {
+        if t[j] != b'=' {
             return false;
         }
         q = q - 1;

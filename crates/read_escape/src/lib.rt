@@ -18,13 +18,13 @@ pub enum Escape {
 fn digit_value(b: u8) -> u16
     ensures { λ r. ⌜ r ≡ cond (digit b) (b - 48) 10 ⌝ }
 {
-    if b < 48 {
+    if b < b'0' {
         return 10;
     }
-    if 57 < b {
+    if b'9' < b {
         return 10;
     }
-    (b - 48) as u16
+    (b - b'0') as u16
 }
 
 // The two digits from i on that follow a digit v: the number of the three is at most 255.

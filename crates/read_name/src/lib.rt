@@ -49,7 +49,7 @@ fn octet(t: &[u8], i: usize, e: usize) -> Escape
     ensures { λ r. ⌜ OneItem (now (t .entry)) i e r ⌝ }
 {
     let b = t[i];
-    if b == 92 {
+    if b == b'\\' {
         return read_escape::read(t, i + 1, e);
     }
     Escape::Octet(b, i + 1)
@@ -63,7 +63,7 @@ fn label(out: &mut [u8], n: usize, t: &[u8], i: usize, e: usize) -> LabelEnd
     let mut m = n + 1;
     let mut j = i;
     while j < e {
-        if t[j] == 46 {
+        if t[j] == b'.' {
             if m <= n + 1 {
                 return LabelEnd::Fault;
             }
@@ -135,10 +135,10 @@ pub fn name(out: &mut [u8], n: usize, t: &[u8], a: usize, e: usize, origin: &[u8
     ensures { λ r. ⌜ Values (now (out .entry)) (now (out .exit)) n r (readName (now (origin .entry)) (slice a e (now (t .entry)))) ⌝ }
 {
     let b = sole_octet(t, a, e);
-    if b == 64 {
+    if b == b'@' {
         return Value::Upto(put_all(out, n, origin));
     }
-    if b == 46 {
+    if b == b'.' {
         return Value::Upto(put_octet(out, n, 0));
     }
     labels(out, n, t, a, e, origin)

@@ -32,16 +32,16 @@ fn named_type(t: &[u8], i: usize) -> bool
     requires { ⌜ i + 4 ≤ length (now t) ⌝ }
     ensures { λ r. ⌜ r ≡ sameWord (slice i (i + 4) (now (t .entry))) (ascii "TYPE") ⌝ }
 {
-    if !same_letter(t[i], 84) {
+    if !same_letter(t[i], b'T') {
         return false;
     }
-    if !same_letter(t[i + 1], 89) {
+    if !same_letter(t[i + 1], b'Y') {
         return false;
     }
-    if !same_letter(t[i + 2], 80) {
+    if !same_letter(t[i + 2], b'P') {
         return false;
     }
-    same_letter(t[i + 3], 69)
+    same_letter(t[i + 3], b'E')
 }
 
 // Digits up to a place, and their number.
@@ -59,13 +59,13 @@ fn five_digits(t: &[u8], i: usize) -> Digits
     let mut j = i;
     while j < i + 5 {
         let b = t[j];
-        if b < 48 {
+        if b < b'0' {
             return Digits { end: j, value: v };
         }
-        if 57 < b {
+        if b'9' < b {
             return Digits { end: j, value: v };
         }
-        v = v * 10 + (b - 48) as u64;
+        v = v * 10 + (b - b'0') as u64;
         j = j + 1;
     }
     Digits { end: j, value: v }

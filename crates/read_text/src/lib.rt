@@ -21,7 +21,7 @@ fn near_end(t: &[u8], i: usize, e: usize) -> usize
 {
     let mut j = i;
     while j < e {
-        if t[j] == 92 {
+        if t[j] == b'\\' {
             return j;
         }
         j = j + 1;
@@ -37,7 +37,7 @@ fn none_escapes(t: &[u8], i: usize) -> bool
     let mut all = true;
     let mut k = 0;
     while k < 32 {
-        all = all & (t[i + k] != 92);
+        all = all & (t[i + k] != b'\\');
         k = k + 1;
     }
     all

@@ -82,10 +82,10 @@ pub fn put_number(out: &mut [u8], n: usize, s: &[u8], a: usize, b: usize, v: u64
 fn lower(b: u8) -> u8
     ensures { λ r. ⌜ r ≡ lowered b ⌝ }
 {
-    if b < 65 {
+    if b < b'A' {
         return b;
     }
-    if b <= 90 {
+    if b <= b'Z' {
         return b + 32;
     }
     b

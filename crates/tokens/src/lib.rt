@@ -22,13 +22,13 @@ pub enum Next {
 fn is_text(b: u8) -> bool
     ensures { λ r. ⌜ r ≡ textOctet b ⌝ }
 {
-    if b == 9 {
+    if b == b'\t' {
         return true;
     }
-    if b < 32 {
+    if b < b' ' {
         return false;
     }
-    b <= 126
+    b <= b'~'
 }
 
 // lo to hi
@@ -46,22 +46,22 @@ fn is_between(lo: u8, hi: u8, b: u8) -> bool
 fn stands_bare(b: u8) -> bool
     ensures { λ r. ⌜ r ≡ standing 0 b ⌝ }
 {
-    if b == 34 {
+    if b == b'"' {
         return false;
     }
-    if b < 33 {
+    if b < b'!' {
         return false;
     }
-    if b == 59 {
+    if b == b';' {
         return false;
     }
-    if 126 < b {
+    if b'~' < b {
         return false;
     }
-    if b == 92 {
+    if b == b'\\' {
         return false;
     }
-    !is_between(39, 41, b)
+    !is_between(b'\'', b')', b)
 }
 
 // The same in a token that q quotes, or in a bare one where q is 0.
@@ -74,13 +74,13 @@ fn stands(q: u8, b: u8) -> bool
     if b == q {
         return false;
     }
-    if b < 32 {
-        return b == 9;
+    if b < b' ' {
+        return b == b'\t';
     }
-    if 126 < b {
+    if b'~' < b {
         return false;
     }
-    b != 92
+    b != b'\\'
 }
 
 // The end of the octets from i on and before e that stand for themselves.
@@ -168,7 +168,7 @@ fn escape_at(t: &[u8], j: usize) -> bool
     if t.len() - j < 2 {
         return false;
     }
-    if t[j] != 92 {
+    if t[j] != b'\\' {
         return false;
     }
     is_text(t[j + 1])
@@ -235,11 +235,11 @@ pub fn next_token(t: &[u8], i: usize) -> Next
         return Next::End;
     }
     let b = t[a];
-    if b == 34 {
-        return token(t, a + 1, 34);
+    if b == b'"' {
+        return token(t, a + 1, b'"');
     }
-    if b == 39 {
-        return token(t, a + 1, 39);
+    if b == b'\'' {
+        return token(t, a + 1, b'\'');
     }
     token(t, a, 0)
 }

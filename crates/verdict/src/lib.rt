@@ -231,7 +231,7 @@ fn ignored(s: &[u8], t: usize, e: usize) -> bool
     ensures { λ r. ⌜ r ≡ Rattle.format.specs.Judge.ignored (slice t e (now (s .entry))) ⌝ }
 {
     if t < e {
-        return s[t] == 35;
+        return s[t] == b'#';
     }
     true
 }

@@ -17,6 +17,9 @@ begins-name-requires c κs = (omega (arith, c .skip .ensures), omega (arith, c .
 octet-at-requires : tie.Need-octet-at-requires
 octet-at-requires c κs = search needs
 
+cast-if2 : tie.Need-cast-if2
+cast-if2 c = search needs
+
 add-skip : tie.Need-add-skip
 add-skip c = omega (arith, octet-there (c .before .before .before .before .before .before .args .s .now) (c .before .before .before .before .skip .result) (c .before .before .before .before .before .before .args .b) (c .before .before .before .before .before .before .pre .1) (sym (c .before .octet-at .ensures) ∙ c .if2 .taken))
 
@@ -48,6 +51,7 @@ symbol-at-spec =
     skip-requires
     begins-name-requires
     octet-at-requires
+    cast-if2
     add-skip
     skip-requires-2
     ends-at-requires

@@ -9,6 +9,9 @@ use Rattle.grammar.proofs.after_options.Tie as tie
 octet-at-requires : tie.Need-octet-at-requires
 octet-at-requires c κs = search needs
 
+cast-if1 : tie.Need-cast-if1
+cast-if1 c = search needs
+
 add-skip : tie.Need-add-skip
 add-skip c = search needs
 
@@ -30,4 +33,4 @@ returns-3 c = (no-options _ (λ h. c .if1 .left (c .before .octet-at .ensures �
 pub after-options-spec : {M : Type 1} → statement M
 after-options-spec =
     tie.close
-    (tie.spec octet-at-requires add-skip skip-requires add-if2 returns returns-2 returns-3)
+    (tie.spec octet-at-requires cast-if1 add-skip skip-requires add-if2 returns returns-2 returns-3)

@@ -8,6 +8,9 @@ use Rattle.grammar.proofs.bracketed.Tie as tie
 octet-at-requires : tie.Need-octet-at-requires
 octet-at-requires c κs = search needs
 
+cast-if1 : tie.Need-cast-if1
+cast-if1 c = search needs
+
 add-skip : tie.Need-add-skip
 add-skip c = search needs
 
@@ -20,11 +23,14 @@ add-if2 c = search needs
 octet-at-requires-2 : tie.Need-octet-at-requires-2
 octet-at-requires-2 c κs = search needs
 
-add-t12 : tie.Need-add-t12
-add-t12 c = search needs
+cast-if3 : tie.Need-cast-if3
+cast-if3 c = search needs
 
-add-t13 : tie.Need-add-t13
-add-t13 c = omega (arith, first-in (c .before .before .before .before .before .before .before .args .s .now) (c .before .before .before .skip .result) (c .before .before .before .before .before .before .before .args .end) 93 (omega arith) (sym (c .before .octet-at2 .ensures) ∙ c .if3 .taken))
+add-t14 : tie.Need-add-t14
+add-t14 c = search needs
+
+add-t15 : tie.Need-add-t15
+add-t15 c = omega (arith, first-in (c .before .before .before .before .before .before .before .args .s .now) (c .before .before .before .skip .result) (c .before .before .before .before .before .before .before .args .end) 93 (omega arith) (sym (c .before .octet-at2 .ensures) ∙ c .if3 .taken))
 
 returns : tie.Need-returns
 returns c = (brackets-on (c .before .before .before .before .before .before .before .args .s .now) (c .before .before .before .before .before .before .before .args .i) (c .before .before .before .before .before .before .before .args .end) (c .before .before .before .before .before .before .before .pre .1) _ (sym (c .before .before .before .before .before .octet-at .ensures) ∙ c .before .before .before .before .if1 .taken) (c .before .before .before .skip .ensures) (c .before .before .if2 .taken) (sym (c .before .octet-at2 .ensures) ∙ c .if3 .taken), omega (arith, first-in (c .before .before .before .before .before .before .before .args .s .now) (c .before .before .before .skip .result) (c .before .before .before .before .before .before .before .args .end) 93 (omega arith) (sym (c .before .octet-at2 .ensures) ∙ c .if3 .taken)))
@@ -43,12 +49,14 @@ bracketed-spec =
     tie.close
     (tie.spec
     octet-at-requires
+    cast-if1
     add-skip
     skip-requires
     add-if2
     octet-at-requires-2
-    add-t12
-    add-t13
+    cast-if3
+    add-t14
+    add-t15
     returns
     returns-2
     returns-3

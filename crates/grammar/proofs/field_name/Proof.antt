@@ -8,6 +8,9 @@ use Rattle.grammar.proofs.field_name.Tie as tie
 octet-at-requires : tie.Need-octet-at-requires
 octet-at-requires c κs = search needs
 
+cast-if1 : tie.Need-cast-if1
+cast-if1 c = search needs
+
 add-name-end : tie.Need-add-name-end
 add-name-end c = search needs
 
@@ -23,8 +26,8 @@ returns c = (rw (c .enum-told .given .1) at (c .before .before .name-end .ensure
 enum-known-p : tie.Need-enum-known-p
 enum-known-p c = search needs
 
-add-t9 : tie.Need-add-t9
-add-t9 c = search needs
+add-t10 : tie.Need-add-t10
+add-t10 c = search needs
 
 returns-2 : tie.Need-returns-2
 returns-2 c = ((rw (c .before .p .given .1) at (c .before .before .before .name-end .ensures .0)) ∙ colon-named (c .before .before .before .before .before .before .before .args .s .now) (c .before .before .before .before .before .before .before .args .i) (c .before .before .before .before .before .before .before .args .end) (c .before .before .before .before .before .before .before .pre .1) (sym (c .before .before .before .before .before .octet-at .ensures) ∙ c .before .before .before .before .if1 .taken), rw (c .before .p .given .1) at (c .before .before .before .name-end .ensures .1))
@@ -37,11 +40,12 @@ field-name-spec =
     tie.close
     (tie.spec
     octet-at-requires
+    cast-if1
     add-name-end
     name-end-requires
     enum-told
     returns
     enum-known-p
-    add-t9
+    add-t10
     returns-2
     returns-3)

@@ -11,6 +11,9 @@ use Rattle.grammar.proofs.number_after.Tie as tie
 octet-at-requires : tie.Need-octet-at-requires
 octet-at-requires c κs = search needs
 
+cast-if1 : tie.Need-cast-if1
+cast-if1 c = search needs
+
 add-skip : tie.Need-add-skip
 add-skip c = search needs
 
@@ -43,6 +46,7 @@ number-after-spec =
     tie.close
     (tie.spec
     octet-at-requires
+    cast-if1
     add-skip
     skip-requires
     add-decimal
