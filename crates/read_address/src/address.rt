@@ -1,11 +1,11 @@
 // A, AA and AAAA.
-ghost use Prim.Native.Nat.{_+_, _-_, _^_, _<_, _≤_};
+ghost use Prim.Native.Nat.{_+_, _^_, _<_, _≤_};
 ghost use mathlib.Core.Path.{_≡_};
 ghost use mathlib.Core.Bool.{true, _&&_};
 ghost use lib.ListN.{length, getD, replicate};
 ghost use lib.Seq.{slice};
 ghost use lib.Dec.{eqb};
-ghost use Rattle.format.specs.Address.{atDoubleColon, readA, readAA, readAAAA};
+ghost use Rattle.format.specs.Address.{readA, readAA, readAAAA};
 ghost use Rattle.writing.specs.Writing.{Wrote, Values};
 ghost use Rattle.read_address.specs.Address.{DoubledAt, lastIn, groupsIn, sideIn, sixteen, filled, bothSides};
 use crate::part;
@@ -111,6 +111,7 @@ fn side(out: &mut [u8], n: usize, t: &[u8], i: usize, e: usize, tail: bool) -> V
     Value::Upto(n)
 }
 
+// k octets that are zero.
 fn put_zeros(out: &mut [u8], n: usize, k: usize) -> usize
     requires { ⌜ (n < 2 ^ 31) × (k ≤ 16) ⌝ }
     ensures { λ r. ⌜ Wrote (now (out .entry)) (now (out .exit)) n r (replicate k 0) ⌝ }

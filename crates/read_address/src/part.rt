@@ -1,6 +1,8 @@
 // The parts of an address between marks, each a number of one or two octets.
-ghost use Prim.Native.Nat.{_+_, _-_, _^_, _<_, _≤_};
+ghost use Prim.Native.Nat.{_-_, _^_, _<_, _≤_};
 ghost use mathlib.Core.Path.{_≡_};
+ghost use mathlib.Core.Bool.{cond};
+ghost use lib.Dec.{eqb};
 ghost use lib.ListN.{length};
 ghost use lib.Seq.{slice};
 ghost use Rattle.format.specs.Digits.{digits};
@@ -8,6 +10,7 @@ ghost use Rattle.format.specs.Hex.{hexPair};
 ghost use Rattle.format.specs.Address.{smallNumber, groupOf};
 ghost use Rattle.octets.specs.Octets.{numberOf};
 ghost use Rattle.writing.specs.Writing.{Wrote, Values};
+ghost use Rattle.writing.specs.declared.Value.the-variants.{Fault, Upto};
 ghost use Rattle.read_address.specs.Part.{hexOf, hexNumber, zeroFirst, partEnd, markOf, widthOf, valueOf, pieceOf, partsOf};
 use octets::Number;
 use writing::Value;
@@ -20,7 +23,7 @@ pub enum Form {
     Group,
 }
 
-// The value of a hex digit, or 16.
+// The value of a hex digit, or 16. The digits end before `:`, and the letters before G.
 fn hex_value(b: u8) -> u8
     ensures { λ r. ⌜ r ≡ hexOf b ⌝ }
 {
@@ -34,13 +37,13 @@ fn hex_value(b: u8) -> u8
         return 16;
     }
     if b < b'G' {
-        return b - 55;
+        return b - b'A' + 10;
     }
     if b < b'a' {
         return 16;
     }
     if b < b'g' {
-        return b - 87;
+        return b - b'a' + 10;
     }
     16
 }
@@ -63,6 +66,7 @@ fn hex(t: &[u8], i: usize, e: usize) -> Number
     Number::Value(v)
 }
 
+// A number of two hex digits.
 fn pair(t: &[u8], i: usize, e: usize) -> Number
     requires { ⌜ (i ≤ e) × (e ≤ length (now t)) ⌝ }
     ensures { λ r. ⌜ r ≡ numberOf (hexPair (slice i e (now (t .entry)))) ⌝ }
@@ -73,6 +77,7 @@ fn pair(t: &[u8], i: usize, e: usize) -> Number
     Number::Fault
 }
 
+// A number of 1 to 4 hex digits.
 fn group(t: &[u8], i: usize, e: usize) -> Number
     requires { ⌜ (i ≤ e) × (e ≤ length (now t)) ⌝ }
     ensures { λ r. ⌜ r ≡ numberOf (groupOf (slice i e (now (t .entry)))) ⌝ }
@@ -192,6 +197,16 @@ pub fn part_end(t: &[u8], i: usize, e: usize, c: u8) -> usize
     j
 }
 
+// The value that ends at r, where the last part was read and k were wanted with it.
+fn ended(k: usize, r: usize) -> Value
+    ensures { λ v. ⌜ v ≡ cond (eqb k 1) (Upto r) Fault ⌝ }
+{
+    if k == 1 {
+        return Value::Upto(r);
+    }
+    Value::Fault
+}
+
 // The octets of exactly w parts.
 pub fn parts(out: &mut [u8], n: usize, f: Form, w: usize, t: &[u8], i: usize, e: usize) -> Value
     requires { ⌜ (n < 2 ^ 31) × (w ≤ 8) × (i ≤ e) × (e ≤ length (now t)) ⌝ }
@@ -210,10 +225,7 @@ pub fn parts(out: &mut [u8], n: usize, f: Form, w: usize, t: &[u8], i: usize, e:
             }
             Value::Upto(r) => {
                 if e <= z {
-                    if k == 1 {
-                        return Value::Upto(r);
-                    }
-                    return Value::Fault;
+                    return ended(k, r);
                 }
                 m = r;
                 j = z + 1;

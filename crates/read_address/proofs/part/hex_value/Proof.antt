@@ -1,5 +1,6 @@
 use borrow.Author.Tests.{lt-ltb, le-ltb}
 use Rattle.read_address.specs.Part.{hexOf}
+use native.Mathlib.Omega.{arith}
 use borrow.Author.Needs.{needs}
 use Rattle.read_address.proofs.part.hex_value.Statement.{statement}
 use Rattle.read_address.proofs.part.hex_value.Tie as tie
@@ -16,23 +17,23 @@ returns-3 : tie.Need-returns-3
 unfolding hexOf
 returns-3 c = simp (le-ltb _ _ (c .before .before .if1 .left), le-ltb _ _ (c .before .if2 .left), lt-ltb _ _ (c .if3 .taken))
 
-sub-result : tie.Need-sub-result
-sub-result c = search needs
+add-result : tie.Need-add-result
+add-result c = search needs
 
 returns-4 : tie.Need-returns-4
 unfolding hexOf
-returns-4 c = simp (le-ltb _ _ (c .before .before .before .if1 .left), le-ltb _ _ (c .before .before .if2 .left), le-ltb _ _ (c .before .if3 .left), lt-ltb _ _ (c .if4 .taken))
+returns-4 c = simp (le-ltb _ _ (c .before .before .before .if1 .left), le-ltb _ _ (c .before .before .if2 .left), le-ltb _ _ (c .before .if3 .left), lt-ltb _ _ (c .if4 .taken)) (omega (arith, c .before .if3 .left))
 
 returns-5 : tie.Need-returns-5
 unfolding hexOf
 returns-5 c = simp (le-ltb _ _ (c .before .before .before .before .if1 .left), le-ltb _ _ (c .before .before .before .if2 .left), le-ltb _ _ (c .before .before .if3 .left), le-ltb _ _ (c .before .if4 .left), lt-ltb _ _ (c .if5 .taken))
 
-sub-result-2 : tie.Need-sub-result-2
-sub-result-2 c = search needs
+add-result-2 : tie.Need-add-result-2
+add-result-2 c = search needs
 
 returns-6 : tie.Need-returns-6
 unfolding hexOf
-returns-6 c = simp (le-ltb _ _ (c .before .before .before .before .before .if1 .left), le-ltb _ _ (c .before .before .before .before .if2 .left), le-ltb _ _ (c .before .before .before .if3 .left), le-ltb _ _ (c .before .before .if4 .left), le-ltb _ _ (c .before .if5 .left), lt-ltb _ _ (c .if6 .taken))
+returns-6 c = simp (le-ltb _ _ (c .before .before .before .before .before .if1 .left), le-ltb _ _ (c .before .before .before .before .if2 .left), le-ltb _ _ (c .before .before .before .if3 .left), le-ltb _ _ (c .before .before .if4 .left), le-ltb _ _ (c .before .if5 .left), lt-ltb _ _ (c .if6 .taken)) (omega (arith, c .before .if5 .left))
 
 returns-7 : tie.Need-returns-7
 unfolding hexOf
@@ -45,9 +46,9 @@ hex-value-spec =
     returns
     returns-2
     returns-3
-    sub-result
+    add-result
     returns-4
     returns-5
-    sub-result-2
+    add-result-2
     returns-6
     returns-7)

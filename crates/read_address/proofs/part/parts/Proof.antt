@@ -1,7 +1,15 @@
-use Prim.Native.Nat.{_+_, _*_, _≤_}
-use mathlib.Core.Path.{_≡_}
+use Prim.Native.Nat.{ℕ, _+_, _*_, _≤_}
+use mathlib.Core.Path.{_≡_, refl}
+use mathlib.Core.Bool.{Bool, true, false, cond}
+use mathlib.Core.List.{List}
+use mathlib.Core.Option.{Option, none}
+use lib.Dec.{eqb}
 use lib.ListN.{length}
 use lib.Seq.{slice}
+use borrow.Author.Tests.{eqb-true, eqb-false}
+use Rattle.writing.specs.Writing.{Values}
+use Rattle.writing.specs.declared.Value.{Value}
+use Rattle.writing.specs.declared.Value.the-variants.{Fault, Upto}
 use Rattle.read_address.specs.Part.{pieceOf, partsBy}
 use Rattle.writing.proofs.Values.{Begun, begun-none}
 use Rattle.read_address.proofs.Parts.{within, step-fault, step-count, step-on, step-last, step-few, step-many}
@@ -9,6 +17,14 @@ use native.Mathlib.Omega.{arith}
 use borrow.Author.Needs.{needs}
 use Rattle.read_address.proofs.part.parts.Statement.{statement}
 use Rattle.read_address.proofs.part.parts.Tie as tie
+
+-- the value by how many parts were wanted
+by-count : (k r : ℕ) (v : Value) {o₀ o : List ℕ} {n : ℕ} {all : Option (List ℕ)} → v ≡ cond (eqb k 1) (Upto r) Fault → (k ≡ 1 → Values o₀ o n (Upto r) all) → ((k ≡ 1 → ⊥) → all ≡ none) → Values o₀ o n v all
+by-count k r v {o₀} {o} {n} {all} q f g = by (eqb k 1) refl q
+  where
+    by : (b : Bool) → eqb k 1 ≡ b → v ≡ cond b (Upto r) Fault → Values o₀ o n v all
+    by true m e = rw e (f (eqb-true k 1 m))
+    by false m e = rw e (g (eqb-false k 1 m))
 
 abbrev Inv-loop : tie.InvT-loop
 Inv-loop out₀ n f w t i e c m₀ j₀ k₀ out m j k = (j ≤ e) × (k ≤ w) × (n ≤ m) × (m + 2 * k ≤ n + 2 * w) × (length out ≡ length out₀) × Begun out₀ out n m (partsBy c (pieceOf f) w (slice i e t)) (partsBy c (pieceOf f) k (slice j e t))
@@ -40,17 +56,14 @@ returns c = rw (← (c .before .before .before .before .before .before .before .
 enum-known-x : tie.Need-enum-known-x Inv-loop μ-loop
 enum-known-x c = search needs
 
+ended-requires : tie.Need-ended-requires Inv-loop μ-loop
+ended-requires c κs = search needs
+
 same-length-2 : tie.Need-same-length-2 Inv-loop μ-loop
 same-length-2 c = search needs
 
 returns-2 : tie.Need-returns-2 Inv-loop μ-loop
-returns-2 c = rw (← (c .before .before .before .before .before .before .before .before .before .before .before .before .mark .ensures)) (step-last (c .before .before .before .before .before .before .before .before .before .before .before .before .before .before .before .args .f) _ _ (c .before .before .before .before .before .before .before .before .before .before .before .before .before .before .before .args .t .now) _ _ _ (c .before .before .before .before .before .before .before .before .before .before .before .loop .inv .0) (c .before .before .before .before .before .before .before .before .before .before .before .before .before .before .before .pre .3) (c .before .before .before .before .before .before .before .before .before .part-end .ensures) (c .before .before .before .before .before .before .before .before .before .before .before .loop .inv .5) _ _ (c .before .before .before .before .before .before .before .piece .ensures) _ (c .before .before .before .x .given .1) (c .if2 .taken) (c .before .if1 .taken))
-
-same-length-3 : tie.Need-same-length-3 Inv-loop μ-loop
-same-length-3 c = search needs
-
-returns-3 : tie.Need-returns-3 Inv-loop μ-loop
-returns-3 c = rw (← (c .before .before .before .before .before .before .before .before .before .before .before .before .mark .ensures)) (step-few (c .before .before .before .before .before .before .before .before .before .before .before .before .before .before .before .args .f) _ _ (c .before .before .before .before .before .before .before .before .before .before .before .before .before .before .before .args .t .now) _ _ _ (c .before .before .before .before .before .before .before .before .before .before .before .loop .inv .0) (c .before .before .before .before .before .before .before .before .before .before .before .before .before .before .before .pre .3) (c .before .before .before .before .before .before .before .before .before .part-end .ensures) (c .before .before .before .before .before .before .before .before .before .before .before .loop .inv .5) _ _ (c .before .before .before .before .before .before .before .piece .ensures) _ (c .before .before .before .x .given .1) (c .if2 .left) (c .before .if1 .taken))
+returns-2 c = rw (← (c .before .before .before .before .before .before .before .before .before .before .before .before .mark .ensures)) (by-count _ _ _ (c .ended .ensures) (λ g. step-last (c .before .before .before .before .before .before .before .before .before .before .before .before .before .before .before .args .f) _ _ (c .before .before .before .before .before .before .before .before .before .before .before .before .before .before .before .args .t .now) _ _ _ (c .before .before .before .before .before .before .before .before .before .before .before .loop .inv .0) (c .before .before .before .before .before .before .before .before .before .before .before .before .before .before .before .pre .3) (c .before .before .before .before .before .before .before .before .before .part-end .ensures) (c .before .before .before .before .before .before .before .before .before .before .before .loop .inv .5) _ _ (c .before .before .before .before .before .before .before .piece .ensures) _ (c .before .before .before .x .given .1) g (c .before .if1 .taken)) (λ g. step-few (c .before .before .before .before .before .before .before .before .before .before .before .before .before .before .before .args .f) _ _ (c .before .before .before .before .before .before .before .before .before .before .before .before .before .before .before .args .t .now) _ _ _ (c .before .before .before .before .before .before .before .before .before .before .before .loop .inv .0) (c .before .before .before .before .before .before .before .before .before .before .before .before .before .before .before .pre .3) (c .before .before .before .before .before .before .before .before .before .part-end .ensures) (c .before .before .before .before .before .before .before .before .before .before .before .loop .inv .5) _ _ (c .before .before .before .before .before .before .before .piece .ensures) _ (c .before .before .before .x .given .1) g (c .before .if1 .taken)))
 
 add-j : tie.Need-add-j Inv-loop μ-loop
 add-j c = search needs
@@ -64,11 +77,11 @@ loop-less c = search needs
 loop-again : tie.Need-loop-again Inv-loop μ-loop
 loop-again c = let v = step-count (c .before .before .before .before .before .before .before .before .before .before .before .before .before .before .args .f) _ _ (c .before .before .before .before .before .before .before .before .before .before .before .before .before .before .args .t .now) _ _ _ (c .before .before .before .before .before .before .before .before .before .before .loop .inv .0) (c .before .before .before .before .before .before .before .before .before .before .before .before .before .before .pre .3) (c .before .before .before .before .before .before .before .before .part-end .ensures) (c .before .before .before .before .before .before .before .before .before .before .loop .inv .5) _ _ (c .before .before .before .before .before .before .piece .ensures) _ (c .before .before .x .given .1) in (omega (arith, c .if1 .left), omega (arith, c .before .before .before .before .before .before .before .before .before .before .loop .inv .1), omega (arith, v, c .before .before .before .before .before .before .before .before .before .before .loop .inv .2), omega (arith, v, c .before .before .before .before .before .before .before .before .before .before .loop .inv .3, c .before .before .before .before .before .before .before .before .before .loop-test .taken), search needs, step-on (c .before .before .before .before .before .before .before .before .before .before .before .before .before .before .args .f) _ _ (c .before .before .before .before .before .before .before .before .before .before .before .before .before .before .args .t .now) _ _ _ (c .before .before .before .before .before .before .before .before .before .before .loop .inv .0) (c .before .before .before .before .before .before .before .before .before .before .before .before .before .before .pre .3) (c .before .before .before .before .before .before .before .before .part-end .ensures) (c .before .before .before .before .before .before .before .before .before .before .loop .inv .5) _ _ (c .before .before .before .before .before .before .piece .ensures) _ (c .before .before .x .given .1) (c .before .before .before .before .before .before .before .before .before .loop-test .taken) (c .if1 .left))
 
-same-length-4 : tie.Need-same-length-4 Inv-loop μ-loop
-same-length-4 c = search needs
+same-length-3 : tie.Need-same-length-3 Inv-loop μ-loop
+same-length-3 c = search needs
 
-returns-4 : tie.Need-returns-4 Inv-loop μ-loop
-returns-4 c = rw (← (c .before .before .mark .ensures)) (step-many (c .before .before .before .before .before .args .f) _ _ (slice (c .before .loop .j) (c .before .before .before .before .before .args .e) (c .before .before .before .before .before .args .t .now)) (c .loop-test .left) (c .before .loop .inv .5))
+returns-3 : tie.Need-returns-3 Inv-loop μ-loop
+returns-3 c = rw (← (c .before .before .mark .ensures)) (step-many (c .before .before .before .before .before .args .f) _ _ (slice (c .before .loop .j) (c .before .before .before .before .before .args .e) (c .before .before .before .before .before .args .t .now)) (c .loop-test .left) (c .before .loop .inv .5))
 
 pub parts-spec : {M : Type 1} → statement M
 parts-spec =
@@ -84,13 +97,12 @@ parts-spec =
     same-length
     returns
     enum-known-x
+    ended-requires
     same-length-2
     returns-2
-    same-length-3
-    returns-3
     add-j
     sub-k
     loop-less
     loop-again
-    same-length-4
-    returns-4)
+    same-length-3
+    returns-3)
