@@ -1,17 +1,16 @@
 // The qualifiers of a field line: their grammar, and what is asked of them.
-ghost use Prim.Native.Nat.{_≤_, _<_};
+ghost use Prim.Native.Nat.{_≤_};
 ghost use lib.ListN.{length};
 ghost use lib.Dec.{leb};
 ghost use lib.Seq.{slice};
 ghost use mathlib.Core.Path.{_≡_};
-ghost use mathlib.Core.Bool.{true, false, _&&_};
+ghost use mathlib.Core.Bool.{_&&_};
 ghost use mathlib.Core.List.{[], _∷_};
 ghost use mathlib.Core.Option.{none, some};
-ghost use Rattle.format.specs.Grammar.{word, symbol, startsWithLetter, isName, qualifier};
+ghost use Rattle.format.specs.Grammar.{word, symbol, startsWithLetter, qualifier};
 ghost use Rattle.format.specs.Types.{knownWord, hasWord};
 ghost use Rattle.octets.specs.Octets.{partIn};
 ghost use Rattle.qualifiers.specs.Qualifiers.{foundIn, wordsFor, holdsOf, anyIn};
-ghost use Rattle.qualifiers.specs.declared.Test.the-variants.{NotSymbol};
 
 // A qualifier: none by the grammar; a word; or a symbol, with the end of its name and its number.
 pub enum Found {
@@ -48,18 +47,6 @@ pub fn begins_name(s: &[u8], a: usize, e: usize) -> bool
             return e - a <= 63;
         }
         return false;
-    }
-    false
-}
-
-// A letter, then letters, digits and hyphens, 63 octets at most.
-pub fn is_name(s: &[u8], a: usize, e: usize) -> bool
-    requires { ⌜ (a ≤ e) × (e ≤ length (now s)) ⌝ }
-    ensures { λ r. ⌜ r ≡ isName (slice a e (now (s .entry))) ⌝ }
-{
-    let n = octets::skip(s, a, e, octets::Class::NameOctet);
-    if n == e {
-        return begins_name(s, a, e);
     }
     false
 }
@@ -234,6 +221,7 @@ pub fn any(t: Test, s: &[u8], a: usize, b: usize) -> bool
     any_of(t, s, a, b)
 }
 
+// The same, one qualifier after another.
 fn any_of(t: Test, s: &[u8], a: usize, b: usize) -> bool
     requires { ⌜ (a ≤ b) × (b ≤ length (now s)) ⌝ }
     ensures { λ r. ⌜ r ≡ anyIn t (now (s .entry)) a b ⌝ }
