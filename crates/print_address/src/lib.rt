@@ -6,12 +6,12 @@ ghost use mathlib.Core.List.{List, _∷_};
 ghost use lib.Dec.{leb};
 ghost use lib.ListN.{length};
 ghost use lib.Seq.{slice};
-ghost use Rattle.format.specs.Digits.{lowerDigit};
 ghost use Rattle.format.specs.Address;
 ghost use Rattle.format.specs.Address.{dottedText, groupText, colons, zerosAt, aaaaText};
 ghost use Rattle.writing.specs.Writing.{Wrote};
 ghost use Rattle.print_address.specs.Zeros.{Longest};
 use print::integer::two;
+use put_digits::lower_digit;
 use put_digits::put_decimal;
 use put_digits::put_hex_lower_octet;
 use writing::put_octet;
@@ -34,29 +34,19 @@ pub fn dotted(out: &mut [u8], n: usize, p: &[u8], i: usize, e: usize) -> usize
     m
 }
 
-fn lower_digit(d: u64) -> u8
-    requires { ⌜ d < 16 ⌝ }
-    ensures { λ r. ⌜ r ≡ lowerDigit d ⌝ }
-{
-    if d < 10 {
-        return b'0' + d as u8;
-    }
-    b'a' + (d as u8 - 10)
-}
-
 // A group in hex without leading zeros.
-pub fn group(out: &mut [u8], n: usize, v: u64) -> usize
+fn group(out: &mut [u8], n: usize, v: u64) -> usize
     requires { ⌜ (n + 2 < 2 ^ 32) × (v < 65536) ⌝ }
     ensures { λ r. ⌜ Wrote (now (out .entry)) (now (out .exit)) n r (groupText v) ⌝ }
 {
     if v < 16 {
-        return put_octet(out, n, lower_digit(v));
+        return put_octet(out, n, lower_digit(v as u8));
     }
     if v < 256 {
         return put_hex_lower_octet(out, n, v as u8);
     }
     if v < 4096 {
-        let m = put_octet(out, n, lower_digit(v / 256));
+        let m = put_octet(out, n, lower_digit((v / 256) as u8));
         return put_hex_lower_octet(out, m, (v % 256) as u8);
     }
     let m = put_hex_lower_octet(out, n, (v / 256) as u8);

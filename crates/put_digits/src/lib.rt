@@ -1,7 +1,7 @@
 // Writers of decimal and hex digits, and of the octets of a number.
 ghost use mathlib.Core.Path.{_≡_};
 ghost use mathlib.Core.List.{map};
-ghost use Prim.Native.Nat.{_+_, _*_, _-_, _/_, _^_, _<_, _≤_};
+ghost use Prim.Native.Nat.{_*_, _-_, _^_, _<_, _≤_};
 ghost use lib.ListN.{length};
 ghost use Rattle.format.specs.Digits.{digits, upperDigit, lowerDigit};
 ghost use Rattle.format.specs.Number.{decimal, fixedDecimal};
@@ -40,6 +40,7 @@ pub fn put_octets(out: &mut [u8], n: usize, w: usize, v: u64) -> usize
     n + w
 }
 
+// A hex digit, its letter upper case.
 fn upper_digit(d: u8) -> u8
     requires { ⌜ d < 16 ⌝ }
     ensures { λ r. ⌜ r ≡ upperDigit d ⌝ }
@@ -47,13 +48,15 @@ fn upper_digit(d: u8) -> u8
     if d < 10 { b'0' + d } else { b'A' + (d - 10) }
 }
 
-fn lower_digit(d: u8) -> u8
+// A hex digit, its letter lower case.
+pub fn lower_digit(d: u8) -> u8
     requires { ⌜ d < 16 ⌝ }
     ensures { λ r. ⌜ r ≡ lowerDigit d ⌝ }
 {
     if d < 10 { b'0' + d } else { b'a' + (d - 10) }
 }
 
+// The two digits of an octet, upper case.
 fn put_hex_upper_octet(out: &mut [u8], n: usize, b: u8) -> usize
     requires { ⌜ n < 2 ^ 34 ⌝ }
     ensures { λ r. ⌜ Wrote (now (out .entry)) (now (out .exit)) n r (map upperDigit (digits 16 2 b)) ⌝ }
@@ -63,6 +66,7 @@ fn put_hex_upper_octet(out: &mut [u8], n: usize, b: u8) -> usize
     n + 2
 }
 
+// The two digits of an octet, lower case.
 pub fn put_hex_lower_octet(out: &mut [u8], n: usize, b: u8) -> usize
     requires { ⌜ n < 2 ^ 32 ⌝ }
     ensures { λ r. ⌜ Wrote (now (out .entry)) (now (out .exit)) n r (map lowerDigit (digits 16 2 b)) ⌝ }

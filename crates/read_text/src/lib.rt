@@ -66,29 +66,11 @@ fn far_end(t: &[u8], i: usize, e: usize) -> usize
     near_end(t, j, e)
 }
 
-// The octets from i to e, where there is room for all of them.
-fn copy_all(out: &mut [u8], n: usize, t: &[u8], i: usize, e: usize) -> usize
-    requires { ⌜ (i ≤ e) × (e ≤ length (now t)) × (n + (e - i) ≤ length (now out)) ⌝ }
-    ensures { λ r. ⌜ Wrote (now (out .entry)) (now (out .exit)) n r (slice i e (now (t .entry))) ⌝ }
-{
-    let mut m = n;
-    let mut j = i;
-    while j < e {
-        out[m] = t[j];
-        m = m + 1;
-        j = j + 1;
-    }
-    m
-}
-
 // The octets from i to e.
 fn copy(out: &mut [u8], n: usize, t: &[u8], i: usize, e: usize) -> usize
     requires { ⌜ (n < 2 ^ 31) × (i ≤ e) × (e ≤ length (now t)) × (length (now t) ≤ 1048576) ⌝ }
     ensures { λ r. ⌜ Wrote (now (out .entry)) (now (out .exit)) n r (slice i e (now (t .entry))) ⌝ }
 {
-    if n + (e - i) <= out.len() {
-        return copy_all(out, n, t, i, e);
-    }
     writing::put_all(out, n, &t[i..e])
 }
 

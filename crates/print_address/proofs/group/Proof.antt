@@ -11,6 +11,9 @@ use Rattle.print_address.proofs.group.Tie as tie
 abbrev one : ℕ → List ℕ
 one x = x ∷ []
 
+cast-lower-digit : tie.Need-cast-lower-digit
+cast-lower-digit c = search needs
+
 lower-digit-requires : tie.Need-lower-digit-requires
 lower-digit-requires c κs = search needs
 
@@ -34,6 +37,9 @@ same-length-2 c = search needs
 
 returns-2 : tie.Need-returns-2
 returns-2 c = wrote-text _ _ (two-digits (c .before .before .before .before .before .before .before .args .v) (c .before .before .before .before .before .if1 .left) (c .before .before .before .before .if2 .taken)) (c .before .before .put-hex-lower-octet .ensures)
+
+cast-lower-digit-2 : tie.Need-cast-lower-digit-2
+cast-lower-digit-2 c = search needs
 
 lower-digit-requires-2 : tie.Need-lower-digit-requires-2
 lower-digit-requires-2 c κs = search needs
@@ -75,6 +81,7 @@ pub group-spec : {M : Type 1} → statement M
 group-spec =
     tie.close
     (tie.spec
+    cast-lower-digit
     lower-digit-requires
     put-octet-requires
     same-length
@@ -83,6 +90,7 @@ group-spec =
     put-hex-lower-octet-requires
     same-length-2
     returns-2
+    cast-lower-digit-2
     lower-digit-requires-2
     put-octet-requires-2
     cast-put-hex-lower-octet-2

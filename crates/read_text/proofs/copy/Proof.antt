@@ -4,21 +4,6 @@ use borrow.Author.Needs.{needs}
 use Rattle.read_text.proofs.copy.Statement.{statement}
 use Rattle.read_text.proofs.copy.Tie as tie
 
-sub-if1 : tie.Need-sub-if1
-sub-if1 c = search needs
-
-add-if1 : tie.Need-add-if1
-add-if1 c = search needs
-
-copy-all-requires : tie.Need-copy-all-requires
-copy-all-requires c κs = search needs
-
-same-length : tie.Need-same-length
-same-length c = search needs
-
-returns : tie.Need-returns
-returns c = search needs
-
 sub-put-all : tie.Need-sub-put-all
 sub-put-all c = search needs
 
@@ -31,24 +16,19 @@ part-put-all-end c = search needs
 put-all-requires : tie.Need-put-all-requires
 put-all-requires c κs = search needs
 
-same-length-2 : tie.Need-same-length-2
-same-length-2 c = search needs
+same-length : tie.Need-same-length
+same-length c = search needs
 
-returns-2 : tie.Need-returns-2
-returns-2 c = wrote-text _ _ (lent _ _ _ (c .before .before .before .before .before .before .before .before .pre .1)) (c .before .before .put-all .ensures)
+returns : tie.Need-returns
+returns c = wrote-text _ _ (lent _ _ _ (c .before .before .before .before .before .before .before .pre .1)) (c .before .before .put-all .ensures)
 
 pub copy-spec : {M : Type 1} → statement M
 copy-spec =
     tie.close
     (tie.spec
-    sub-if1
-    add-if1
-    copy-all-requires
-    same-length
-    returns
     sub-put-all
     part-put-all-start
     part-put-all-end
     put-all-requires
-    same-length-2
-    returns-2)
+    same-length
+    returns)
