@@ -4,10 +4,8 @@ ghost use lib.ListN.{length};
 ghost use lib.Seq.{slice};
 ghost use mathlib.Core.Path.{_≡_};
 ghost use mathlib.Core.Bool.{true, false, cond};
-ghost use mathlib.Core.Option.{none, some};
 ghost use Rattle.format.specs.Lists.{anyOf};
 ghost use Rattle.format.specs.Octets.{lowered};
-ghost use Rattle.format.specs.Grammar.{symbol, qualifier};
 ghost use Rattle.octets.specs.Octets.{partIn};
 ghost use Rattle.qualifiers.specs.Qualifiers.{anyIn, sameBy, twiceIn, piecesIn, nameIn};
 ghost use Rattle.distinct.specs.Distinct.{bucketOf, commaAt, NumberAt, SymbolAt};
@@ -25,13 +23,7 @@ fn fold(ignoring: bool, b: u8) -> u8
     ensures { λ r. ⌜ r ≡ cond ignoring (lowered b) b ⌝ }
 {
     if ignoring {
-        if b < b'A' {
-            return b;
-        }
-        if b <= b'Z' {
-            return b + 32;
-        }
-        return b;
+        return octets::lower(b);
     }
     b
 }
@@ -106,17 +98,11 @@ fn bucket(ignoring: bool, s: &[u8], a: usize, n: usize) -> usize
     ensures { λ r. ⌜ r ≡ bucketOf ignoring (slice a n (now (s .entry))) ⌝ }
 {
     if a < n {
-        let x = wide(fold(ignoring, s[a]));
-        let y = wide(fold(ignoring, s[n - 1]));
+        let x = fold(ignoring, s[a]) as usize;
+        let y = fold(ignoring, s[n - 1]) as usize;
         return (((n - a) % 32 + x) * 8 + y) % 256;
     }
     0
-}
-
-fn wide(b: u8) -> usize
-    ensures { λ r. ⌜ (r ≡ b) × (b < 256) ⌝ }
-{
-    b as usize
 }
 
 // Whether the names between a and b have numbers of their own, so that none is there twice.

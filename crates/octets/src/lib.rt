@@ -1,4 +1,4 @@
-// Octets in a slice: their classes, the longest run of one, decimal numbers, and words.
+// Octets in a slice: their classes, the longest run of one, and decimal numbers.
 ghost use Prim.Native.Nat.{_+_, _-_, _≤_};
 ghost use lib.ListN.{length};
 ghost use lib.Seq.{slice};
@@ -6,7 +6,7 @@ ghost use lib.Dec.{leb};
 ghost use mathlib.Core.Bool.{_&&_};
 ghost use mathlib.Core.Path.{_≡_};
 ghost use Rattle.format.specs.Lists.{span, allOf};
-ghost use Rattle.format.specs.Octets.{lowered, sameWord, sameOctets};
+ghost use Rattle.format.specs.Octets.{lowered};
 ghost use Rattle.format.specs.Number.{decimalOf};
 ghost use Rattle.octets.specs.Octets.{inClass, lineEnd, firstOr, numberOf};
 ghost use Rattle.octets.specs.declared.Class.the-variants.{NotNewline, FreeText};
@@ -49,6 +49,19 @@ fn is_letter(b: u8) -> bool
         return false;
     }
     small <= b'z'
+}
+
+// An octet without the case of letters.
+pub fn lower(b: u8) -> u8
+    ensures { λ r. ⌜ r ≡ lowered b ⌝ }
+{
+    if b < b'A' {
+        return b;
+    }
+    if b <= b'Z' {
+        return b + 32;
+    }
+    b
 }
 
 // Whether an octet is of a class.
@@ -221,13 +234,7 @@ pub fn octet_at(s: &[u8], i: usize, e: usize) -> u16
     requires { ⌜ e ≤ length (now s) ⌝ }
     ensures { λ r. ⌜ r ≡ firstOr (slice i e (now (s .entry))) ⌝ }
 {
-    if i < e { wide(s[i]) } else { 256 }
-}
-
-fn wide(b: u8) -> u16
-    ensures { λ r. ⌜ r ≡ b ⌝ }
-{
-    b as u16
+    if i < e { s[i] as u16 } else { 256 }
 }
 
 // The number of 1 to 10 digits from i to e.

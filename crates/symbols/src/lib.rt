@@ -5,7 +5,7 @@ ghost use mathlib.Core.List.{List};
 ghost use mathlib.Core.Option.{some};
 ghost use lib.ListN.{length};
 ghost use lib.Seq.{slice};
-ghost use Rattle.format.specs.Octets.{lowered, sameWord};
+ghost use Rattle.format.specs.Octets.{sameWord};
 ghost use Rattle.format.specs.Field.{Symbol};
 ghost use Rattle.format.specs.Grammar.{qualifier};
 ghost use Rattle.format.specs.Number.{symbolOrDecimal, symbolValue};
@@ -78,19 +78,6 @@ pub fn put_number(out: &mut [u8], n: usize, s: &[u8], a: usize, b: usize, v: u64
     }
 }
 
-// An octet without the case of letters.
-fn lower(b: u8) -> u8
-    ensures { λ r. ⌜ r ≡ lowered b ⌝ }
-{
-    if b < b'A' {
-        return b;
-    }
-    if b <= b'Z' {
-        return b + 32;
-    }
-    b
-}
-
 // Whether the text of s from a to e and that of t from i to f are the same, letters' case ignored.
 fn same_word(s: &[u8], a: usize, e: usize, t: &[u8], i: usize, f: usize) -> bool
     requires { ⌜ (a ≤ e) × (e ≤ length (now s)) × (i ≤ f) × (f ≤ length (now t)) ⌝ }
@@ -102,7 +89,7 @@ fn same_word(s: &[u8], a: usize, e: usize, t: &[u8], i: usize, f: usize) -> bool
     let mut j = a;
     let mut k = i;
     while j < e {
-        if lower(s[j]) != lower(t[k]) {
+        if octets::lower(s[j]) != octets::lower(t[k]) {
             return false;
         }
         j = j + 1;

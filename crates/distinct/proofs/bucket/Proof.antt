@@ -1,4 +1,3 @@
-use mathlib.Core.Path.{_∙_}
 use Rattle.distinct.proofs.Buckets.{bucket-of, bucket-none}
 use native.Mathlib.Omega.{arith}
 use borrow.Author.Needs.{needs}
@@ -11,8 +10,8 @@ shared-slice-read-fold c = search needs
 fold-requires : tie.Need-fold-requires
 fold-requires c κs = search needs
 
-wide-requires : tie.Need-wide-requires
-wide-requires c κs = search needs
+cast-x : tie.Need-cast-x
+cast-x c = search needs
 
 sub-fold : tie.Need-sub-fold
 sub-fold c = search needs
@@ -23,8 +22,8 @@ shared-slice-read-fold-2 c = search needs
 fold-requires-2 : tie.Need-fold-requires-2
 fold-requires-2 c κs = search needs
 
-wide-requires-2 : tie.Need-wide-requires-2
-wide-requires-2 c κs = search needs
+cast-y : tie.Need-cast-y
+cast-y c = search needs
 
 sub-result : tie.Need-sub-result
 sub-result c = search needs
@@ -39,7 +38,7 @@ add-result-2 : tie.Need-add-result-2
 add-result-2 c = search needs
 
 returns : tie.Need-returns
-returns c = bucket-of (c .before .before .before .before .before .before .before .before .args .ignoring) (c .before .before .before .before .before .before .before .before .args .s .now) (c .before .before .before .before .before .before .before .before .args .a) (c .before .before .before .before .before .before .before .before .args .n) (c .before .before .before .wide .result) (c .wide2 .result) (c .before .before .before .before .before .before .if1 .taken) (c .before .before .before .before .before .before .before .before .pre .1) (c .before .before .before .wide .ensures .0 ∙ c .before .before .before .before .fold .ensures) (c .wide2 .ensures .0 ∙ c .before .fold2 .ensures)
+returns c = bucket-of (c .before .before .before .before .before .before .args .ignoring) (c .before .before .before .before .before .before .args .s .now) (c .before .before .before .before .before .before .args .a) (c .before .before .before .before .before .before .args .n) (c .before .before .fold .result) (c .fold2 .result) (c .before .before .before .before .if1 .taken) (c .before .before .before .before .before .before .pre .1) (c .before .before .fold .ensures) (c .fold2 .ensures)
 
 returns-2 : tie.Need-returns-2
 returns-2 c = bucket-none (c .before .before .args .ignoring) (c .before .before .args .s .now) (c .before .before .args .a) (c .before .before .args .n) (c .if1 .left)
@@ -50,11 +49,11 @@ bucket-spec =
     (tie.spec
     shared-slice-read-fold
     fold-requires
-    wide-requires
+    cast-x
     sub-fold
     shared-slice-read-fold-2
     fold-requires-2
-    wide-requires-2
+    cast-y
     sub-result
     add-result
     mul-result

@@ -1,25 +1,22 @@
 use Rattle.octets.proofs.Slices.{next, none}
 use Rattle.octets.specs.Octets.{firstOr}
-use mathlib.Core.Path.{_≡_, sym, ap, _∙_}
+use mathlib.Core.Path.{sym, ap}
 use native.Mathlib.Omega.{arith}
 use borrow.Author.Needs.{needs}
 use Rattle.octets.proofs.octet_at.Statement.{statement}
 use Rattle.octets.proofs.octet_at.Tie as tie
-use Rattle.octets.proofs.octet_at.Reads as reads
-use Rattle.octets.proofs.octet_at.Lts as lts
-use Rattle.octets.proofs.wide.Reads as wide-reads
 
-shared-slice-read-wide : tie.Need-shared-slice-read-wide
-shared-slice-read-wide c = search needs
+shared-slice-read-result : tie.Need-shared-slice-read-result
+shared-slice-read-result c = search needs
 
-wide-requires : tie.Need-wide-requires
-wide-requires c κs = search needs
+cast-result : tie.Need-cast-result
+cast-result c = omega (arith, c .shared-slice-known .given (c .before .before .args .i))
 
 returns : tie.Need-returns
-returns c = c .wide .ensures ∙ ap firstOr (sym (next _ _ _ (c .before .before .if1 .taken) (c .before .before .before .before .pre)))
+returns c = ap firstOr (sym (next _ _ _ (c .before .if1 .taken) (c .before .before .pre)))
 
 returns-2 : tie.Need-returns-2
 returns-2 c = ap firstOr (sym (none _ _ _ (c .if1 .left)))
 
 pub octet-at-spec : {M : Type 1} → statement M
-octet-at-spec = tie.close (tie.spec shared-slice-read-wide wide-requires returns returns-2)
+octet-at-spec = tie.close (tie.spec shared-slice-read-result cast-result returns returns-2)

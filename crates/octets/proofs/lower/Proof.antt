@@ -1,7 +1,7 @@
 use borrow.Author.Tests.{lt-leb, le-leb}
 use borrow.Author.Needs.{needs}
-use Rattle.symbols.proofs.lower.Statement.{statement}
-use Rattle.symbols.proofs.lower.Tie as tie
+use Rattle.octets.proofs.lower.Statement.{statement}
+use Rattle.octets.proofs.lower.Tie as tie
 
 returns : tie.Need-returns
 returns c = rw (lt-leb _ _ (c .if1 .taken))
