@@ -109,7 +109,7 @@ fn rest(
     n + (8 * (e - i) + w - 1) / w
 }
 
-// Where there is no room, nothing is gone through: the digits are counted.
+// Octets as base 32 without padding. Where there is no room the digits are only counted.
 pub fn base32(out: &mut [u8], n: usize, p: &[u8], i: usize, e: usize) -> usize
     requires { ⌜ (n < 2 ^ 30) × (i ≤ e) × (e ≤ length (now p)) × (length (now p) ≤ 65535) ⌝ }
     ensures { λ r. ⌜ Wrote (now (out .entry)) (now (out .exit)) n r (base32Text (slice i e (now (p .entry)))) ⌝ }

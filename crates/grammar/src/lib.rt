@@ -30,6 +30,7 @@ pub struct HeaderShape {
     pub text_at: usize,
 }
 
+// A header's line: no header, or one.
 pub enum HeaderLine {
     NoHeader,
     IsHeader(HeaderShape),
@@ -45,6 +46,7 @@ pub struct FieldShape {
     pub text_at: usize,
 }
 
+// A field's line: no field, or one.
 pub enum Shape {
     NoField,
     IsField(FieldShape),
@@ -74,6 +76,7 @@ enum Named {
     From(usize, usize),
 }
 
+// Whether a letter stands first from at to end.
 fn starts_with_letter(s: &[u8], at: usize, end: usize) -> bool
     requires { ⌜ (at ≤ end) × (end ≤ length (now s)) ⌝ }
     ensures { λ r. ⌜ r ≡ startsWithLetter (slice at end (now (s .entry))) ⌝ }

@@ -1,5 +1,5 @@
 // Strings of octets in quotes.
-ghost use Prim.Native.Nat.{ℕ, _+_, _-_, _^_, _<_, _≤_};
+ghost use Prim.Native.Nat.{_+_, _-_, _^_, _<_, _≤_};
 ghost use mathlib.Core.Path.{_≡_};
 ghost use mathlib.Core.Bool.{true, false};
 ghost use mathlib.Core.List.{map};
@@ -110,7 +110,7 @@ fn copy_plain(out: &mut [u8], n: usize, p: &[u8], i: usize, e: usize) -> usize
 }
 
 // The octets of p from i to e, escaped: those that stand for themselves are copied many at once.
-pub fn escaped(out: &mut [u8], n: usize, p: &[u8], i: usize, e: usize) -> usize
+fn escaped(out: &mut [u8], n: usize, p: &[u8], i: usize, e: usize) -> usize
     requires { ⌜ (n ≤ 2 ^ 31) × (i ≤ e) × (e ≤ length (now p)) × (length (now p) ≤ 65535) ⌝ }
     ensures { λ r. ⌜ Wrote (now (out .entry)) (now (out .exit)) n r (flatMap stringEscape (slice i e (now (p .entry)))) ⌝ }
 {

@@ -52,7 +52,7 @@ pub fn put_field(out: &mut [u8], d: FieldDesc, s: &[u8], p: &[u8], i: usize, e: 
     }
 }
 
-// How many octets a field takes that takes some number of them.
+// How many octets the field at i takes; asked only where it takes some.
 pub fn width(f: Form, p: &[u8], i: usize) -> usize
     requires { ⌜ i ≤ length (now p) ⌝ }
     ensures { λ r. ⌜ ((l : List Symbol) (w : ℕ) → taken (start (kindOf l f)) (slice i (length (now (p .entry))) (now (p .entry))) ≡ took w → r ≡ w) ⌝ }

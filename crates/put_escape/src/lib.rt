@@ -2,8 +2,7 @@
 ghost use mathlib.Core.Bool.{cond};
 ghost use mathlib.Core.Path.{_≡_};
 ghost use mathlib.Core.List.{[], _∷_};
-ghost use Prim.Native.Nat.{_+_, _-_, _/_, _^_, _<_};
-ghost use Rattle.format.specs.Digits.{digits};
+ghost use Prim.Native.Nat.{_^_, _<_};
 ghost use Rattle.format.specs.Number.{fixedDecimal};
 ghost use Rattle.format.specs.Octets.{ascii, among, inRange};
 ghost use Rattle.format.specs.Name.{nameEscape};
@@ -47,6 +46,7 @@ fn name_special(b: u8) -> bool
     false
 }
 
+// A backslash and the octet.
 fn put_slashed(out: &mut [u8], n: usize, b: u8) -> usize
     requires { ⌜ n < 2 ^ 32 ⌝ }
     ensures { λ r. ⌜ Wrote (now (out .entry)) (now (out .exit)) n r (92 ∷ b ∷ []) ⌝ }

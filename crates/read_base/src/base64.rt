@@ -1,5 +1,5 @@
 // Base 64: digits of six bits, then `=` up to a multiple of four characters. Blanks are left out.
-ghost use Prim.Native.Nat.{_-_, _%_, _^_, _<_, _≤_};
+ghost use Prim.Native.Nat.{_^_, _<_, _≤_};
 ghost use mathlib.Core.Path.{_≡_};
 ghost use lib.ListN.{length, drop, replicate};
 ghost use lib.Seq.{slice};

@@ -1,5 +1,5 @@
 // Bitmaps read from text: the types of all tokens that are left, in any order, into a picture, and from there into blocks.
-ghost use Prim.Native.Nat.{_+_, _^_, _<_, _≤_};
+ghost use Prim.Native.Nat.{_^_, _<_, _≤_};
 ghost use mathlib.Core.Path.{_≡_};
 ghost use mathlib.Core.List.{[]};
 ghost use lib.ListN.{length, drop};

@@ -1,6 +1,6 @@
 // Digits of w bits and their octets: k digits are g octets. Each digit is a character whose number an alphabet gives; a
 // character with the number `skip` is left out.
-ghost use Prim.Native.Nat.{ℕ, _+_, _*_, _-_, _/_, _%_, _^_, _<_, _≤_};
+ghost use Prim.Native.Nat.{ℕ, _+_, _*_, _^_, _<_, _≤_};
 ghost use mathlib.Core.Path.{_≡_};
 ghost use lib.ListN.{length, getD};
 ghost use lib.Seq.{slice};
@@ -237,7 +237,7 @@ pub fn groups(
 }
 
 // All of the digits from i to e, and nothing else.
-pub fn octets(
+fn octets(
     out: &mut [u8],
     n: usize,
     t: &[u8],
@@ -297,6 +297,7 @@ pub fn counted(
     requires { ⌜ (n < 2 ^ 30) × (i ≤ e) × (e ≤ length (now t)) × (length (now t) ≤ 1048576) × Grouping w base k g ⌝ }
     ensures { λ r. ⌜ Values (now (out .entry)) (now (out .exit)) n r (countedBy w base (slice i e (now (t .entry)))) ⌝ }
 {
+    // no octet has the number 100, so none is left out
     let v = lettered(out, n + 1, t, i, e, 100, w, base, k, g);
     match v {
         Value::Fault => Value::Fault,

@@ -77,6 +77,7 @@ fn real_day(year: u64, month: u64, day: u64) -> bool
     day <= days
 }
 
+// Whether there is such a time of a day.
 fn real_time(hour: u64, minute: u64, second: u64) -> bool
     ensures { λ r. ⌜ r ≡ (leb hour 23 && leb minute 59 && leb second 59) ⌝ }
 {

@@ -87,6 +87,7 @@ fn word_octets(out: &mut [u8], n: usize, t: &[u8], i: usize, e: usize) -> Value
         }
         return Value::Fault;
     }
+    // no octet has the number 100, so none is left out
     read_group::lettered(out, n, t, i, e, 100, 4, 16, 8, 4)
 }
 
@@ -113,6 +114,7 @@ fn next_octets(line: &[u8], end: usize, out: &mut [u8], n: usize) -> Spelled
     }
 }
 
+// What a word that is no number comes to.
 fn no_number(end: usize) -> Count
     ensures { λ r. ⌜ r ≡ record { good = false; value = 0; end = end } ⌝ }
 {
@@ -170,6 +172,7 @@ fn next_origin(line: &[u8], letter: u8, end: usize, out: &mut [u8], n: usize) ->
     }
 }
 
+// The letter of a good request, else 0.
 fn letter_if(good: bool, letter: u8) -> u8
     ensures { λ r. ⌜ r ≡ cond good letter 0 ⌝ }
 {
@@ -243,6 +246,7 @@ fn read_run(line: &[u8], octets: &mut [u8], letter: u8) -> Request
     }
 }
 
+// What a line that is no request comes to.
 fn no_request() -> Request
     ensures { λ r. ⌜ Within 0 r × (r .letter ≡ 0) ⌝ }
 {

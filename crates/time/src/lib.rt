@@ -52,6 +52,7 @@ pub fn month_days(leap: bool, m: u64) -> u64
     31
 }
 
+// How many days a year has.
 fn year_days(y: u64) -> u64
     ensures { λ r. ⌜ (r ≡ yearDays y) × (365 ≤ r) × (r ≤ 366) ⌝ }
 {
@@ -77,7 +78,7 @@ struct YearDay {
     day: u64,
 }
 
-// The year of day d, and the day's number in it.
+// The year of day d, and the day's number in it. The last day, of 2^32 - 1 seconds, is 49,710.
 fn year_of(d: u64) -> YearDay
     requires { ⌜ d ≤ 49710 ⌝ }
     ensures { λ r. ⌜ (daysBefore (r .year * 12) + r .day ≡ d) × (d < daysBefore (r .year * 12 + 12)) × (r .year < 137) ⌝ }
@@ -95,13 +96,13 @@ fn year_of(d: u64) -> YearDay
 }
 
 // A month, counted from January 1970, and a day of it.
-pub struct Day {
-    pub month: u64,
-    pub day: u64,
+struct Day {
+    month: u64,
+    day: u64,
 }
 
-// The month and the day of day d, counted from 1970-01-01.
-pub fn day_of(d: u64) -> Day
+// The month and the day of day d, counted from 1970-01-01; the last is 49,710, that of 2^32 - 1 seconds.
+fn day_of(d: u64) -> Day
     requires { ⌜ d ≤ 49710 ⌝ }
     ensures { λ r. ⌜ (r .month ≡ dayOf d .month) × (r .day ≡ dayOf d .day) × (r .month < 1644) × (r .day < 31) ⌝ }
 {

@@ -22,7 +22,7 @@ use types::FieldDesc;
 use types::Form;
 use writing::Value;
 
-// Of a bare token.
+// The value of a bare token.
 pub fn of_bare(
     out: &mut [u8],
     n: usize,
@@ -59,7 +59,7 @@ pub fn of_bare(
     }
 }
 
-// Of a quoted token: only strings are.
+// The value of a quoted token: only strings have one.
 pub fn of_quoted(out: &mut [u8], n: usize, f: Form, t: &[u8], a: usize, e: usize) -> Value
     requires { ⌜ (n < 2 ^ 30) × (a ≤ e) × (e ≤ length (now t)) × (length (now t) ≤ 1048576) ⌝ }
     ensures { λ r. ⌜ ((l : List Symbol) (o : List ℕ) → Values (now (out .entry)) (now (out .exit)) n r (tokenValue (kindOf l f) o (quoted (slice a e (now (t .entry)))))) ⌝ }

@@ -19,7 +19,7 @@ pub enum Take {
 }
 
 // w octets of any value; their values do not matter.
-pub fn octets(i: usize, e: usize, w: usize) -> Take
+fn octets(i: usize, e: usize, w: usize) -> Take
     requires { ⌜ (i ≤ e) × (1 ≤ w) ⌝ }
     ensures { λ r. ⌜ ((s : List ℕ) → e ≤ length s → takenIn r ≡ taken (anyOctets w) (slice i e s)) ⌝ }
 {
@@ -30,7 +30,7 @@ pub fn octets(i: usize, e: usize, w: usize) -> Take
 }
 
 // Octets to the end, one at least.
-pub fn rest(i: usize, e: usize) -> Take
+fn rest(i: usize, e: usize) -> Take
     requires { ⌜ i ≤ e ⌝ }
     ensures { λ r. ⌜ ((s : List ℕ) → e ≤ length s → takenIn r ≡ taken (toTheEnd false) (slice i e s)) ⌝ }
 {
@@ -41,7 +41,7 @@ pub fn rest(i: usize, e: usize) -> Take
 }
 
 // A count of lo or more, and as many octets.
-pub fn counted(s: &[u8], i: usize, e: usize, lo: u8) -> Take
+fn counted(s: &[u8], i: usize, e: usize, lo: u8) -> Take
     requires { ⌜ (i ≤ e) × (e ≤ length (now s)) ⌝ }
     ensures { λ r. ⌜ takenIn r ≡ taken (count lo) (slice i e (now (s .entry))) ⌝ }
 {
@@ -91,7 +91,7 @@ pub fn name(s: &[u8], i: usize, e: usize, optional: bool) -> Take
 }
 
 // Counted strings to the end, one at least.
-pub fn strings(s: &[u8], i: usize, e: usize) -> Take
+fn strings(s: &[u8], i: usize, e: usize) -> Take
     requires { ⌜ (i ≤ e) × (e ≤ length (now s)) ⌝ }
     ensures { λ r. ⌜ takenIn r ≡ taken (stringCount false) (slice i e (now (s .entry))) ⌝ }
 {
@@ -110,7 +110,7 @@ pub fn strings(s: &[u8], i: usize, e: usize) -> Take
 }
 
 // Blocks to the end: a window, higher than those before, a count of 1 to 32, and octets of which the last is not zero.
-pub fn bitmap(s: &[u8], i: usize, e: usize) -> Take
+fn bitmap(s: &[u8], i: usize, e: usize) -> Take
     requires { ⌜ (i ≤ e) × (e ≤ length (now s)) ⌝ }
     ensures { λ r. ⌜ takenIn r ≡ taken (window 0) (slice i e (now (s .entry))) ⌝ }
 {

@@ -39,6 +39,7 @@ pub fn fitting(len: usize, n: usize, w: usize, count: usize) -> usize
     least(count, (len - n) / w)
 }
 
+// One octet.
 pub fn put_octet(out: &mut [u8], n: usize, b: u8) -> usize
     requires { ⌜ n < 2 ^ 32 ⌝ }
     ensures { λ r. ⌜ Wrote (now (out .entry)) (now (out .exit)) n r (b ∷ []) ⌝ }
@@ -71,7 +72,7 @@ pub fn put_all(out: &mut [u8], n: usize, s: &[u8]) -> usize
     put_each(out, n, s)
 }
 
-// The same where there may be none.
+// The same where there may not be room for all.
 fn put_each(out: &mut [u8], n: usize, s: &[u8]) -> usize
     requires { ⌜ (n < 2 ^ 32) × (length (now s) < 2 ^ 32) ⌝ }
     ensures { λ r. ⌜ Wrote (now (out .entry)) (now (out .exit)) n r (now (s .entry)) ⌝ }
