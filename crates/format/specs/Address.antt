@@ -15,9 +15,11 @@ use Rattle.format.specs.Number.{decimal, decimalOf, below}
 abbrev pub dottedText : List ℕ → List ℕ
 dottedText xs = parted (ascii ".") (map decimal xs)
 
+-- it reads so, and prints so
 abbrev pub smallNumber : List ℕ → Option ℕ
 smallNumber t = below 256 (decimalOf t) >>= λ v. provided (sameOctets (decimal v) t) v
 
+-- exactly four, with dots between
 abbrev pub readA : List ℕ → Option (List ℕ)
 readA t = exactly 4 (eachOf smallNumber (splitOn (code ".") t))
 
@@ -27,6 +29,7 @@ groups [] = []
 groups (x ∷ []) = []
 groups (x ∷ y ∷ xs) = (x * 256 + y) ∷ groups xs
 
+-- and back
 abbrev pub groupOctets : List ℕ → List ℕ
 groupOctets gs = flatMap (digits 256 2) gs
 
@@ -34,6 +37,7 @@ groupOctets gs = flatMap (digits 256 2) gs
 abbrev pub groupText : ℕ → List ℕ
 groupText g = map lowerDigit (withoutZeros (digits 16 4 g))
 
+-- groups with colons between
 abbrev pub colons : List ℕ → List ℕ
 colons gs = parted (ascii ":") (map groupText gs)
 
@@ -51,6 +55,7 @@ zerosAt [] = 0
 zerosAt (zero ∷ gs) = suc (zerosAt gs)
 zerosAt (suc g ∷ gs) = 0
 
+-- the length of the longest run of zero groups
 unfoldable pub longestZeros : List ℕ → ℕ
 longestZeros [] = 0
 longestZeros (g ∷ gs) = max (zerosAt (g ∷ gs)) (longestZeros gs)
@@ -64,6 +69,7 @@ abbrev pub afterRun : ℕ → List ℕ → List ℕ
 afterRun m [] = []
 afterRun m (g ∷ gs) = cond (eqb (zerosAt (g ∷ gs)) m) (drop m (g ∷ gs)) (afterRun m gs)
 
+-- the groups, with that run as `::`
 abbrev pub aaaaText : List ℕ → List ℕ
 aaaaText gs = cond (ltb (longestZeros gs) 2) (colons gs) (colons (beforeRun (longestZeros gs) gs) ++ (ascii "::" ++ colons (afterRun (longestZeros gs) gs)))
 
@@ -71,6 +77,7 @@ aaaaText gs = cond (ltb (longestZeros gs) 2) (colons gs) (colons (beforeRun (lon
 abbrev pub lastGroups : Bool → List ℕ → Option (List ℕ)
 lastGroups dotted t = orElse (groupOf t >>= λ g. some (g ∷ [])) (cond dotted (readA t >>= λ xs. some (groups xs)) none)
 
+-- groups with colons between; the last may be dotted
 unfoldable pub groupsOf : Bool → List (List ℕ) → Option (List ℕ)
 groupsOf dotted [] = some []
 groupsOf dotted (t ∷ []) = lastGroups dotted t
@@ -85,10 +92,12 @@ pub data Doubled : Type 0 where
   single : Doubled
   double : List ℕ → List ℕ → Doubled
 
+-- x before what stands before it
 abbrev pub intoBefore : ℕ → Doubled → Doubled
 intoBefore x single = single
 intoBefore x (double s t) = double (x ∷ s) t
 
+-- where the first `::` stands
 abbrev pub atDoubleColon : List ℕ → Doubled
 atDoubleColon [] = single
 atDoubleColon (x ∷ []) = single
@@ -102,5 +111,6 @@ eightGroups t (double s u) = do
   hs ← sideOf true u
   provided (leb (length gs + length hs) 7) (gs ++ replicate (8 - (length gs + length hs)) 0 ++ hs)
 
+-- eight groups, as octets
 abbrev pub readAAAA : List ℕ → Option (List ℕ)
 readAAAA t = eightGroups t (atDoubleColon t) >>= λ gs. some (groupOctets gs)

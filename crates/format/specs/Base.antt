@@ -51,6 +51,7 @@ abbrev pub base64Char : ℕ → ℕ
 base64Char d =
     cond (ltb d 26) (code "A" + d) (cond (ltb d 52) (code "a" + (d - 26)) (cond (ltb d 62) (code "0" + (d - 52)) (cond (eqb d 62) (code "+") (code "/"))))
 
+-- and back
 abbrev pub base64Value : ℕ → Option ℕ
 base64Value x =
     cond (inRange (code "A") (code "Z") x) (some (x - code "A"))
@@ -61,14 +62,18 @@ base64Value x =
 abbrev pub padding : ℕ → List ℕ
 padding n = replicate ((4 - n % 4) % 4) (code "=")
 
+-- the digits, and the padding
 abbrev pub base64Text : List ℕ → List ℕ
 base64Text xs = map base64Char (toDigits 6 xs) ++ padding (length (toDigits 6 xs))
 
+-- a character that is no padding
 abbrev pub notPadding : ℕ → Bool
 notPadding x = not (eqb x (code "="))
 
+-- the padding is exactly what the digits need
 abbrev pub unpadded : Spanned → Option (List ℕ)
 unpadded s = cond (sameOctets (s .rest) (padding (length (s .front)))) (eachOf base64Value (s .front) >>= fromDigits 6) none
 
+-- the digits end where the padding begins
 abbrev pub readBase64 : List ℕ → Option (List ℕ)
 readBase64 t = unpadded (span notPadding t)

@@ -14,6 +14,7 @@ abbrev pub ifSet : ℕ → ℕ → List ℕ → List ℕ
 ifSet zero n l = l
 ifSet (suc b) n l = n ∷ l
 
+-- the numbers of the bits that are set, from n on
 abbrev pub setBits : ℕ → List ℕ → List ℕ
 setBits n [] = []
 setBits n (b ∷ bs) = ifSet b n (setBits (suc n) bs)
@@ -24,6 +25,7 @@ pub data BlockPlace : Type 0 where
   atCount : ℕ → BlockPlace
   atOctet : ℕ → ℕ → BlockPlace
 
+-- before m octets of a block, or after the last
 abbrev pub atOctets : ℕ → ℕ → BlockPlace
 atOctets n zero = atWindow
 atOctets n (suc m) = atOctet n m
@@ -35,6 +37,7 @@ typesFrom atWindow (w ∷ xs) = typesFrom (atCount w) xs
 typesFrom (atCount w) (c ∷ xs) = typesFrom (atOctets (w * 256) c) xs
 typesFrom (atOctet n m) (x ∷ xs) = setBits n (digits 2 8 x) ++ typesFrom (atOctets (n + 8) m) xs
 
+-- the types of all blocks
 abbrev pub types : List ℕ → List ℕ
 types xs = typesFrom atWindow xs
 
@@ -46,6 +49,7 @@ bitmapText text xs = parted (ascii " ") (map text (types xs))
 abbrev pub bitOf : List ℕ → ℕ → ℕ
 bitOf ts n = cond (among n ts) 1 0
 
+-- k bits of the picture, from n on
 abbrev pub bitsOf : List ℕ → ℕ → ℕ → List ℕ
 bitsOf ts n zero = []
 bitsOf ts n (suc k) = bitOf ts n ∷ bitsOf ts (suc n) k
@@ -65,10 +69,12 @@ beforeZeros zero [] = []
 beforeZeros (suc x) [] = suc x ∷ []
 beforeZeros x (y ∷ l) = x ∷ y ∷ l
 
+-- the octets up to the last that is not zero
 abbrev pub withoutLastZeros : List ℕ → List ℕ
 withoutLastZeros [] = []
 withoutLastZeros (x ∷ xs) = beforeZeros x (withoutLastZeros xs)
 
+-- a block, or none where no bit is set
 abbrev pub blockOf : ℕ → List ℕ → List ℕ
 blockOf w [] = []
 blockOf w (x ∷ xs) = w ∷ length (x ∷ xs) ∷ x ∷ xs
@@ -78,6 +84,7 @@ unfoldable pub blocksFrom : List ℕ → ℕ → ℕ → List ℕ
 blocksFrom ts w zero = []
 blocksFrom ts w (suc k) = blockOf w (withoutLastZeros (windowOctets ts w)) ++ blocksFrom ts (suc w) k
 
+-- the blocks of all 256 windows
 abbrev pub blocks : List ℕ → List ℕ
 blocks ts = blocksFrom ts 0 256
 

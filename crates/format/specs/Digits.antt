@@ -18,6 +18,7 @@ abbrev pub numberFrom : ℕ → ℕ → List ℕ → ℕ
 numberFrom b a [] = a
 numberFrom b a (d ∷ ds) = numberFrom b (a * b + d) ds
 
+-- the number whose digits in base b are ds
 abbrev pub number : ℕ → List ℕ → ℕ
 number b ds = numberFrom b 0 ds
 

@@ -17,6 +17,7 @@ pub data Answer : Type 0 where
   done : List ℕ → Answer
   refusal : ℕ → ℕ → Answer
 
+-- "text over 1,048,576"
 abbrev pub maxText : ℕ
 maxText = 1048576
 
@@ -25,10 +26,12 @@ abbrev pub orRefusal : ℕ → Bool → Answer → Answer
 orRefusal n true a = a
 orRefusal n false a = refusal n 0
 
+-- the stanza's refusal, or what follows with its fields' kinds
 abbrev pub ofStanza : Judged → (List Kind → Answer) → Answer
 ofStanza (rejected n i) f = refusal n i
 ofStanza (described d) f = f (kinds (d .fields))
 
+-- 8, 9 or 10, or what follows with the parts
 abbrev pub ofParts : Parts → (List (List ℕ) → Answer) → Answer
 ofParts (refused n i) f = refusal n i
 ofParts (parts ps) f = f ps
@@ -37,6 +40,7 @@ ofParts (parts ps) f = f ps
 abbrev pub isRun : ℕ → ℕ → List Kind → Bool
 isRun first len ks = leb 1 first && leb (first - 1 + len) (length ks)
 
+-- the fields of a run, "given by its first field and its length"
 abbrev pub run : ℕ → ℕ → List Kind → List Kind
 run first len ks = take len (drop (first - 1) ks)
 
@@ -84,9 +88,11 @@ abbrev pub outcome : List ℕ → ℕ → Answer → Outcome
 outcome out at (done t) = record { number = 0; place = length t; lent = stored out at t }
 outcome out at (refusal n i) = record { number = n; place = i; lent = out }
 
+-- printing, with 12, into the lent buffer
 unfoldable pub print : List ℕ → ℕ → ℕ → List ℕ → List ℕ → ℕ → Outcome
 print stanza first len rdata out at = outcome out at (ifRoom (room out at) (printing stanza first len rdata))
 
+-- reading, with 12, into the lent buffer
 unfoldable pub read : List ℕ → ℕ → ℕ → List ℕ → List ℕ → List ℕ → ℕ → Outcome
 read stanza first len origin text out at = outcome out at (ifRoom (room out at) (reading stanza first len origin text))
 
@@ -95,5 +101,6 @@ abbrev pub judgeOutcome : Judged → Outcome
 judgeOutcome (rejected n i) = record { number = n; place = i; lent = [] }
 judgeOutcome (described d) = record { number = 0; place = length (d .fields); lent = [] }
 
+-- judging alone
 unfoldable pub judge : List ℕ → Outcome
 judge stanza = judgeOutcome (judged stanza)

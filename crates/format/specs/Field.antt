@@ -21,6 +21,7 @@ pub record NameMarks : Type 0 where
   pub lowerCase : Bool
   pub optional : Bool
 
+-- The kinds of fields.
 pub data Kind : Type 0 where
   int : ℕ → List Symbol → Kind  -- I1, I2, I4: the octets, and the symbols in order
   rrtype : Kind  -- R
@@ -87,6 +88,7 @@ pub record Field : Type 0 where
   pub fieldName : Part
   pub freeText : Part
 
+-- the kinds of fields, in order
 abbrev pub kinds : List Field → List Kind
 kinds [] = []
 kinds (f ∷ fs) = f .kind ∷ kinds fs

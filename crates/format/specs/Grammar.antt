@@ -21,6 +21,7 @@ abbrev pub startsWithLetter : List ℕ → Bool
 startsWithLetter [] = false
 startsWithLetter (x ∷ t) = letter x
 
+-- all of it is a name
 abbrev pub isName : List ℕ → Bool
 isName t = startsWithLetter t && allOf nameOctet t && leb (length t) 63
 
@@ -28,6 +29,7 @@ isName t = startsWithLetter t && allOf nameOctet t && leb (length t) 63
 abbrev pub ifName : Spanned → Option Spanned
 ifName s = provided (isName (s .front)) s
 
+-- the longest front of such octets, if it is a name
 abbrev pub nameAt : List ℕ → Option Spanned
 nameAt t = ifName (span nameOctet t)
 
@@ -36,7 +38,7 @@ abbrev pub after : ℕ → List ℕ → Option (List ℕ)
 after c [] = none
 after c (x ∷ t) = provided (eqb x c) t
 
--- "optionally blank and free text. Free text, after exactly one blank, is octets 20 to FE hex"
+-- "optionally blank and free text .. Free text, after exactly one blank, is octets 20 to FE hex"
 abbrev pub freeTextAt : ℕ → List ℕ → Option Part
 freeTextAt end [] = some (partAt end [] [])
 freeTextAt end (x ∷ t) = provided (blank x && allOf (inRange 0x20 0xFE) t) (partAt end t t)
@@ -52,6 +54,7 @@ pub record Numbered : Type 0 where
   pub value : ℕ
   pub rest : List ℕ
 
+-- "digits", as a number
 abbrev pub ifDecimal : Spanned → Option Numbered
 ifDecimal s = decimalOf (s .front) >>= λ n. some (record { value = n; rest = s .rest })
 
@@ -59,11 +62,12 @@ ifDecimal s = decimalOf (s .front) >>= λ n. some (record { value = n; rest = s 
 abbrev pub ifLetters : Spanned → Option (List ℕ)
 ifLetters s = provided (not (null (s .front))) (s .rest)
 
+-- they may be left out
 abbrev pub afterOptions : List ℕ → Option (List ℕ)
 afterOptions [] = some []
 afterOptions (x ∷ t) = cond (eqb x (code ":")) (ifLetters (span letter t)) (some (x ∷ t))
 
--- "a name, `:`, digits, then optionally `:` and letters, then optionally blank and free text"
+-- "a name .., `:`, digits, then optionally `:` and letters, then optionally blank and free text"
 abbrev pub headerLine : ℕ → List ℕ → Option Header
 headerLine end t = do
   named ← nameAt t
@@ -78,12 +82,14 @@ pub data Qualifier : Type 0 where
   word : List ℕ → Qualifier
   symbol : Symbol → Qualifier
 
+-- a word alone, or with its number, where the name stands at `at`
 abbrev pub ifQualifier : ℕ → Spanned → Option Qualifier
 ifQualifier at s = cond (null (s .rest)) (some (word (s .front))) (do
   ds ← after (code "=") (s .rest)
   n ← decimalOf ds
   some (symbol (record { spelling = record { place = at; octets = s .front }; value = n })))
 
+-- all of a part is one qualifier
 abbrev pub qualifier : Part → Option Qualifier
 qualifier p = nameAt (p .octets) >>= ifQualifier (p .place)
 
@@ -92,15 +98,18 @@ pub record Qualified : Type 0 where
   pub qualifiers : List Qualifier
   pub rest : List ℕ
 
+-- what the qualifiers are made of
 abbrev pub notBracket : ℕ → Bool
 notBracket x = not (eqb x (code "]"))
 
+-- each between two commas, and `]` after the last
 abbrev pub ifQualifiers : ℕ → Spanned → Option Qualified
 ifQualifiers at s = do
   qs ← eachOf qualifier (placed at (splitOn (code ",") (s .front)))
   r ← after (code "]") (s .rest)
   some (record { qualifiers = qs; rest = r })
 
+-- they may be left out
 abbrev pub qualifiersAt : ℕ → List ℕ → Option Qualified
 qualifiersAt end [] = some (record { qualifiers = []; rest = [] })
 qualifiersAt end (x ∷ t) =

@@ -9,6 +9,7 @@ use Rattle.format.specs.Lists.{_>>=_, consBoth, eachOf, flatMap}
 use Rattle.format.specs.Digits.{digits, number, upperDigit, digitValue}
 use Rattle.format.specs.Text.{counted}
 
+-- two digits for each octet
 abbrev pub hexText : List ℕ → List ℕ
 hexText xs = flatMap (λ x. map upperDigit (digits 16 2 x)) xs
 
@@ -16,6 +17,7 @@ hexText xs = flatMap (λ x. map upperDigit (digits 16 2 x)) xs
 abbrev pub hexPair : List ℕ → Option ℕ
 hexPair t = cond (eqb (length t) 2) (eachOf (digitValue 16) t >>= λ ds. some (number 16 ds)) none
 
+-- "even number of digits"
 abbrev pub fromHex : List ℕ → Option (List ℕ)
 fromHex [] = some []
 fromHex (a ∷ []) = none

@@ -21,6 +21,7 @@ pub record Section : Type 0 where
   pub body : List (List ℕ)
   pub later : List (List ℕ)
 
+-- "each after its line count"
 abbrev pub section : List (List ℕ) → Option Section
 section [] = none
 section (c ∷ ls) = decimalOf c >>= λ n. provided (leb n (length ls)) (record { body = take n ls; later = drop n ls })
@@ -30,6 +31,7 @@ abbrev pub originToken : List ℕ → List Token → Option (List ℕ)
 originToken l [] = none
 originToken l (t ∷ ts) = bareOf t >>= λ u. cond (sameOctets u l) (nameOf none u) none
 
+-- the section of the origin has one line
 abbrev pub originOf : List (List ℕ) → Option (List ℕ)
 originOf [] = none
 originOf (l ∷ []) = originToken l (tokens l)
@@ -60,6 +62,7 @@ answerLine (done []) = ascii "ok\n"
 answerLine (done (x ∷ xs)) = ascii "ok " ++ hexText (x ∷ xs) ++ ascii "\n"
 answerLine (refusal n i) = ascii "no " ++ decimal n ++ ascii " " ++ decimal i ++ ascii "\n"
 
+-- all the fields; 0 of a refused stanza
 abbrev pub fieldCount : Judged → ℕ
 fieldCount (rejected n i) = 0
 fieldCount (described d) = length (d .fields)
@@ -73,8 +76,10 @@ abbrev pub written : Option Job → List ℕ
 written none = ascii "bad job\n"
 written (some j) = flatMap (recordLine j) (j .records)
 
+-- "a job of at most 65,535 octets"
 abbrev pub maxJob : ℕ
 maxJob = 65535
 
+-- what the program writes
 unfoldable pub job : List ℕ → List ℕ
 job xs = cond (leb (length xs) maxJob) (written (jobOf xs)) (ascii "bad job\n")

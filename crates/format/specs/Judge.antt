@@ -43,11 +43,13 @@ withField d f =
     (cond (leb 64 (length (d .fields))) (faulty 5)
     (goesOn (afterHeader (record { header = d .header; fields = d .fields ++ f ∷ [] }))))
 
+-- 3, then 4
 abbrev pub ofMeaning : Description → FieldLine → Meaning → Verdict
 ofMeaning d l unknown = faulty 3
 ofMeaning d l forbidden = faulty 4
 ofMeaning d l (means k) = withField d (record { kind = k; fieldName = l .fieldName; freeText = l .freeText })
 
+-- 2 where the line breaks the grammar
 abbrev pub ofFieldLine : Description → Option FieldLine → Verdict
 ofFieldLine d none = faulty 2
 ofFieldLine d (some l) = ofMeaning d l (meaning (l .keyword) (l .qualifiers))
@@ -67,9 +69,11 @@ abbrev pub ignored : List ℕ → Bool
 ignored [] = true
 ignored (x ∷ t) = eqb x (code "#")
 
+-- a line parted into its leading blanks and the rest
 abbrev pub indentedLine : Progress → ℕ → Spanned → Verdict
 indentedLine s end l = cond (ignored (l .rest)) (goesOn s) (contentLine s (not (null (l .front))) end (l .rest))
 
+-- what a line does
 abbrev pub lineVerdict : Progress → Part → Verdict
 lineVerdict s l = indentedLine s (l .place + length (l .octets)) (span blank (l .octets))
 
@@ -83,6 +87,7 @@ abbrev pub atEnd : Progress → Judged
 atEnd beforeHeader = rejected 2 0
 atEnd (afterHeader d) = cond (null (d .fields)) (rejected 2 0) (described d)
 
+-- "the first faulty stanza line": no line after it is judged
 abbrev pub afterLine : Verdict → ℕ → (Progress → Judged) → Judged
 afterLine (faulty n) i f = rejected n i
 afterLine (goesOn s) i f = f s
@@ -92,8 +97,10 @@ unfoldable pub judgedFrom : ℕ → Progress → List Part → Judged
 judgedFrom i s [] = atEnd s
 judgedFrom i s (l ∷ ls) = afterLine (lineVerdict s l) i (λ t. judgedFrom (suc i) t ls)
 
+-- "stanza over 8,192"
 abbrev pub maxStanza : ℕ
 maxStanza = 8192
 
+-- 1 before all lines
 unfoldable pub judged : List ℕ → Judged
 judged stanza = cond (leb (length stanza) maxStanza) (judgedFrom 1 beforeHeader (lines stanza)) (rejected 1 0)

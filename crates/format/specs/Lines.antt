@@ -21,5 +21,6 @@ withoutEmptyLast (t ∷ u ∷ ts) = t ∷ withoutEmptyLast (u ∷ ts)
 abbrev pub linesOf : List ℕ → List (List ℕ)
 linesOf xs = withoutEmptyLast (splitOn 10 xs)
 
+-- with the place where each begins
 abbrev pub lines : List ℕ → List Part
 lines xs = placed 0 (linesOf xs)

@@ -22,6 +22,7 @@ abbrev pub orElse : {A : Type 0} → Option A → Option A → Option A
 orElse none o = o
 orElse (some x) o = some x
 
+-- one before the others, if all are there
 abbrev pub consBoth : {A : Type 0} → Option A → Option (List A) → Option (List A)
 consBoth none o = none
 consBoth (some x) none = none
@@ -36,14 +37,17 @@ eachOf f (x ∷ xs) = consBoth (f x) (eachOf f xs)
 abbrev pub exactly : ℕ → Option (List ℕ) → Option (List ℕ)
 exactly n o = o >>= λ l. provided (eqb (length l) n) l
 
+-- no element
 abbrev pub null : {A : Type 0} → List A → Bool
 null [] = true
 null (x ∷ xs) = false
 
+-- some element passes
 abbrev pub anyOf : {A : Type 0} → (A → Bool) → List A → Bool
 anyOf f [] = false
 anyOf f (x ∷ xs) = f x || anyOf f xs
 
+-- every element passes
 abbrev pub allOf : {A : Type 0} → (A → Bool) → List A → Bool
 allOf f [] = true
 allOf f (x ∷ xs) = f x && allOf f xs
@@ -58,6 +62,7 @@ abbrev pub flat : {A : Type 0} → List (List A) → List A
 flat [] = []
 flat (t ∷ ts) = t ++ flat ts
 
+-- the lists of the elements, one after another
 abbrev pub flatMap : {A B : Type 0} → (A → List B) → List A → List B
 flatMap f [] = []
 flatMap f (x ∷ xs) = f x ++ flatMap f xs
@@ -68,10 +73,12 @@ parted s [] = []
 parted s (t ∷ []) = t
 parted s (t ∷ u ∷ ts) = t ++ s ++ parted s (u ∷ ts)
 
+-- x before the first list
 abbrev pub consFirst : {A : Type 0} → A → List (List A) → List (List A)
 consFirst x [] = []
 consFirst x (t ∷ ts) = (x ∷ t) ∷ ts
 
+-- x ends a part, or begins the first
 abbrev pub parting : {A : Type 0} → Bool → A → List (List A) → List (List A)
 parting true x ts = [] ∷ ts
 parting false x ts = consFirst x ts

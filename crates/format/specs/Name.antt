@@ -27,6 +27,7 @@ abbrev pub nameText : List ℕ → List ℕ
 nameText [] = []
 nameText (x ∷ xs) = orRoot (parted (ascii ".") (map (flatMap nameEscape) (pieces (x ∷ xs))))
 
+-- an "unescaped dot"
 abbrev pub isDot : Item → Bool
 isDot (plain x) = eqb x (code ".")
 isDot (escape x) = false

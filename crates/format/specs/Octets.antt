@@ -21,9 +21,11 @@ abbrev pub ascii : String → List ℕ
 ascii none = []
 ascii (c then s) = code c ∷ ascii s
 
+-- from lo to hi, both included
 abbrev pub inRange : ℕ → ℕ → ℕ → Bool
 inRange lo hi x = leb lo x && leb x hi
 
+-- x is one of them
 abbrev pub among : ℕ → List ℕ → Bool
 among x xs = anyOf (eqb x) xs
 
@@ -31,12 +33,15 @@ among x xs = anyOf (eqb x) xs
 abbrev pub blank : ℕ → Bool
 blank x = eqb x (code " ") || eqb x 9
 
+-- 0 to 9
 abbrev pub digit : ℕ → Bool
 digit x = inRange (code "0") (code "9") x
 
+-- A to Z, a to z
 abbrev pub letter : ℕ → Bool
 letter x = inRange (code "A") (code "Z") x || inRange (code "a") (code "z") x
 
+-- "letters and digits"
 abbrev pub alphanumeric : ℕ → Bool
 alphanumeric x = letter x || digit x
 
@@ -59,6 +64,7 @@ splitOn c t = split (λ x. eqb x c) t
 abbrev pub lowered : ℕ → ℕ
 lowered x = cond (inRange (code "A") (code "Z") x) (x + 32) x
 
+-- the same but for the case of letters
 abbrev pub sameWord : List ℕ → List ℕ → Bool
 sameWord [] [] = true
 sameWord [] (y ∷ ys) = false

@@ -47,6 +47,7 @@ pub data Got : Type 0 where
   badToken : Got
   got : List ℕ → List Token → Got
 
+-- 9 where there is no value
 abbrev pub gotOr : Option (List ℕ) → List Token → Got
 gotOr none ts = badToken
 gotOr (some p) ts = got p ts
@@ -100,6 +101,7 @@ abbrev pub withFirst : List ℕ → Parts → Parts
 withFirst p (refused n i) = refused n (suc i)
 withFirst p (parts ps) = parts (p ∷ ps)
 
+-- 8 or 9 at this field, or its octets and the rest
 abbrev pub afterTaking : Taken → List ℕ → (List ℕ → Parts) → Parts
 afterTaking short xs f = refused 8 1
 afterTaking bad xs f = refused 9 1
@@ -111,10 +113,12 @@ partsOf [] [] = parts []
 partsOf [] (x ∷ xs) = refused 10 1
 partsOf (k ∷ ks) xs = afterTaking (taken (start k) xs) xs (λ ys. partsOf ks ys)
 
+-- no refusal
 abbrev pub isParts : Parts → Bool
 isParts (refused n i) = false
 isParts (parts ps) = true
 
+-- "RDATA over 65,535 octets"
 abbrev pub maxRdata : ℕ
 maxRdata = 65535
 
@@ -130,11 +134,13 @@ joined (x ∷ s) (y ∷ t) = (x ∷ s) ++ (ascii " " ++ y ∷ t)
 
 -- A run's text is the same for any way to show a field.
 module _ (show : Kind → List ℕ → List ℕ) where
+  -- the fields' texts, joined
   unfoldable pub textOfParts : List Kind → List (List ℕ) → List ℕ
   textOfParts [] ps = []
   textOfParts (k ∷ ks) [] = []
   textOfParts (k ∷ ks) (p ∷ ps) = joined (show k p) (textOfParts ks ps)
 
+  -- no text where a field refuses
   abbrev pub textIn : List Kind → Parts → List ℕ
   textIn ks (refused n i) = []
   textIn ks (parts ps) = textOfParts ks ps
@@ -145,6 +151,7 @@ textOf ks xs = textIn shown ks (partsOf ks xs)
 
 -- Reading a run is the same for any way to read a field.
 module _ (read : Kind → List Token → Got) where
+  -- 8 or 9 at this field, or its octets and the tokens after it
   abbrev pub afterReading : Got → (List Token → Parts) → Parts
   afterReading noToken f = refused 8 1
   afterReading badToken f = refused 9 1

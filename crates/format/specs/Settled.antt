@@ -12,13 +12,14 @@ use Rattle.format.specs.Entries.{Answer, done, refusal, printing, readin
 use Prim.Native.String.{String, [] as none, _∷_ as _then_}
 
 -- octets in hex
-abbrev pub nibble : ℕ → ℕ
-nibble c = cond (ltb c 58) (c - 48) (c - 55)
+abbrev pub hexDigit : ℕ → ℕ
+hexDigit c = cond (ltb c 58) (c - 48) (c - 55)
 
+-- two digits for each octet
 abbrev pub unhex : String → List ℕ
 unhex none = []
 unhex (c then none) = []
-unhex (c then (d then s)) = (nibble (code c) * 16 + nibble (code d)) ∷ unhex s
+unhex (c then (d then s)) = (hexDigit (code c) * 16 + hexDigit (code d)) ∷ unhex s
 
 -- "DOOR has fields I2:opening, I2:dwell, I1[STEP=1,HOLD=2]:mode, N:site."
 abbrev pub door : List ℕ
@@ -28,9 +29,11 @@ door = ascii "DOOR:65280:I Door timing\n I2:opening Tenths\n I2:dwell Tenths\n I
 abbrev pub oneField : String → List ℕ
 oneField field = ascii "ONE:1\n " ++ ascii field
 
+-- the root as origin
 abbrev pub root : List ℕ
 root = 0 ∷ []
 
+-- the origin `example.`
 abbrev pub example : List ℕ
 example = unhex "076578616D706C6500"
 
@@ -43,15 +46,18 @@ pub data Question : Type 0 where
   toPrint : (stanza : List ℕ) (n : ℕ) (rdata : List ℕ) (space : ℕ) → Question
   toRead : (stanza : List ℕ) (n : ℕ) (origin text : List ℕ) (space : ℕ) → Question
 
+-- the definitions' answer
 unfoldable pub answered : Question → Answer
 answered (toPrint stanza n rdata space) = ifRoom space (printing stanza 1 n rdata)
 answered (toRead stanza n origin text space) = ifRoom space (reading stanza 1 n origin text)
 
+-- A settled line: its number, what is asked, and the answer.
 pub record Line : Type 0 where
   pub p : ℕ
   pub question : Question
   pub answer : Answer
 
+-- a settled line by its parts
 abbrev pub line : ℕ → Question → Answer → Line
 line p q a = record { p = p; question = q; answer = a }
 
@@ -82,5 +88,6 @@ table =
     line 14 (toPrint (oneField "AAAA") 1 (replicate 16 0) 100) (done (ascii "::")) ∷
     line 14 (toRead (oneField "AAAA") 1 root (ascii "::") 100) (done (replicate 16 0)) ∷ []
 
+-- the table holds of the definitions
 abbrev pub Settled : Type 0
 Settled = map (λ (l : Line). answered (l .question)) table ≡ map (λ (l : Line). l .answer) table

@@ -31,6 +31,7 @@ counted lo t = provided (inRange lo 255 (length t)) (withCount t)
 abbrev pub stringEscape : ℕ → List ℕ
 stringEscape x = escaped 0x20 (ascii "\"\\") x
 
+-- all of a string
 abbrev pub stringText : List ℕ → List ℕ
 stringText xs = ascii "\"" ++ flatMap stringEscape xs ++ ascii "\""
 
@@ -40,6 +41,7 @@ stringValue (bare t) = provided (not (among (code "\\") t)) t
 stringValue (quoted t) = unescaped t >>= λ is. some (map octetOf is)
 stringValue broken = none
 
+-- "count octet, then octets"
 abbrev pub readString : Token → Option (List ℕ)
 readString t = stringValue t >>= counted 0
 
@@ -47,5 +49,6 @@ readString t = stringValue t >>= counted 0
 abbrev pub notEmpty : List ℕ → Option (List ℕ)
 notEmpty t = provided (not (null t)) t
 
+-- "one token, no count, one or more octets"
 abbrev pub readRaw : Token → Option (List ℕ)
 readRaw t = stringValue t >>= notEmpty

@@ -18,9 +18,11 @@ leap y = eqb (y % 4) 0 && (not (eqb (y % 100) 0) || eqb (y % 400) 0)
 abbrev pub monthDays : Bool → ℕ → ℕ
 monthDays leapYear m = cond (eqb m 1) (cond leapYear 29 28) (cond (among m (3 ∷ 5 ∷ 8 ∷ 10 ∷ [])) 30 31)
 
+-- the days of month k
 abbrev pub monthLength : ℕ → ℕ
 monthLength k = monthDays (leap (1970 + k / 12)) (k % 12)
 
+-- the days before month k
 abbrev pub daysBefore : ℕ → ℕ
 daysBefore zero = 0
 daysBefore (suc k) = daysBefore k + monthLength k
@@ -45,6 +47,7 @@ momentText r s =
     fixedDecimal 4 (1970 + r .month / 12) ++ fixedDecimal 2 (r .month % 12 + 1) ++ fixedDecimal 2 (r .day + 1) ++
     fixedDecimal 2 (s / 3600) ++ fixedDecimal 2 (s / 60 % 60) ++ fixedDecimal 2 (s % 60)
 
+-- the moment that many seconds after the first
 abbrev pub timeText : ℕ → List ℕ
 timeText n = momentText (dayOf (n / 86400)) (n % 86400)
 
@@ -56,9 +59,11 @@ moment year month day hour minute second =
     (some ((daysBefore ((year - 1970) * 12 + (month - 1)) + (day - 1)) * 86400 + hour * 3600 + minute * 60 + second))
     none) none
 
+-- the number of n digits from digit i on
 abbrev pub digitsAt : ℕ → ℕ → List ℕ → ℕ
 digitsAt i n ds = number 10 (take n (drop i ds))
 
+-- YYYYMMDDHHmmSS
 abbrev pub momentOf : List ℕ → Option ℕ
 momentOf ds = moment (digitsAt 0 4 ds) (digitsAt 4 2 ds) (digitsAt 6 2 ds) (digitsAt 8 2 ds) (digitsAt 10 2 ds) (digitsAt 12 2 ds)
 

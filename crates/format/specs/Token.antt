@@ -13,6 +13,7 @@ use Rattle.format.specs.Number.{fixedDecimal}
 abbrev pub textOctet : ℕ → Bool
 textOctet x = eqb x 9 || inRange 0x20 0x7E x
 
+-- "quoted, by `"` or `'`"
 abbrev pub quoteMark : ℕ → Bool
 quoteMark x = eqb x (code "\"") || eqb x (code "'")
 
@@ -69,6 +70,7 @@ intoFirst x (bare t ∷ ts) = bare (x ∷ t) ∷ ts
 intoFirst x (quoted t ∷ ts) = quoted (x ∷ t) ∷ ts
 intoFirst x (broken ∷ ts) = broken ∷ ts
 
+-- the tokens after that
 abbrev pub afterScan : ℕ → ScanMove → (Scan → List Token) → List Token
 afterScan x (skip s) f = f s
 afterScan x (keep s) f = intoFirst x (f s)
@@ -81,6 +83,7 @@ unfoldable pub scanned : Scan → List ℕ → List Token
 scanned s [] = scanEnd s
 scanned s (x ∷ xs) = afterScan x (scanStep s x) (λ t. scanned t xs)
 
+-- "Text is tokens parted by blanks"
 abbrev pub tokens : List ℕ → List Token
 tokens xs = scanned between xs
 
@@ -89,6 +92,7 @@ pub data Item : Type 0 where
   plain : ℕ → Item
   escape : ℕ → Item
 
+-- however it is written
 abbrev pub octetOf : Item → ℕ
 octetOf (plain x) = x
 octetOf (escape x) = x
@@ -113,17 +117,20 @@ escapeStep slash x = cond (digit x) (moves (oneDigit (x - code "0"))) (gives (es
 escapeStep (oneDigit v) x = cond (digit x) (moves (twoDigits (v * 10 + (x - code "0")))) badEscape
 escapeStep (twoDigits v) x = cond (digit x && leb (v * 10 + (x - code "0")) 255) (gives (escape (v * 10 + (x - code "0")))) badEscape
 
+-- no value ends inside an escape
 abbrev pub escapeEnd : Escaping → Option (List Item)
 escapeEnd outside = some []
 escapeEnd slash = none
 escapeEnd (oneDigit v) = none
 escapeEnd (twoDigits v) = none
 
+-- the value after that
 abbrev pub afterEscape : EscapeMove → (Escaping → Option (List Item)) → Option (List Item)
 afterEscape (moves e) f = f e
 afterEscape (gives i) f = consBoth (some i) (f outside)
 afterEscape badEscape f = none
 
+-- the value from where an escape stands
 unfoldable pub unescapedFrom : Escaping → List ℕ → Option (List Item)
 unescapedFrom e [] = escapeEnd e
 unescapedFrom e (x ∷ xs) = afterEscape (escapeStep e x) (λ f. unescapedFrom f xs)

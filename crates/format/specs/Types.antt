@@ -15,16 +15,20 @@ pub data Takes : Type 0 where
   symbols : ℕ → Takes
   words : List (List ℕ) → (List (List ℕ) → Option Kind) → Takes
 
+-- A row of the table of types.
 pub record TypeRow : Type 0 where
   pub typeWord : List ℕ
   pub takes : Takes
 
+-- a row, by its keyword
 abbrev pub row : String → Takes → TypeRow
 row k t = record { typeWord = ascii k; takes = t }
 
+-- a type that takes no qualifier
 abbrev pub noWords : Kind → Takes
 noWords k = words [] (λ given. some k)
 
+-- whether w is among the words
 abbrev pub hasWord : List (List ℕ) → List ℕ → Bool
 hasWord ws w = anyOf (sameOctets w) ws
 
@@ -79,6 +83,7 @@ abbrev pub symbolOf : ℕ → Qualifier → Option Symbol
 symbolOf w (word t) = none
 symbolOf w (symbol s) = provided (ltb (s .value) (256 ^ w)) s
 
+-- the word, if it is not a symbol
 abbrev pub wordOf : Qualifier → Option (List ℕ)
 wordOf (word t) = some t
 wordOf (symbol s) = none
@@ -98,6 +103,7 @@ pub data Meaning : Type 0 where
   forbidden : Meaning
   means : Kind → Meaning
 
+-- 4 where there is no kind
 abbrev pub orForbidden : Option Kind → Meaning
 orForbidden none = forbidden
 orForbidden (some k) = means k
@@ -107,5 +113,6 @@ abbrev pub meaningOf : Option Takes → List Qualifier → Meaning
 meaningOf none qs = unknown
 meaningOf (some t) qs = cond (anyOf unknownWord qs) unknown (orForbidden (allowed t qs))
 
+-- a type by the table
 abbrev pub meaning : List ℕ → List Qualifier → Meaning
 meaning k qs = meaningOf (takesOf typeRows k) qs

@@ -30,6 +30,7 @@ abbrev pub moreOctets : ℕ → Move
 moreOctets zero = stop
 moreOctets (suc n) = go (anyOctet n)
 
+-- what the next octet does
 abbrev pub step : Stage → ℕ → Move
 step (anyOctet n) x = moreOctets n
 step (count lo) x = cond (ltb x lo) fault (moreOctets x)
@@ -70,11 +71,13 @@ pub data Taken : Type 0 where
   bad : Taken
   took : ℕ → Taken
 
+-- with the octet before
 abbrev pub oneMore : Taken → Taken
 oneMore short = short
 oneMore bad = bad
 oneMore (took n) = took (suc n)
 
+-- what is taken after that
 abbrev pub afterMove : Move → (Stage → Taken) → Taken
 afterMove stop f = took 1
 afterMove fault f = bad

@@ -31,7 +31,7 @@ groupsIn tail t = octetsIn (groupsOf tail (splitOn (code ":") t))
 unfoldable pub sideIn : Bool → List ℕ → Option (List ℕ)
 sideIn tail t = octetsIn (sideOf tail t)
 
--- "exactly eight groups"
+-- eight groups: sixteen octets
 abbrev pub sixteen : Option (List ℕ) → Option (List ℕ)
 sixteen o = o >>= λ xs. provided (eqb (length xs) 16) xs
 
