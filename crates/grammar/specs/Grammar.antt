@@ -4,11 +4,9 @@ use mathlib.Core.List.{List}
 use mathlib.Core.Option.{Option, none, some}
 use lib.Seq.{slice}
 use Rattle.format.specs.Lists.{_>>=_}
-use Rattle.format.specs.Field.{Part}
 use Rattle.format.specs.Grammar.{Header, FieldLine}
 use Rattle.octets.specs.Octets.{partIn}
 use Rattle.qualifiers.specs.Qualifiers.{qualifiersIn}
-use Rattle.grammar.specs.declared.HeaderShape.{HeaderShape}
 use Rattle.grammar.specs.declared.HeaderLine.{HeaderLine}
 use Rattle.grammar.specs.declared.HeaderLine.the-variants.{NoHeader, IsHeader}
 use Rattle.grammar.specs.declared.FieldShape.{FieldShape}

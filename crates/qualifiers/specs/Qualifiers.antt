@@ -8,7 +8,7 @@ use lib.Dec.{eqb, ltb}
 use lib.Seq.{slice}
 use Rattle.format.specs.Lists.{anyOf, eachOf, twice, span}
 use Rattle.format.specs.Octets.{ascii, nameOctet, sameOctets, sameWord, splitOn}
-use Rattle.format.specs.Field.{Part, Symbol}
+use Rattle.format.specs.Field.{Part}
 use Rattle.format.specs.Lines.{placed}
 use Rattle.format.specs.Grammar.{Qualifier, word, symbol, qualifier}
 use Rattle.format.specs.Types.{unknownWord, hasWord}

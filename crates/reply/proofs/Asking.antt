@@ -1,5 +1,5 @@
 -- The line that answers each kind of request, whose texts are lent as parts of a buffer.
-use Prim.Native.Nat.{ℕ, min, _+_, _*_, _-_, _≤_}
+use Prim.Native.Nat.{ℕ, min, _-_, _≤_}
 use mathlib.Core.Path.{_≡_, refl}
 use mathlib.Core.Bool.{Bool, true, false, cond}
 use mathlib.Core.List.{List, []}
@@ -8,7 +8,7 @@ use native.Mathlib.Omega.{arith}
 use lib.Dec.{leb, eqb}
 use lib.ListN.{length, take, drop}
 use borrow.Author.Tests.{leb-true, ne-eqb}
-use Rattle.format.specs.Entries.{Answer, done, refusal, ifRoom, printing, reading, judge, Outcome}
+use Rattle.format.specs.Entries.{Answer, done, refusal, ifRoom, printing, reading, judge}
 use Rattle.octets.proofs.Slices.{lent}
 use Rattle.writing.specs.Writing.{Wrote}
 use Rattle.writing.proofs.Laws.{wrote-text}

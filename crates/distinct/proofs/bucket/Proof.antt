@@ -1,5 +1,4 @@
 use Rattle.distinct.proofs.Buckets.{bucket-of, bucket-none}
-use native.Mathlib.Omega.{arith}
 use borrow.Author.Needs.{needs}
 use Rattle.distinct.proofs.bucket.Statement.{statement}
 use Rattle.distinct.proofs.bucket.Tie as tie

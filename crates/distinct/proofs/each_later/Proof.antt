@@ -1,5 +1,5 @@
 use Prim.Native.Nat.{_-_, _≤_}
-use mathlib.Core.Path.{_≡_, refl, sym, _∙_}
+use mathlib.Core.Path.{_≡_, refl, _∙_}
 use Rattle.qualifiers.specs.Qualifiers.{twiceIn}
 use Rattle.qualifiers.proofs.Laws.{within, name-within, twice-found, twice-on, twice-last}
 use native.Mathlib.Omega.{arith}

@@ -1,5 +1,5 @@
 use Rattle.qualifiers.proofs.Laws.{front-in, named-in}
-use mathlib.Core.Path.{_≡_, sym}
+use mathlib.Core.Path.{sym}
 use native.Mathlib.Omega.{arith}
 use borrow.Author.Needs.{needs}
 use Rattle.distinct.proofs.names.Statement.{statement}

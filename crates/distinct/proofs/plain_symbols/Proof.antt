@@ -1,6 +1,6 @@
 use Rattle.octets.specs.Octets.{partIn}
 use Prim.Native.Nat.{_-_, _≤_}
-use mathlib.Core.Path.{_≡_, refl, sym, ap, _∙_}
+use mathlib.Core.Path.{_≡_, refl, sym, _∙_}
 use mathlib.Core.Bool.{true, false, true≢false}
 use lib.ListN.{length}
 use lib.Seq.{slice}

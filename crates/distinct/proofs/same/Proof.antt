@@ -1,6 +1,6 @@
 use lib.Seq.{slice}
 use Prim.Native.Nat.{_-_, _≤_}
-use mathlib.Core.Path.{_≡_, refl, sym, _∙_}
+use mathlib.Core.Path.{_≡_, refl, _∙_}
 use Rattle.qualifiers.specs.Qualifiers.{sameBy}
 use Rattle.qualifiers.proofs.Laws.{same-on, same-off, same-end, same-lengths}
 use native.Mathlib.Omega.{arith}

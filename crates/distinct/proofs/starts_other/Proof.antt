@@ -1,8 +1,7 @@
 use Rattle.qualifiers.proofs.Laws.{first-other}
 use borrow.Author.Tests.{eq-eqb}
 use mathlib.Core.Bool.{true≢false, not}
-use mathlib.Core.Path.{_≡_, sym, _∙_, ap}
-use native.Mathlib.Omega.{arith}
+use mathlib.Core.Path.{sym, _∙_, ap}
 use borrow.Author.Needs.{needs}
 use Rattle.distinct.proofs.starts_other.Statement.{statement}
 use Rattle.distinct.proofs.starts_other.Tie as tie

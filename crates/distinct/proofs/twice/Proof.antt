@@ -1,5 +1,4 @@
 use mathlib.Core.Path.{sym}
-use native.Mathlib.Omega.{arith}
 use borrow.Author.Needs.{needs}
 use Rattle.distinct.proofs.twice.Statement.{statement}
 use Rattle.distinct.proofs.twice.Tie as tie

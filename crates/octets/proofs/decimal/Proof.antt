@@ -2,9 +2,8 @@ use Rattle.octets.proofs.Numbers.{valueFrom, decimal-value, no-decimal,
 use Rattle.octets.proofs.Slices.{next, none}
 use Rattle.octets.specs.Octets.{numberOf}
 use lib.Seq.{slice}
-use lib.ListN.{length, getD}
 use mathlib.Core.Path.{_≡_, refl, sym, ap, _∙_}
-use Prim.Native.Nat.{_+_, _*_, _-_, _^_, _≤_, _<_}
+use Prim.Native.Nat.{_-_, _^_, _≤_, _<_}
 use native.Mathlib.Omega.{arith}
 use borrow.Author.Needs.{needs}
 use Rattle.octets.proofs.decimal.Statement.{statement}

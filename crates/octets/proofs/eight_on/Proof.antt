@@ -1,7 +1,6 @@
-use mathlib.Core.Path.{_≡_, refl, sym, _∙_}
-use Prim.Native.Nat.{_+_, _-_, _≤_}
+use mathlib.Core.Path.{sym, _∙_}
+use Prim.Native.Nat.{_+_}
 use lib.ListN.{length}
-use lib.Seq.{slice}
 use Rattle.octets.specs.Octets.{inClass}
 use Rattle.octets.specs.declared.Class.the-variants.{NotNewline}
 use Rattle.octets.proofs.Blocks.{all-front}

@@ -1,6 +1,4 @@
-use borrow.Author.Tests.{lt-ltb, le-ltb, le-leb, lt-leb, eq-eqb, ne-eqb}
-use native.Mathlib.Omega.{arith}
-use borrow.Author.Needs.{needs}
+use borrow.Author.Tests.{le-leb, lt-leb}
 use Rattle.octets.proofs.is_digit.Statement.{statement}
 use Rattle.octets.proofs.is_digit.Tie as tie
 use Rattle.octets.proofs.is_digit.Reads as reads

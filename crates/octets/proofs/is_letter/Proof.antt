@@ -1,6 +1,5 @@
 use Rattle.octets.proofs.Letters.{no-letter, maybe-letter}
 use native.Mathlib.Omega.{arith}
-use borrow.Author.Needs.{needs}
 use Rattle.octets.proofs.is_letter.Statement.{statement}
 use Rattle.octets.proofs.is_letter.Tie as tie
 use Rattle.octets.proofs.is_letter.Reads as reads

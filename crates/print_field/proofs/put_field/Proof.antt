@@ -8,7 +8,7 @@ use Rattle.print_field.proofs.Fields.{int-wide}
 use Rattle.run.proofs.Fields.{symbolsOf, symbols-of, int-four}
 use Rattle.format.specs.Run.{shown}
 use Rattle.print_field.proofs.Fields.{octets-wide, counted-some, name-anyhow}
-use mathlib.Core.Path.{_≡_, sym, ap, _∙_}
+use mathlib.Core.Path.{sym, ap, _∙_}
 use native.Mathlib.Omega.{arith}
 use borrow.Author.Needs.{needs}
 use Rattle.print_field.proofs.put_field.Statement.{statement}

@@ -1,8 +1,6 @@
 use Rattle.wire.specs.Wire.{takenIn}
 use Rattle.format.specs.Wire.{Taken, short, bad, took}
 use mathlib.Core.Path.{_≡_, ap, sym, _∙_}
-use Prim.Native.Nat.{ℕ}
-use native.Mathlib.Omega.{arith}
 use borrow.Author.Needs.{needs}
 use Rattle.print_field.proofs.width.Statement.{statement}
 use Rattle.print_field.proofs.width.Tie as tie

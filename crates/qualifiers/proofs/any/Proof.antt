@@ -1,6 +1,5 @@
 use mathlib.Core.Path.{sym, _∙_}
 use Rattle.qualifiers.proofs.Laws.{any-letter}
-use native.Mathlib.Omega.{arith}
 use borrow.Author.Needs.{needs}
 use Rattle.qualifiers.proofs.any.Statement.{statement}
 use Rattle.qualifiers.proofs.any.Tie as tie

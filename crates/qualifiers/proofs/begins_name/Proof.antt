@@ -1,7 +1,5 @@
-use mathlib.Core.Path.{sym, _∙_}
 use Rattle.octets.proofs.Slices.{none as nothing}
 use Rattle.qualifiers.proofs.Laws.{begins-next}
-use native.Mathlib.Omega.{arith}
 use borrow.Author.Needs.{needs}
 use Rattle.qualifiers.proofs.begins_name.Statement.{statement}
 use Rattle.qualifiers.proofs.begins_name.Tie as tie

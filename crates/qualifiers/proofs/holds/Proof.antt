@@ -1,8 +1,6 @@
 use lib.Seq.{slice, length-slice}
-use mathlib.Core.Path.{sym, ap, _∙_}
-use Rattle.qualifiers.specs.Qualifiers.{holdsOf}
+use mathlib.Core.Path.{sym, _∙_}
 use Rattle.qualifiers.proofs.Laws.{letter-word, long-word, any-symbol}
-use native.Mathlib.Omega.{arith}
 use borrow.Author.Needs.{needs}
 use Rattle.qualifiers.proofs.holds.Statement.{statement}
 use Rattle.qualifiers.proofs.holds.Tie as tie

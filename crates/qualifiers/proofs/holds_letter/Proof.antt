@@ -1,6 +1,5 @@
 use mathlib.Core.Bool.{not, and-true}
 use mathlib.Core.Path.{sym, ap, _∙_}
-use native.Mathlib.Omega.{arith}
 use borrow.Author.Needs.{needs}
 use Rattle.qualifiers.proofs.holds_letter.Statement.{statement}
 use Rattle.qualifiers.proofs.holds_letter.Tie as tie

@@ -1,5 +1,4 @@
 use Rattle.qualifiers.proofs.Laws.{none-taken}
-use native.Mathlib.Omega.{arith}
 use borrow.Author.Needs.{needs}
 use Rattle.qualifiers.proofs.holds_long.Statement.{statement}
 use Rattle.qualifiers.proofs.holds_long.Tie as tie

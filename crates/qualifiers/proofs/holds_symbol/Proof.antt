@@ -1,5 +1,4 @@
 use Rattle.qualifiers.proofs.Laws.{leb-ltb}
-use native.Mathlib.Omega.{arith}
 use borrow.Author.Needs.{needs}
 use Rattle.qualifiers.proofs.holds_symbol.Statement.{statement}
 use Rattle.qualifiers.proofs.holds_symbol.Tie as tie

@@ -2,8 +2,6 @@ use mathlib.Core.Path.{sym, _∙_}
 use mathlib.Core.Bool.{or-false}
 use Rattle.qualifiers.proofs.Laws.{last-word}
 use borrow.Author.Tests.{eq-eqb, ne-eqb}
-use native.Mathlib.Omega.{arith}
-use borrow.Author.Needs.{needs}
 use Rattle.qualifiers.proofs.known_letter.Statement.{statement}
 use Rattle.qualifiers.proofs.known_letter.Tie as tie
 

@@ -1,6 +1,5 @@
 use Rattle.qualifiers.proofs.Laws.{last-word}
 use borrow.Author.Tests.{eq-eqb, ne-eqb}
-use native.Mathlib.Omega.{arith}
 use borrow.Author.Needs.{needs}
 use Rattle.qualifiers.proofs.takes_letter.Statement.{statement}
 use Rattle.qualifiers.proofs.takes_letter.Tie as tie

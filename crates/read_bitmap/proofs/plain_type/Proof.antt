@@ -1,5 +1,4 @@
 use mathlib.Core.Path.{sym, _∙_}
-use native.Mathlib.Omega.{arith}
 use borrow.Author.Needs.{needs}
 use Rattle.read_bitmap.proofs.plain_type.Statement.{statement}
 use Rattle.read_bitmap.proofs.plain_type.Tie as tie

@@ -1,7 +1,7 @@
 use Rattle.writing.proofs.Laws.{wrote-length}
 use Rattle.read_group.proofs.GroupDigits.{begun-none, begun-group, base-small}
 use Rattle.read_group.specs.Group.{Begun}
-use Prim.Native.Nat.{_≤_, _-_, _+_}
+use Prim.Native.Nat.{_-_, _+_}
 use native.Mathlib.Omega.{arith}
 use borrow.Author.Needs.{needs}
 use Rattle.read_group.proofs.groups.Statement.{statement}

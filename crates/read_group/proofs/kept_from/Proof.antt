@@ -5,7 +5,6 @@ use Rattle.read_group.specs.Group.{leftOut, keptFrom}
 use mathlib.Core.Path.{_≡_, refl}
 use Prim.Native.Nat.{_≤_, _-_}
 use mathlib.Core.Path.{_∙_}
-use native.Mathlib.Omega.{arith}
 use borrow.Author.Needs.{needs}
 use Rattle.read_group.proofs.kept_from.Statement.{statement}
 use Rattle.read_group.proofs.kept_from.Tie as tie

@@ -1,5 +1,4 @@
 use Rattle.read_group.specs.Group.{letters}
-use native.Mathlib.Omega.{arith}
 use borrow.Author.Needs.{needs}
 use Rattle.read_group.proofs.lettered.Statement.{statement}
 use Rattle.read_group.proofs.lettered.Tie as tie

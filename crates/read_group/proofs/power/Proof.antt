@@ -1,6 +1,4 @@
 use Rattle.read_group.proofs.Bits.{power-on, power-small, power-end}
-use native.Mathlib.Numerals.{add-one}
-use native.Mathlib.Nat.{pow-suc, pow-zero, pow-le-pow-right}
 use mathlib.Core.Path.{_≡_, refl}
 use Prim.Native.Nat.{_≤_, _^_, _-_}
 use native.Mathlib.Omega.{arith}

@@ -1,5 +1,5 @@
 use Rattle.read_group.proofs.GroupDigits.{Taking, taking-none, taking-room, taking-next, taken}
-use mathlib.Core.Path.{sym, subst}
+use mathlib.Core.Path.{subst}
 use Prim.Native.Nat.{_≤_, _-_}
 use native.Mathlib.Omega.{arith}
 use borrow.Author.Needs.{needs}

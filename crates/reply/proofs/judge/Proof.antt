@@ -1,6 +1,5 @@
 use Rattle.writing.proofs.Laws.{wrote-text}
 use Rattle.reply.proofs.Results.{judged-answered}
-use native.Mathlib.Omega.{arith}
 use borrow.Author.Needs.{needs}
 use Rattle.reply.proofs.judge.Statement.{statement}
 use Rattle.reply.proofs.judge.Tie as tie

@@ -1,6 +1,5 @@
 use Rattle.writing.proofs.Laws.{wrote-text}
 use Rattle.reply_line.proofs.Replies.{no-octets, some-octets}
-use native.Mathlib.Omega.{arith}
 use borrow.Author.Needs.{needs}
 use Rattle.reply_line.proofs.put_octets.Statement.{statement}
 use Rattle.reply_line.proofs.put_octets.Tie as tie

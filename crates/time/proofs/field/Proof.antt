@@ -1,5 +1,5 @@
-use Prim.Native.Nat.{ℕ, _/_, _%_}
-use mathlib.Core.Path.{_≡_, ap, sym, _∙_}
+use Prim.Native.Nat.{_/_, _%_}
+use mathlib.Core.Path.{ap, _∙_}
 use Rattle.format.specs.Time.{dayOf, timeText}
 use Rattle.writing.proofs.Laws.{wrote-text}
 use Rattle.time.proofs.Days.{moment-of}

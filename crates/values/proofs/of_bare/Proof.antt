@@ -1,6 +1,5 @@
 use Rattle.run.proofs.Fields.{symbolsOf, symbols-of, int-four}
 use Rattle.values.proofs.Forms.{eui-eight}
-use native.Mathlib.Omega.{arith}
 use borrow.Author.Needs.{needs}
 use Rattle.values.proofs.of_bare.Statement.{statement}
 use Rattle.values.proofs.of_bare.Tie as tie

@@ -1,5 +1,4 @@
 use Rattle.values.proofs.Forms.{only-strings}
-use native.Mathlib.Omega.{arith}
 use borrow.Author.Needs.{needs}
 use Rattle.values.proofs.of_quoted.Statement.{statement}
 use Rattle.values.proofs.of_quoted.Tie as tie

@@ -1,5 +1,5 @@
-use Rattle.verdict.proofs.Verdicts.{indented, outdented, no-header, low-number, high-number, good-header, line-malformed, line-unknown, line-forbidden, line-means, line-placed, after-tail, named-again, too-many, one-more, line-ignored, line-read}
-use mathlib.Core.Path.{_≡_, refl, sym, ap, subst, _∙_}
+use Rattle.verdict.proofs.Verdicts.{line-malformed, line-unknown, line-forbidden, line-means, line-placed}
+use mathlib.Core.Path.{_≡_, refl, subst}
 use lib.Seq.{slice}
 use Rattle.types.specs.Types.{meantIn, meaningIn}
 use native.Mathlib.Omega.{arith}

@@ -1,7 +1,6 @@
 use Rattle.verdict.proofs.Verdicts.{after-tail, named-again, too-many, one-more}
 use Rattle.types.specs.Fields.{fieldOf}
-use mathlib.Core.Path.{_≡_, refl, sym, ap, _∙_}
-use native.Mathlib.Omega.{arith}
+use mathlib.Core.Path.{refl, sym, _∙_}
 use borrow.Author.Needs.{needs}
 use Rattle.verdict.proofs.field_step.Statement.{statement}
 use Rattle.verdict.proofs.field_step.Tie as tie

@@ -1,6 +1,5 @@
 use Rattle.verdict.proofs.Verdicts.{indented, outdented, no-field, is-field}
-use mathlib.Core.Path.{_≡_, refl, sym, ap, _∙_}
-use native.Mathlib.Omega.{arith}
+use mathlib.Core.Path.{_∙_}
 use borrow.Author.Needs.{needs}
 use Rattle.verdict.proofs.field_verdict.Statement.{statement}
 use Rattle.verdict.proofs.field_verdict.Tie as tie

@@ -1,5 +1,5 @@
-use Rattle.verdict.proofs.Verdicts.{indented, outdented, no-header, low-number, high-number, good-header, line-malformed, line-unknown, line-forbidden, line-means, after-tail, named-again, too-many, one-more, line-ignored, line-read}
-use mathlib.Core.Path.{_≡_, refl, sym, ap, _∙_}
+use Rattle.verdict.proofs.Verdicts.{indented, outdented, no-header, low-number, high-number, good-header}
+use mathlib.Core.Path.{_∙_}
 use native.Mathlib.Omega.{arith}
 use borrow.Author.Needs.{needs}
 use Rattle.verdict.proofs.header_verdict.Statement.{statement}

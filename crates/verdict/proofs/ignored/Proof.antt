@@ -1,5 +1,4 @@
 use Rattle.verdict.proofs.Laws.{first-octet, blank-line}
-use native.Mathlib.Omega.{arith}
 use borrow.Author.Needs.{needs}
 use Rattle.verdict.proofs.ignored.Statement.{statement}
 use Rattle.verdict.proofs.ignored.Tie as tie

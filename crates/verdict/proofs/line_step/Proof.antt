@@ -1,7 +1,5 @@
 use Rattle.verdict.proofs.Verdicts.{line-ignored, line-read, nonblank, due}
-use Rattle.verdict.specs.Verdict.{progressOf}
-use mathlib.Core.Path.{_≡_, refl, sym, ap, _∙_}
-use native.Mathlib.Omega.{arith}
+use mathlib.Core.Path.{sym, _∙_}
 use borrow.Author.Needs.{needs}
 use Rattle.verdict.proofs.line_step.Statement.{statement}
 use Rattle.verdict.proofs.line_step.Tie as tie

@@ -1,8 +1,7 @@
 use Rattle.verdict.proofs.Laws.{name-found, name-next, no-name, from-first}
 use Rattle.verdict.specs.Verdict.{namedFrom}
-use Prim.Native.Nat.{_+_, _-_, _≤_}
-use mathlib.Core.Path.{_≡_, refl, sym, ap, _∙_}
-use native.Mathlib.Omega.{arith}
+use Prim.Native.Nat.{_-_, _≤_}
+use mathlib.Core.Path.{_≡_, sym, _∙_}
 use borrow.Author.Needs.{needs}
 use Rattle.verdict.proofs.name_again.Statement.{statement}
 use Rattle.verdict.proofs.name_again.Tie as tie

@@ -1,6 +1,4 @@
 use Rattle.verdict.proofs.Laws.{same-there, same-not}
-use mathlib.Core.Path.{_≡_, refl, sym, ap, _∙_}
-use native.Mathlib.Omega.{arith}
 use borrow.Author.Needs.{needs}
 use Rattle.verdict.proofs.same_name.Statement.{statement}
 use Rattle.verdict.proofs.same_name.Tie as tie

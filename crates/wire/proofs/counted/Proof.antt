@@ -1,6 +1,6 @@
 use mathlib.Core.Path.{refl}
 use mathlib.Core.Bool.{false}
-use Rattle.format.specs.Wire.{taken, count}
+use Rattle.format.specs.Wire.{count}
 use Rattle.wire.proofs.Laws.{nothing, count-low, count-cut, count-all}
 use native.Mathlib.Omega.{arith}
 use borrow.Author.Needs.{needs}

@@ -1,7 +1,6 @@
 use Rattle.writing.proofs.Laws.{Left, left-all, left-one, left-none, next, none}
 use lib.ListN.{length, drop}
-use mathlib.Core.List.{List}
-use mathlib.Core.Path.{_≡_, refl, ap, _∙_, sym, subst}
+use mathlib.Core.Path.{_≡_, refl, sym, subst}
 use Prim.Native.Nat.{_+_, _-_, _≤_}
 use native.Mathlib.Omega.{arith}
 use borrow.Author.Needs.{needs}

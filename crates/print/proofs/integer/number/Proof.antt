@@ -2,10 +2,10 @@ use Rattle.print.proofs.Numbers.{octet-more, octets-fit, none-yet}
 use Rattle.octets.proofs.Slices.{next, none}
 use Rattle.format.specs.Digits as digits
 use Rattle.format.specs.Digits.{numberFrom}
-use lib.ListN.{length, getD}
+use lib.ListN.{getD}
 use lib.Seq.{slice}
 use mathlib.Core.Path.{_≡_, refl, sym, ap, _∙_}
-use Prim.Native.Nat.{_+_, _-_, _^_, _<_, _≤_}
+use Prim.Native.Nat.{_-_, _^_, _<_, _≤_}
 use native.Mathlib.Omega.{arith}
 use borrow.Author.Needs.{needs}
 use Rattle.print.proofs.integer.number.Statement.{statement}

@@ -1,5 +1,5 @@
-use Prim.Native.Nat.{_+_, _-_, _*_, _≤_}
-use mathlib.Core.Path.{_≡_, ap}
+use Prim.Native.Nat.{_-_, _≤_}
+use mathlib.Core.Path.{ap}
 use lib.Seq.{slice}
 use Rattle.format.specs.Name.{nameEscape}
 use Rattle.format.specs.Lists.{flatMap}

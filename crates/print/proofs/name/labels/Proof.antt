@@ -1,6 +1,5 @@
 use Prim.Native.Nat.{_+_, _-_, _*_, _≤_, _<_}
 use mathlib.Core.Bool.{true}
-use mathlib.Core.Path.{_≡_}
 use lib.ListN.{getD}
 use lib.Seq.{slice}
 use Rattle.writing.proofs.Laws.{Left, left-all, left-piece, left-none, wrote-append}

@@ -3,7 +3,7 @@ use Rattle.print.specs.Plain.{plainText}
 use Rattle.format.specs.Lists.{allOf}
 use lib.Seq.{slice}
 use mathlib.Core.Bool.{_&&_}
-use mathlib.Core.Path.{_≡_, refl, sym, _∙_}
+use mathlib.Core.Path.{_≡_, sym, _∙_}
 use Prim.Native.Nat.{_+_, _-_, _≤_}
 use native.Mathlib.Omega.{arith}
 use borrow.Author.Needs.{needs}

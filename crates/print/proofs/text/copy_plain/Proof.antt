@@ -1,11 +1,9 @@
 use Rattle.print.proofs.Plain.{plain-within}
 use Rattle.writing.proofs.Laws.{wrote-text}
-use Rattle.writing.specs.Writing.{Wrote}
 use Rattle.octets.proofs.Slices.{lent}
-use lib.Seq.{slice, length-slice}
+use lib.Seq.{length-slice}
 use lib.ListN.{length}
-use mathlib.Core.Path.{_≡_, sym, ap, _∙_, subst}
-use Prim.Native.Nat.{_+_, _-_}
+use mathlib.Core.Path.{ap}
 use native.Mathlib.Omega.{arith}
 use borrow.Author.Needs.{needs}
 use Rattle.print.proofs.text.copy_plain.Statement.{statement}

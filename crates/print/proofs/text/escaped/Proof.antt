@@ -5,7 +5,7 @@ use Rattle.format.specs.Text.{stringEscape}
 use Rattle.format.specs.Lists.{flatMap}
 use lib.Seq.{slice}
 use lib.ListN.{getD}
-use mathlib.Core.Path.{_≡_, refl, sym, ap, _∙_}
+use mathlib.Core.Path.{sym, ap}
 use Prim.Native.Nat.{_+_, _-_, _*_, _≤_}
 use native.Mathlib.Omega.{arith}
 use borrow.Author.Needs.{needs}

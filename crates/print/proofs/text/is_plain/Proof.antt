@@ -1,8 +1,6 @@
 use Rattle.print.proofs.Plain.{last-test}
 use borrow.Author.Tests.{lt-leb, le-leb, ne-eqb}
 use lib.Dec.{eqb}
-use native.Mathlib.Omega.{arith}
-use borrow.Author.Needs.{needs}
 use Rattle.print.proofs.text.is_plain.Statement.{statement}
 use Rattle.print.proofs.text.is_plain.Tie as tie
 use Rattle.print.proofs.text.is_plain.Reads as reads

@@ -1,8 +1,7 @@
 use Rattle.print.specs.Plain.{plainText, plainEnd}
 use Rattle.octets.proofs.Slices.{front-on, front-off, front-end}
-use mathlib.Core.Path.{_≡_, refl, sym, _∙_}
+use mathlib.Core.Path.{_≡_, sym, _∙_}
 use Prim.Native.Nat.{_-_, _≤_}
-use native.Mathlib.Omega.{arith}
 use borrow.Author.Needs.{needs}
 use Rattle.print.proofs.text.plain_end.Statement.{statement}
 use Rattle.print.proofs.text.plain_end.Tie as tie

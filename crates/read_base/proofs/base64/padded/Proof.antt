@@ -1,6 +1,5 @@
 use Rattle.read_base.proofs.Base64Rest.{Pads, pads-all, pads-one, pads-other, pads-short, pads-more, pads-none}
 use Rattle.read_group.specs.Group.{leftOut}
-use native.Mathlib.Omega.{arith}
 use borrow.Author.Needs.{needs}
 use Rattle.read_base.proofs.base64.padded.Statement.{statement}
 use Rattle.read_base.proofs.base64.padded.Tie as tie

@@ -1,6 +1,5 @@
 use Rattle.read_group.specs.Group.{base64Numbers}
 use mathlib.Core.Path.{refl}
-use native.Mathlib.Omega.{arith}
 use borrow.Author.Needs.{needs}
 use Rattle.read_base.proofs.base64.text.Statement.{statement}
 use Rattle.read_base.proofs.base64.text.Tie as tie

@@ -1,5 +1,4 @@
 use Rattle.read_base.proofs.Base64Rest.{base64-fault, base64-missing, base64-got}
-use native.Mathlib.Omega.{arith}
 use borrow.Author.Needs.{needs}
 use Rattle.read_base.proofs.rest.base64_rest.Statement.{statement}
 use Rattle.read_base.proofs.rest.base64_rest.Tie as tie
