@@ -31,7 +31,7 @@ use Rattle.format.proofs.Field.{Back, FieldLaws, bare-back, width-accep
 pub decimal-plain : (n : ℕ) → Plainly (decimal n)
 decimal-plain n = chars-plain upperDigit 10 refl (withoutZeros (digits 10 10 n)) (zeros-below 10 (digits 10 10 n) (digits-below 10 10 n (omega arith)))
 
-pub decimal-some : (n : ℕ) → 1 ≤ length (decimal n)
+decimal-some : (n : ℕ) → 1 ≤ length (decimal n)
 decimal-some n = omega (arith, length-map (withoutZeros (digits 10 10 n)) upperDigit, zeros-length (digits 10 10 n) (omega (arith, digits-length 10 10 n)))
 
 pub decimal-10 : (n : ℕ) → length (decimal n) ≤ 10
@@ -89,7 +89,7 @@ pub record Named (t : List ℕ) : Type 0 where
   pub short : length t ≤ 63
   pub no-number : decimalOf t ≡ none
 
-pub named : (t : List ℕ) → isName t ≡ true → Named t
+named : (t : List ℕ) → isName t ≡ true → Named t
 named [] h = let z : _≡_ {A = ℕ} 0 1 = cc in absurd (omega arith)
 named (x ∷ t) h =
     let a = and-left (letter x && allOf nameOctet (x ∷ t)) (leb (suc (length t)) 63) h in

@@ -36,7 +36,7 @@ ok-octets [] h = absurd (h refl)
 ok-octets (x ∷ xs) h = refl
 
 -- the longest line: of 65,535 octets
-pub line-most : (a : Answer) → Short a → length (answerLine a) ≤ 131074
+line-most : (a : Answer) → Short a → length (answerLine a) ≤ 131074
 line-most (done []) h = omega arith
 line-most (done (x ∷ xs)) h = omega (arith, hex-length (x ∷ xs), length-append (hexText (x ∷ xs)) (ascii "\n"))
 line-most (refusal n i) h =

@@ -17,7 +17,7 @@ map-last : (f : ℕ → ℕ) (ds : List ℕ) (d : ℕ) → map f (ds ++ d ∷ []
 map-last f [] d = refl
 map-last f (e ∷ ds) d = ap (λ (t : List ℕ). f e ∷ t) (map-last f ds d)
 
-pub fixed-length : (w v : ℕ) → length (fixedDecimal w v) ≡ w
+fixed-length : (w v : ℕ) → length (fixedDecimal w v) ≡ w
 fixed-length w v = length-map (digits 10 w v) upperDigit ∙ digits-length 10 w v
 
 -- the last of the digits that are to be written may be stored first

@@ -16,7 +16,7 @@ use Rattle.format.specs.Field.{Part, Symbol, Kind}
 use Rattle.format.specs.Grammar.{Qualifier, word, symbol, isName, after, ifQualifier, qualifier}
 use Rattle.format.specs.Types.{symbols, words, hasWord, knownWord, unknownWord, symbolOf, wordOf, sameSymbol, allowed}
 use Rattle.format.proofs.Lists.{or-left, or-right, split-some, map-some, placed-some}
-use Rattle.qualifiers.specs.Qualifiers.{piecesIn, wordsFor, holdsOf, anyIn, nameIn, sameBy, twiceIn}
+use Rattle.qualifiers.specs.Qualifiers.{piecesIn, wordsFor, holdsOf, anyIn, nameIn, twiceIn}
 use Rattle.qualifiers.specs.declared.Test.{Test}
 use Rattle.qualifiers.specs.declared.Test.the-variants.{Malformed, Unknown, NotSymbol, NotWord, IsWord}
 use Rattle.qualifiers.specs.declared.Words.{Words}
@@ -78,20 +78,20 @@ weaker t u k [] h = refl
 weaker t u k (p ∷ ps) h =
     rw (k (qualifier p) (or-left (holdsOf t (qualifier p)) (among t ps) h), weaker t u k ps (or-right (holdsOf t (qualifier p)) (among t ps) h))
 
-pub symbol-formed : (m : ℕ) (o : Option Qualifier) → holdsOf (NotSymbol m) o ≡ false → holdsOf Malformed o ≡ false
+symbol-formed : (m : ℕ) (o : Option Qualifier) → holdsOf (NotSymbol m) o ≡ false → holdsOf Malformed o ≡ false
 symbol-formed m none h = h
 symbol-formed m (some q) h = refl
 
-pub symbol-known : (m : ℕ) (o : Option Qualifier) → holdsOf (NotSymbol m) o ≡ false → holdsOf Unknown o ≡ false
+symbol-known : (m : ℕ) (o : Option Qualifier) → holdsOf (NotSymbol m) o ≡ false → holdsOf Unknown o ≡ false
 symbol-known m none h = refl
 symbol-known m (some (word w)) h = cc
 symbol-known m (some (symbol s)) h = refl
 
-pub word-formed : (t : Words) (o : Option Qualifier) → holdsOf (NotWord t) o ≡ false → holdsOf Malformed o ≡ false
+word-formed : (t : Words) (o : Option Qualifier) → holdsOf (NotWord t) o ≡ false → holdsOf Malformed o ≡ false
 word-formed t none h = h
 word-formed t (some q) h = refl
 
-pub word-known : (t : Words) (o : Option Qualifier) → holdsOf (NotWord t) o ≡ false → holdsOf Unknown o ≡ false
+word-known : (t : Words) (o : Option Qualifier) → holdsOf (NotWord t) o ≡ false → holdsOf Unknown o ≡ false
 word-known t none h = refl
 word-known t (some (word w)) h = rw (taken-known t w (not-false (hasWord (wordsFor t) w) h))
 word-known t (some (symbol s)) h = refl

@@ -2,9 +2,9 @@
 use Prim.Native.Nat.{ℕ, _+_, _-_, _≤_}
 use mathlib.Core.Path.{_≡_, refl, sym, ap, _∙_}
 use mathlib.Core.Bool.{Bool, true, false, cond, true≢false}
-use mathlib.Core.List.{List, [], _++_}
+use mathlib.Core.List.{List}
 use native.Mathlib.Omega.{arith}
-use lib.Dec.{leb, eqb}
+use lib.Dec.{leb}
 use lib.ListN.{length, take, drop, length-append}
 use lib.Seq.{take-at}
 use borrow.Author.Tests.{eq-eqb, ne-eqb}
@@ -39,12 +39,12 @@ result-line out (done t) h = ap (resultLine 0 (length t)) (take-at t (drop (0 + 
 result-line out (refusal n i) h = rw h
 
 module _ (a : Answer) (h : Told a) (out after : List ℕ) (r : Reply) (w : Leaves r after (outcome out 0 (ifRoom (room out 0) a))) where
-  pub answered : resultLine (r .number) (r .place) (resultOf (r .number) (r .place) after) ≡ answerLine (ifRoom (length out) a)
+  answered : resultLine (r .number) (r .place) (resultOf (r .number) (r .place) after) ≡ answerLine (ifRoom (length out) a)
   answered =
       let e : room out 0 ≡ length out = omega arith in
       rw (w .numbers, w .places, w .octets) (result-line out (ifRoom (room out 0) a) (room-told (room out 0) a h)) ∙ ap (λ n. answerLine (ifRoom n a)) e
 
-  pub place-within : r .number ≡ 0 → r .place ≤ length after
+  place-within : r .number ≡ 0 → r .place ≤ length after
   place-within z = by (ifRoom (room out 0) a) (room-told (room out 0) a h) (sym (w .numbers) ∙ z) (w .places) (w .octets)
     where
       by : (b : Answer) → Told b → outcome out 0 b .number ≡ 0 → r .place ≡ outcome out 0 b .place → after ≡ outcome out 0 b .lent → r .place ≤ length after
