@@ -1,12 +1,11 @@
 -- Octets as digits of w bits, for any width: whole groups of them, and a short one.
-use Prim.Native.Nat.{ℕ, zero, suc, _+_, _*_, _-_, _/_, _%_, _^_, _≤_, _<_}
-use mathlib.Core.Path.{_≡_, refl, sym, ap, subst, _∙_}
+use Prim.Native.Nat.{ℕ, zero, suc, _+_, _*_, _-_, _/_, _^_, _≤_, _<_}
+use mathlib.Core.Path.{_≡_, refl, sym, ap, _∙_}
 use mathlib.Core.Bool.{Bool, true, false, cond}
 use mathlib.Core.List.{List, [], _∷_, _++_, append-assoc, append-nil}
 use native.Mathlib.Omega.{arith}
 use native.Mathlib.Numerals.{add-one}
-use native.Mathlib.Nat.{lt-of-lt-of-le, pow-le-pow-right, pow-suc, pow-zero, mul-assoc, mul-suc, one-le-pow, div-eq-of-lt-le}
-use lib.Pow.{pow-add}
+use native.Mathlib.Nat.{lt-of-lt-of-le, pow-le-pow-right, pow-suc, one-le-pow, div-eq-of-lt-le}
 use lib.ListN.{length, getD, take, replicate, length-append, length-replicate}
 use lib.Seq.{slice, take-length}
 use lib.Dec.{eqb}
@@ -14,11 +13,11 @@ use borrow.Author.Tests.{eq-eqb}
 use Rattle.format.specs.Octets.{Below}
 use Rattle.format.specs.Digits.{digits, numberFrom, number}
 use Rattle.format.specs.Base.{bits, filled, toDigits}
-use Rattle.format.proofs.Digits.{digits-below, digits-length, number-digits, digits-number, number-bound}
+use Rattle.format.proofs.Digits.{digits-below, digits-length, number-digits, number-append}
 use Rattle.format.proofs.Base.{bits-below, bits-length, digits-many}
 use Rattle.octets.proofs.Slices.{next}
 use Rattle.put_digits.proofs.Hex.{flat-append}
-use Rattle.put_digits.proofs.Bits.{number-append, bits-after, bits-number, regrouped}
+use Rattle.put_digits.proofs.Bits.{bits-after, regrouped}
 
 -- the next octet of a number that is read from bits
 pub next-octet : (p : List ℕ) (v i j e k : ℕ) → i + j < e → e ≤ length p → getD p (i + j) 0 < 256 → numberFrom 2 v (bits 8 (slice (i + j) e p)) ≡ k

@@ -6,14 +6,15 @@ use native.Mathlib.Omega.{arith}
 use native.Mathlib.Nat.{mul-suc, mul-comm, mul-assoc, div-lt-iff-lt-mul, div-eq-of-lt-le, div-le-self, one-le-pow, sub-zero, add-zero, zero-add}
 use native.Mathlib.Decide.{decLt}
 use borrow.Author.Needs.{needs}
-use lib.ListN.{length, getD, take, drop, replicate, length-append, length-map, take-append-drop}
+use lib.ListN.{length, getD, take, drop, replicate, length-append, length-map}
 use lib.Seq.{slice, sets, take-take, length-slice}
 use Rattle.format.specs.Octets.{Below}
 use Rattle.format.specs.Digits.{digits, number, upperDigit}
 use Rattle.format.specs.Base.{bits, toDigits, base64Char, base64Text}
 use Rattle.format.proofs.Digits.{digits-length}
 use Rattle.format.proofs.Base.{digits-of}
-use Rattle.octets.proofs.Slices.{none, rest}
+use Rattle.octets.proofs.Slices.{none, lent}
+use Rattle.octets.proofs.Blocks.{slice-append}
 use Rattle.writing.specs.Writing.{Wrote}
 use Rattle.writing.proofs.Laws.{sets-cons, wrote-text, wrote-append, wrote-length, wrote-out}
 use Rattle.base.specs.Alphabet.{chars, Grouped}
@@ -22,24 +23,6 @@ use Rattle.base.proofs.Digits.{no-digits, whole-digits, digits-append, 
 pub times : (g d : ℕ) → 0 < d → g * d ≡ g * (d - 1) + g
 times g zero h = absurd (omega arith)
 times g (suc d) h = let e : suc d - 1 ≡ d = omega arith in rw (e, mul-suc g d)
-
--- a part of a list, as a slice; and two parts that are one
-part-slice : (p : List ℕ) (i e : ℕ) → i ≤ e → take (e - i) (drop i p) ≡ slice i e p
-part-slice p zero e h = let q : e - 0 ≡ e = omega arith in rw q
-part-slice p (suc i) zero h = absurd (omega arith)
-part-slice [] (suc i) (suc e) h = let q : suc e - suc i ≡ e - i = omega arith in rw q (none-left (e - i))
-  where
-    none-left : (k : ℕ) → _≡_ {A = List ℕ} (take k []) []
-    none-left zero = refl
-    none-left (suc k) = refl
-part-slice (x ∷ p) (suc i) (suc e) h = let q : suc e - suc i ≡ e - i = omega arith in rw q (part-slice p i e (omega arith))
-
-two-parts : (p : List ℕ) (i j e : ℕ) → i ≤ j → j ≤ e → slice i e p ≡ slice i j p ++ slice j e p
-two-parts p i j e h l =
-    let q : i + (j - i) ≡ j = omega arith in
-    sym (take-append-drop (j - i) (slice i e p))
-    ∙ ap (λ t. t ++ drop (j - i) (slice i e p)) (part-slice (take e p) i j h ∙ ap (drop i) (take-take j e p l))
-    ∙ ap (λ t. slice i j p ++ t) (rest p i (j - i) e ∙ ap (λ k. slice k e p) q)
 
 -- octets stored into zeros stand before zeros
 take-zeros : (g q : ℕ) → g ≤ q → take {A = ℕ} g (replicate q 0) ≡ replicate g 0
@@ -99,7 +82,7 @@ module _ (w g : ℕ) (t p : List ℕ) (grouped : Grouped w g t) where
   two-texts : (k i j e : ℕ) → i ≤ j → j ≤ e → e ≤ length p → w * k ≡ 8 * (j - i)
       → chars t (toDigits w (slice i e p)) ≡ chars t (toDigits w (slice i j p)) ++ chars t (toDigits w (slice j e p))
   two-texts k i j e a b l q =
-      ap (λ xs. chars t (toDigits w xs)) (two-parts p i j e a b)
+      ap (λ xs. chars t (toDigits w xs)) (slice-append p i j e a b l)
       ∙ ap (chars t) (digits-append w (grouped .some-bits) k (slice i j p) (slice j e p) (omega (arith, length-slice i j p (omega arith))))
       ∙ map-append (λ d. getD t d 0) (toDigits w (slice i j p)) (toDigits w (slice j e p))
 
@@ -147,7 +130,7 @@ module _ (w g : ℕ) (t p : List ℕ) (grouped : Grouped w g t) where
   group-wrote i e v k q x a b l eq ev ex ek u =
       let z : 0 + g ≡ g = omega arith in
       let r : length (slice i e p) ≡ e - i = length-slice i e p l in
-      let d : v ≡ number 2 (bits 8 (take g (sets (replicate 5 0) 0 (slice i e p)))) = rw (eq, part-slice p i e a, z) at ev in
+      let d : v ≡ number 2 (bits 8 (take g (sets (replicate 5 0) 0 (slice i e p)))) = rw (eq, lent p i e a, z) at ev in
       wrote-text _ _ (ap (take k) ex ∙ short-group v k (slice i e p) (omega arith) d (ek ∙ ap (λ y. (8 * y + w - 1) / w) (sym r))) u
 
   -- Octets that are at most one group, or of which what follows their first group has no room.

@@ -14,10 +14,11 @@ use Rattle.format.specs.Bitmap.{BlockPlace, atWindow, atCount, atOctet, setBits
 use Rattle.format.proofs.Digits.{digits-length}
 use Rattle.format.proofs.Wire.{at-end}
 use Rattle.format.proofs.Text.{went-on}
+use Rattle.format.proofs.Bitmap.{set-short}
 use Rattle.octets.proofs.Slices.{next, none, rest}
 use Rattle.print.proofs.Numbers.{next-two}
 use Rattle.bitmap.specs.Types.{typesText}
-use Rattle.bitmap.proofs.Texts.{types-length, set-short}
+use Rattle.bitmap.proofs.Texts.{types-length}
 
 -- A part that is whole blocks: the first fits in it, and the rest is whole blocks.
 abbrev pub Whole : List ℕ → Type 0

@@ -6,17 +6,18 @@ use mathlib.Core.List.{List, [], _∷_, _++_, append-assoc, append-nil}
 use native.Mathlib.Omega.{arith}
 use native.Mathlib.Numerals.{add-one}
 use lib.ListN.{length, length-append}
-use lib.Dec.{eqb, ltb}
-use borrow.Author.Tests.{lt-ltb, eqb-true}
+use lib.Dec.{ltb}
+use borrow.Author.Tests.{lt-ltb}
 use Rattle.format.specs.Octets.{ascii, sameOctets}
 use Rattle.format.specs.Digits.{digits}
 use Rattle.format.specs.Number.{decimal}
 use Rattle.format.specs.Rrtype.{typeText}
 use Rattle.format.specs.Bitmap.{setBits}
-use Rattle.format.proofs.Lists.{and-left, and-right}
+use Rattle.format.proofs.Lists.{octets-same}
 use Rattle.format.proofs.Finite.{at-each}
 use Rattle.format.proofs.Digits.{digits-length}
 use Rattle.format.proofs.Number.{decimal-10}
+use Rattle.format.proofs.Bitmap.{set-short}
 use Rattle.writing.specs.Writing.{Wrote}
 use Rattle.writing.proofs.Laws.{Left, left-all, left-piece, left-none}
 use Rattle.print.proofs.Parted.{first-later}
@@ -84,11 +85,6 @@ bit-first : (v b : ℕ) (bs : List ℕ) → setBits v (b ∷ bs) ≡ setBits v (
 bit-first v zero bs = rw (add-one v)
 bit-first v (suc b) bs = rw (add-one v)
 
-pub set-short : (v : ℕ) (bs : List ℕ) → length (setBits v bs) ≤ length bs
-set-short v [] = omega arith
-set-short v (zero ∷ bs) = omega (arith, set-short (suc v) bs)
-set-short v (suc b ∷ bs) = omega (arith, set-short (suc v) bs)
-
 pub octet-length : (b : Bool) (v x : ℕ) → length (typesText b (setBits v (digits 2 8 x))) ≤ 120
 octet-length b v x = omega (arith, types-length b (setBits v (digits 2 8 x)), set-short v (digits 2 8 x), digits-length 2 8 x)
 
@@ -102,15 +98,8 @@ abbrev pub Within : ℕ → ℕ → Type 0
 Within zero y = y ≡ 0
 Within (suc w) y = Within w (y % 128 * 2)
 
-same : (xs ys : List ℕ) → sameOctets xs ys ≡ true → xs ≡ ys
-same [] [] e = refl
-same [] (y ∷ ys) e = cc
-same (x ∷ xs) [] e = cc
-same (x ∷ xs) (y ∷ ys) e =
-    let q : x ≡ y = eqb-true x y (and-left (eqb x y) (sameOctets xs ys) e) in rw (q, same xs ys (and-right (eqb x y) (sameOctets xs ys) e))
-
 octet-bits : (x : ℕ) → x < 256 → digits 2 8 x ≡ highBits 8 x
-octet-bits x h = same (digits 2 8 x) (highBits 8 x) (at-each (λ x. sameOctets (digits 2 8 x) (highBits 8 x)) 256 refl x h)
+octet-bits x h = octets-same (digits 2 8 x) (highBits 8 x) (at-each (λ x. sameOctets (digits 2 8 x) (highBits 8 x)) 256 refl x h)
 
 -- Before type t of an octet whose first is type v, y is what is left of the octet.
 abbrev pub typesLeft : ℕ → ℕ → ℕ → List ℕ

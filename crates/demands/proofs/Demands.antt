@@ -1,7 +1,7 @@
 -- Demands 2 and 3 over what `print` and `read` promise, proved from these promises alone.
-use Prim.Native.Nat.{ℕ, zero, suc, _+_, _-_, _≤_, _<_}
-use mathlib.Core.Path.{_≡_, refl, sym, ap, _∙_, subst}
-use mathlib.Core.Logic.{_↔_, _⊎_, inl, inr}
+use Prim.Native.Nat.{ℕ, _+_, _-_, _≤_, _<_}
+use mathlib.Core.Path.{_≡_, refl, sym, ap, _∙_}
+use mathlib.Core.Logic.{_⊎_, inl, inr}
 use mathlib.Core.Bool.{Bool, true, false, _||_, true≢false}
 use mathlib.Core.List.{List, [], _∷_, _++_, append-nil, append-assoc}
 use native.Mathlib.Omega.{arith}
@@ -12,14 +12,12 @@ use lib.Seq.{take-at, drop-at}
 use lib.Dec.{eqb}
 use borrow.Author.Tests.{eqb-true, le-leb}
 use Rattle.format.specs.Octets.{among}
-use Rattle.format.specs.Field.{Kind, Field, kinds}
+use Rattle.format.specs.Field.{Kind, kinds}
 use Rattle.format.specs.Judge.{Description, described, judged}
 use Rattle.format.specs.Run.{maxRdata, accepts, joined, textOf}
-use Rattle.format.specs.Entries.{done, Outcome, room, stored, isRun, run, printing, print, reading, read}
+use Rattle.format.specs.Entries.{done, room, stored, isRun, run, printing, print, reading, read}
 use Rattle.format.specs.Demands.{Prints, RoundTrip, Divides, wholeList, firstList, secondList, Cuts}
-use Rattle.format.proofs.Demands.{demand-2, demand-3, prints, read-accepted}
-use Rattle.entry.specs.declared.Reply.{Reply}
-use Rattle.entry.specs.Entries.{Leaves}
+use Rattle.format.proofs.Demands.{demand-2, demand-3, prints, read-accepted, kinds-length}
 use Rattle.demands.specs.Demands.{Call, accepted, written, Answers, CutCalls, EmptyCall, Demand3, ReadCall, rdataOf, Demand2, OneText, ReadAccepted}
 use Rattle.entry.proofs.Numbers.{print-told, read-told, zero-done, HasRun, print-run, read-run}
 
@@ -69,9 +67,6 @@ module _ (ks : List Kind) (stanza : List ℕ) (first many : ℕ) (xs : List ℕ)
   answers : Answers ks stanza first many xs c
   answers = by way
     where
-      zero-not : (n m : ℕ) → n ≡ m → (m ≡ 0 → ⊥) → n ≡ 0 → ⊥
-      zero-not n m e h q = h (sym e ∙ q)
-
       by : Way → Answers ks stanza first many xs c
       by (written-text a l n q r) = record {
         exactly = rw (n, a);
@@ -95,10 +90,6 @@ module _ (ks : List Kind) (stanza : List ℕ) (first many : ℕ) (xs : List ℕ)
 -- where a call answers 0, its list accepts
 done-accepts : (ks : List Kind) (stanza : List ℕ) (first many : ℕ) (xs : List ℕ) (c : Call stanza first many xs) → Answers ks stanza first many xs c → c .reply .number ≡ 0 → accepts ks xs ≡ true
 done-accepts ks stanza first many xs c a z = sym (a .exactly) ∙ rw z
-
-kinds-length : (fs : List Field) → length (kinds fs) ≡ length fs
-kinds-length [] = refl
-kinds-length (f ∷ fs) = ap suc (kinds-length fs)
 
 module _ (stanza : List ℕ) (d : Description) (j : judged stanza ≡ described d) (k : ℕ) (h : k ≤ length (d .fields)) (xs : List ℕ) (m : length xs ≤ maxRdata) where
   ks : List Kind

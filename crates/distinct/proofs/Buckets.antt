@@ -1,8 +1,7 @@
 -- Names that are the same have the same number, so that names with numbers of their own are different.
 use Prim.Native.Nat.{ℕ, zero, suc, _+_, _-_, _*_, _%_, _≤_, _<_}
-use Prim.Native.Char.{code}
-use mathlib.Core.Path.{_≡_, refl, sym, ap, subst, _∙_}
-use mathlib.Core.Bool.{Bool, true, false, _&&_}
+use mathlib.Core.Path.{_≡_, refl, sym, ap, _∙_}
+use mathlib.Core.Bool.{Bool, true, false}
 use mathlib.Core.List.{List, [], _∷_}
 use native.Mathlib.Omega.{arith}
 use native.Mathlib.Nat.{mod-lt}
@@ -14,8 +13,8 @@ use Rattle.format.specs.Lists.{anyOf}
 use Rattle.format.specs.Octets.{nameOctet}
 use Rattle.format.specs.Field.{Part}
 use Rattle.format.proofs.Lists.{and-left, and-right}
-use Rattle.octets.specs.Octets.{partIn}
-use Rattle.octets.proofs.Slices.{none, frontEnd}
+use Rattle.octets.specs.Octets.{partIn, frontEnd}
+use Rattle.octets.proofs.Slices.{none}
 use Rattle.qualifiers.specs.Qualifiers.{piecesIn, sameBy, nameIn, twiceIn}
 use Rattle.distinct.specs.Distinct.{folded, bucketOf}
 use Rattle.qualifiers.proofs.Laws.{same-next, notComma, last-piece, next-piece, name-in, twice-on, twice-last}

@@ -2,7 +2,7 @@
 use Prim.Native.Nat.{ℕ, _+_, _≤_, _<_}
 use Prim.Native.Char.{code}
 use mathlib.Core.Path.{_≡_, refl, sym, ap, _∙_}
-use mathlib.Core.Bool.{Bool, true, false, not, _&&_, true≢false}
+use mathlib.Core.Bool.{Bool, true, false, not, true≢false}
 use mathlib.Core.List.{List, [], _∷_}
 use mathlib.Core.Option.{some}
 use native.Mathlib.Omega.{arith}
@@ -15,8 +15,8 @@ use Rattle.format.specs.Octets.{digit, nameOctet}
 use Rattle.format.specs.Field.{Part}
 use Rattle.format.specs.Grammar.{symbol, qualifier}
 use Rattle.format.proofs.Lists.{and-left, and-right}
-use Rattle.octets.specs.Octets.{partIn, firstOr}
-use Rattle.octets.proofs.Slices.{next, none, frontEnd, front-on, front-off, front-within}
+use Rattle.octets.specs.Octets.{firstOr, frontEnd}
+use Rattle.octets.proofs.Slices.{next, none, front-on, front-off, front-within}
 use Rattle.octets.proofs.Blocks.{all-front}
 use Rattle.qualifiers.specs.Qualifiers.{holdsOf}
 use Rattle.distinct.specs.Distinct.{commaAt, NumberAt, SymbolAt}
@@ -46,7 +46,7 @@ octet-there s n b l o = by (ltb n b) refl
     by true e = ltb-true n b e
     by false e = let q : _≡_ {A = ℕ} 256 61 = rw (none s n b (ltb-false n b e)) at o in absurd (omega arith)
 
-pub octet-is : (s : List ℕ) (n b : ℕ) → b ≤ length s → firstOr (slice n b s) ≡ 61 → getD s n 0 ≡ 61
+octet-is : (s : List ℕ) (n b : ℕ) → b ≤ length s → firstOr (slice n b s) ≡ 61 → getD s n 0 ≡ 61
 octet-is s n b l o = rw (next s n b (octet-there s n b l o) l) at o
 
 module _ (s : List ℕ) (i b n z : ℕ) (h : i ≤ b) (l : b ≤ length s) (q : n ≡ frontEnd nameOctet s i b) (g : begins (slice i n s) ≡ true)

@@ -8,11 +8,10 @@ use mathlib.Core.Option.{some}
 use lib.Dec.{eqb}
 use lib.ListN.{length, getD}
 use lib.Seq.{slice}
-use Rattle.format.specs.Lists.{span}
 use Rattle.format.specs.Octets.{lowered, nameOctet}
 use Rattle.format.specs.Number.{decimalOf}
 use Rattle.format.specs.Grammar.{symbol, qualifier}
-use Rattle.octets.specs.Octets.{partIn}
+use Rattle.octets.specs.Octets.{partIn, frontEnd}
 use Rattle.distinct.specs.declared.Piece.{Piece}
 use Rattle.distinct.specs.declared.Piece.the-variants.{Other, Symbol as SymbolPiece}
 
@@ -26,7 +25,7 @@ bucketOf ignoring t = ((length t % 32 + folded ignoring (getD t 0 0)) * 8 + fold
 
 -- the end of what stands from i on, before the next comma or b
 abbrev pub commaAt : List ℕ → ℕ → ℕ → ℕ
-commaAt s i b = i + length (span (λ x. not (eqb x (code ","))) (slice i b s) .front)
+commaAt s i b = frontEnd (λ x. not (eqb x (code ","))) s i b
 
 -- a number from n + 1 to z
 abbrev pub NumberAt : List ℕ → ℕ → ℕ → Piece → Type 0
@@ -37,5 +36,5 @@ NumberAt s n z (SymbolPiece m y v) = (m ≡ n) × (y ≡ z) × (decimalOf (slice
 abbrev pub SymbolAt : List ℕ → ℕ → ℕ → Piece → Type 0
 SymbolAt s i b Other = Unit {0}
 SymbolAt s i b (SymbolPiece n z v) =
-    (z ≡ commaAt s i b) × (n ≡ i + length (span nameOctet (slice i z s) .front))
+    (z ≡ commaAt s i b) × (n ≡ frontEnd nameOctet s i z)
     × (qualifier (partIn s i z) ≡ some (symbol (record { spelling = partIn s i n; value = v })))

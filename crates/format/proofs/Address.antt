@@ -13,7 +13,7 @@ use Rattle.format.specs.Octets.{Below, splitOn}
 use Rattle.format.specs.Field.{a4, aa, aaaa}
 use Rattle.format.specs.Digits.{digits, withoutZeros, lowerDigit, digitValue}
 use Rattle.format.specs.Number.{decimal}
-use Rattle.format.specs.Token.{between, scanned, plain}
+use Rattle.format.specs.Token.{between, scanned}
 use Rattle.format.specs.Address.{smallNumber, readA, groups, groupOctets, groupText, colons, groupOf, readAA, zerosAt, longestZeros, beforeRun, afterRun, aaaaText, groupsOf, sideOf, Doubled, single, double, intoBefore, atDoubleColon, eightGroups, readAAAA}
 use Rattle.format.specs.Run.{shown, got, oneBare, readField}
 use Rattle.format.proofs.Lists.{not-true, bind-some, provided-some, below-parts}
@@ -74,7 +74,7 @@ grouped = record {
 data Paired (k : ℕ) (p : List ℕ) : Type 0 where
   paired : length (groups p) ≡ k → Below 65536 (groups p) → groupOctets (groups p) ≡ p → Paired k p
 
-pair-back : (x y : ℕ) → x < 256 → y < 256 → digits 256 2 (x * 256 + y) ≡ x ∷ y ∷ []
+pub pair-back : (x y : ℕ) → x < 256 → y < 256 → digits 256 2 (x * 256 + y) ≡ x ∷ y ∷ []
 pair-back x y h k = ap (digits 256 2) (omega arith) ∙ digits-number 256 (x ∷ y ∷ []) (h, (k, tt))
 
 pairs-back : (k : ℕ) (p : List ℕ) → length p ≡ 2 * k → Below 256 p → Paired k p
@@ -94,7 +94,7 @@ aa-field p (g ∷ gs) r l b f q =
     bare-back readAA (colons (g ∷ gs)) p r (separated-long 65536 58 groupText groupOf grouped g gs b) (separated-plain 65536 58 groupText groupOf grouped g gs b)
     (rw (separated-read 65536 58 groupText groupOf grouped g gs b, exact 4 (g ∷ gs) l) (ap some f)) q
 
-groups-length : (gs : List ℕ) → length (groupOctets gs) ≡ 2 * length gs
+pub groups-length : (gs : List ℕ) → length (groupOctets gs) ≡ 2 * length gs
 groups-length [] = refl
 groups-length (g ∷ gs) = omega (arith, groups-length gs)
 
@@ -104,7 +104,7 @@ groups-octets n o p h e = let (gs, a, b) = bind-some o (λ gs. some (groupOctets
 colons-bound : (gs : List ℕ) → length (colons gs) ≤ 5 * length gs
 colons-bound gs = pieces-bound 4 58 groupText gs (λ g. group-size g .1)
 
-groups-short : (p : List ℕ) → 2 * length (groups p) ≤ length p
+pub groups-short : (p : List ℕ) → 2 * length (groups p) ≤ length p
 groups-short [] = omega arith
 groups-short (x ∷ []) = omega arith
 groups-short (x ∷ y ∷ p) = omega (arith, groups-short p)
@@ -121,15 +121,15 @@ aa-laws = record {
     by p r q (paired l c f) = aa-field p (groups p) r l c f q
 
 -- AAAA: where the double colon stands
-abbrev beforeAll : List ℕ → Doubled → Doubled
+abbrev pub beforeAll : List ℕ → Doubled → Doubled
 beforeAll [] d = d
 beforeAll (x ∷ xs) d = intoBefore x (beforeAll xs d)
 
-all-single : (t : List ℕ) → beforeAll t single ≡ single
+pub all-single : (t : List ℕ) → beforeAll t single ≡ single
 all-single [] = refl
 all-single (x ∷ t) = rw (all-single t)
 
-all-double : (t s u : List ℕ) → beforeAll t (double s u) ≡ double (t ++ s) u
+pub all-double : (t s u : List ℕ) → beforeAll t (double s u) ≡ double (t ++ s) u
 all-double [] s u = refl
 all-double (x ∷ t) s u = rw (all-double t s u)
 

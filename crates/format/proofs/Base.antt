@@ -11,7 +11,7 @@ use lib.ListN.{length, drop, length-append, length-map, replicate, length-replic
 use lib.Dec.{eqb}
 use borrow.Author.Tests.{lt-ltb, eq-eqb, ne-eqb}
 use Rattle.format.specs.Lists.{_>>=_, eachOf, span}
-use Rattle.format.specs.Octets.{Below, Octets, sameOctets}
+use Rattle.format.specs.Octets.{Below, Octets}
 use Rattle.format.specs.Wire.{count, took, taken}
 use Rattle.format.specs.Field.{b32, b64}
 use Rattle.format.specs.Digits.{digits, numberFrom, upperDigit, digitValue}
@@ -19,7 +19,7 @@ use Rattle.format.specs.Token.{between, scanned}
 use Rattle.format.specs.Text.{withCount, counted}
 use Rattle.format.specs.Base.{bits, filled, wholeOctets, toDigits, fromDigits, base32Text, readBase32, base64Char, base64Value, padding, base64Text, notPadding, readBase64}
 use Rattle.format.specs.Run.{shown, got, oneBare, readField}
-use Rattle.format.proofs.Lists.{bind-some, below-append}
+use Rattle.format.proofs.Lists.{bind-some, below-append, same-octets}
 use Rattle.format.proofs.Finite.{allBelow, at-each}
 use Rattle.format.proofs.Digits.{digits-below, digits-length, number-digits, chars-back}
 use Rattle.format.proofs.Wire.{end-some}
@@ -34,7 +34,7 @@ bit-after w k v b r e h =
     rw (e, q, s, append-assoc (digits 2 k v) (b ∷ []) r)
 
 -- a number and m zeros more
-pub zeros-after : (m k v : ℕ) → digits 2 (k + m) (v * 2 ^ m) ≡ digits 2 k v ++ replicate m 0
+zeros-after : (m k v : ℕ) → digits 2 (k + m) (v * 2 ^ m) ≡ digits 2 k v ++ replicate m 0
 zeros-after zero k v = let e : v * 2 ^ 0 ≡ v = omega arith in rw (add-zero k, e, append-nil (digits 2 k v))
 zeros-after (suc m) k v =
     let e : k + suc m ≡ suc k + m = omega arith in
@@ -119,10 +119,6 @@ span-chars f char b r t h (d ∷ ds) k = rw (at-each (λ d. f (char d)) b t d (k
 span-none : (f : ℕ → Bool) (n c : ℕ) → f c ≡ false → span f (replicate n c) ≡ record { front = []; rest = replicate n c }
 span-none f zero c h = refl
 span-none f (suc n) c h = rw h
-
-same-octets : (xs : List ℕ) → sameOctets xs xs ≡ true
-same-octets [] = refl
-same-octets (x ∷ xs) = rw (eq-eqb x x refl, same-octets xs)
 
 plain-many : (n c : ℕ) → plainly c ≡ true → Plainly (replicate n c)
 plain-many zero c h = tt

@@ -12,7 +12,7 @@ use borrow.Author.Tests.{lt-ltb, le-ltb, le-leb, eq-eqb, eqb-true, ltb-false, le
 use native.Mathlib.Numerals.{unary-clauses}
 use Rattle.format.specs.Lists.{_>>=_, consBoth, eachOf, parted}
 use Rattle.format.specs.Octets.{Below, Octets, ascii, among}
-use Rattle.format.specs.Wire.{window, blockCount, blockOctet, fault, go, Taken, short, bad, took, oneMore, afterMove, taken}
+use Rattle.format.specs.Wire.{window, blockCount, blockOctet, fault, go, short, bad, took, afterMove, taken}
 use Rattle.format.specs.Field.{bitmap}
 use Rattle.format.specs.Digits.{digits, number}
 use Rattle.format.specs.Token.{Token, bare, between, scanned, plain}
@@ -26,6 +26,7 @@ use Rattle.format.proofs.Token.{Parted, at-end-of-text, spaced, Plainly
 use Rattle.format.proofs.Field.{Back, FieldLaws, got-some, Each, parted-bound}
 use Rattle.format.proofs.Rrtype.{type-plain, type-length, type-value}
 use Rattle.format.proofs.Base.{bits-below, bits-length}
+use Rattle.format.proofs.Wire.{one-less}
 
 -- numbers from lo to below hi
 abbrev Within : ℕ → ℕ → List ℕ → Type 0
@@ -46,7 +47,7 @@ set-within lo hi n [] h k = tt
 set-within lo hi n (zero ∷ bs) h k = set-within lo hi (suc n) bs (omega arith) (omega arith)
 set-within lo hi n (suc b ∷ bs) h k = (h, omega arith, set-within lo hi (suc n) bs (omega arith) (omega arith))
 
-set-short : (n : ℕ) (bs : List ℕ) → length (setBits n bs) ≤ length bs
+pub set-short : (n : ℕ) (bs : List ℕ) → length (setBits n bs) ≤ length bs
 set-short n [] = omega arith
 set-short n (zero ∷ bs) = omega (arith, set-short (suc n) bs)
 set-short n (suc b ∷ bs) = omega (arith, set-short (suc n) bs)
@@ -186,7 +187,7 @@ unfolding taken
 window-takes lo w [] q h l t e = e lo (omega arith)
 window-takes lo w (x ∷ xs) q h l t e = rw (le-ltb w lo h, le-leb (suc (length xs)) 32 l, block-takes w x xs q t (e (suc w) (omega arith)))
 
-window-length : (ts : List ℕ) (n k : ℕ) → length (octetsFrom ts n k) ≡ k
+pub window-length : (ts : List ℕ) (n k : ℕ) → length (octetsFrom ts n k) ≡ k
 unfolding octetsFrom
 window-length ts n zero = refl
 window-length ts n (suc k) = ap suc (window-length ts (n + 8) k)
@@ -202,11 +203,6 @@ blocks-taken ts (suc k) w lo h =
 data Block (w n : ℕ) (p : List ℕ) : Type 0 where
   block : (x : ℕ) (xs q : List ℕ) → p ≡ x ∷ xs ++ q → length xs ≡ n → Trimmed (x ∷ xs) → Octets (x ∷ xs) → Octets q → taken (window (suc w)) q ≡ took (length q) → Block w n p
 
-more : (t : Taken) (n : ℕ) → oneMore t ≡ took (suc n) → t ≡ took n
-more short n e = cc
-more bad n e = cc
-more (took m) n e = cc
-
 none-taken : {A : Type 0} (n : ℕ) → bad ≡ took n → A
 none-taken n e = let z : _≡_ {A = ℕ} 0 1 = cc in absurd (omega arith)
 
@@ -214,8 +210,8 @@ in-block : (w n : ℕ) (p : List ℕ) → Octets p → taken (blockOctet w n) p 
 unfolding taken
 in-block w n [] b e = let z : _≡_ {A = ℕ} 0 1 = cc in absurd (omega arith)
 in-block w zero (zero ∷ p) b e = none-taken (suc (length p)) e
-in-block w zero (suc x ∷ p) b e = block (suc x) [] p refl refl tt (b .0, tt) (b .1) (more (taken (window (suc w)) p) (length p) e)
-in-block w (suc n) (x ∷ p) b e = by (in-block w n p (b .1) (more (taken (blockOctet w n) p) (length p) e))
+in-block w zero (suc x ∷ p) b e = block (suc x) [] p refl refl tt (b .0, tt) (b .1) (one-less (taken (window (suc w)) p) (length p) e)
+in-block w (suc n) (x ∷ p) b e = by (in-block w n p (b .1) (one-less (taken (blockOctet w n) p) (length p) e))
   where
     by : Block w n p → Block w (suc n) (x ∷ p)
     by (block y xs q c l t d f g) = block x (y ∷ xs) q (ap (λ r. x ∷ r) c) (ap suc l) t (b .0, d) f g
@@ -234,7 +230,7 @@ at-count w (suc n ∷ p) b e = by (leb (suc n) 32) refl e
     on l (block x xs q c m t d f g) = first (x ∷ xs) q (rw (c, m)) (omega arith) t d f g
 
     by : (t : Bool) → leb (suc n) 32 ≡ t → afterMove (cond t (go (blockOctet w n)) fault) (λ s. taken s p) ≡ took (suc (length p)) → First w (w ∷ suc n ∷ p)
-    by true h e = on (leb-true (suc n) 32 h) (in-block w n p (b .1) (more (taken (blockOctet w n) p) (length p) e))
+    by true h e = on (leb-true (suc n) 32 h) (in-block w n p (b .1) (one-less (taken (blockOctet w n) p) (length p) e))
     by false h e = none-taken (suc (length p)) e
 
 at-window : (w : ℕ) (p : List ℕ) → Octets p → taken (window w) p ≡ took (length p) → First w p
@@ -244,7 +240,7 @@ at-window w (x ∷ p) b e = by (ltb x w) refl (eqb x w) refl e
   where
     by : (t : Bool) → ltb x w ≡ t → (s : Bool) → eqb x w ≡ s → afterMove (cond t fault (go (blockCount x))) (λ s. taken s p) ≡ took (suc (length p)) → First w (x ∷ p)
     by true h s k e = none-taken (suc (length p)) e
-    by false h true k e = subst (λ (v : ℕ). First v (x ∷ p)) (eqb-true x w k) (at-count x p (b .1) (more (taken (blockCount x) p) (length p) e))
+    by false h true k e = subst (λ (v : ℕ). First v (x ∷ p)) (eqb-true x w k) (at-count x p (b .1) (one-less (taken (blockCount x) p) (length p) e))
     by false h false k e = let l = ltb-false x w h in first [] (x ∷ p) refl (omega arith) tt tt b (rw (le-ltb x (suc w) (omega (arith, eqb-false x w k))) e)
 
 windows-of : (k w : ℕ) (p : List ℕ) → w + k ≡ 256 → Octets p → taken (window w) p ≡ took (length p) → Windows w k p
@@ -289,15 +285,15 @@ module _ (text : ℕ → List ℕ) (value : Token → Option ℕ) (c : ℕ) (w :
     types-of-bitmap : Within 0 65536 (types p)
     types-of-bitmap = types-within 0 65536 0 256 p of-bitmap (omega arith) (omega arith)
 
-    pub bitmap-back : readBitmap value (scanned between (bitmapText text p)) ≡ some p
+    bitmap-back : readBitmap value (scanned between (bitmapText text p)) ≡ some p
     bitmap-back = rw (list-scanned (types p) types-of-bitmap, blocks-back (types p) 0 256 p of-bitmap (λ i l m. refl))
 
-    pub bitmap-bound : length (bitmapText text p) ≤ suc c * 65536
+    bitmap-bound : length (bitmapText text p) ≤ suc c * 65536
     bitmap-bound =
         let n : length (map text (types p)) ≤ 65536 = omega (arith, length-map (types p) text, types-short 0 256 p of-bitmap) in
         le-trans (parted-bound c 32 (map text (types p)) (each-short (types p) types-of-bitmap)) (mul-le-mul-left (suc c) n)
 
-pub bitmap-accepted : (value : Token → Option ℕ) (ts : List Token) (p : List ℕ) → readBitmap value ts ≡ some p → taken (window 0) p ≡ took (length p)
+bitmap-accepted : (value : Token → Option ℕ) (ts : List Token) (p : List ℕ) → readBitmap value ts ≡ some p → taken (window 0) p ≡ took (length p)
 bitmap-accepted value ts p e =
     let (l, a, b) = bind-some (eachOf value ts) (λ l. some (blocks l)) p e in
     let q : blocks l ≡ p = cc in

@@ -40,7 +40,7 @@ tails-take (suc n) (k ∷ []) h = rw (take-nil n)
 tails-take (suc zero) (k ∷ l ∷ ks) h = refl
 tails-take (suc (suc n)) (k ∷ l ∷ ks) h = let (f, g) = no-tail k l ks h in rw f (tails-take (suc n) (l ∷ ks) g)
 
-kinds-length : (fs : List Field) → length (kinds fs) ≡ length fs
+pub kinds-length : (fs : List Field) → length (kinds fs) ≡ length fs
 kinds-length [] = refl
 kinds-length (f ∷ fs) = ap suc (kinds-length fs)
 

@@ -76,7 +76,7 @@ gives-some none d h = cc
 gives-some (some x) d h = ap some (eqb-true x d h)
 
 module _ (char : ℕ → ℕ) (value : ℕ → Option ℕ) (b : ℕ) (t : allBelow (λ d. gives-back (value (char d)) d) b ≡ true) where
-  pub char-back : (d : ℕ) → d < b → value (char d) ≡ some d
+  char-back : (d : ℕ) → d < b → value (char d) ≡ some d
   char-back d h = gives-some (value (char d)) d (at-each (λ d. gives-back (value (char d)) d) b t d h)
 
   pub chars-back : (ds : List ℕ) → Below b ds → eachOf value (map char ds) ≡ some ds
@@ -104,3 +104,8 @@ number-from-bound b a (d ∷ ds) h =
 
 pub number-bound : (b : ℕ) (ds : List ℕ) → Below b ds → number b ds < b ^ length ds
 number-bound b ds h = omega (arith, number-from-bound b 0 ds h)
+
+-- the number of digits one after another
+pub number-append : (b a : ℕ) (ds es : List ℕ) → numberFrom b a (ds ++ es) ≡ numberFrom b (numberFrom b a ds) es
+number-append b a [] es = refl
+number-append b a (d ∷ ds) es = number-append b (a * b + d) ds es

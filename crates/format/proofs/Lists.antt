@@ -1,13 +1,17 @@
 -- Laws of tests, options and lists.
-use Prim.Native.Nat.{ℕ, zero, suc}
+use Prim.Native.Nat.{ℕ, zero, suc, _+_, _≤_, _<_}
 use mathlib.Core.Path.{_≡_, refl, sym}
 use mathlib.Core.Bool.{Bool, true, false, not, _&&_, _||_}
 use mathlib.Core.List.{List, [], _∷_, _++_, map}
 use mathlib.Core.Option.{Option, none, some}
 use native.Mathlib.Omega.{arith}
-use lib.ListN.{take, drop}
+use native.Mathlib.Numerals.{add-one}
+use lib.ListN.{take, drop, length, getD, drop-of-length-le}
+use lib.Seq.{drop-cons}
+use lib.Dec.{eqb}
+use borrow.Author.Tests.{eq-eqb, eqb-true}
 use Rattle.format.specs.Lists.{_>>=_, provided, consBoth, eachOf, null, anyOf, allOf, twice, consFirst, parting, split}
-use Rattle.format.specs.Octets.{Below}
+use Rattle.format.specs.Octets.{Below, sameOctets}
 use Rattle.format.specs.Lines.{placed}
 
 pub and-left : (a b : Bool) → a && b ≡ true → a ≡ true
@@ -80,7 +84,7 @@ pub all-snoc : {A : Type 0} (f : A → Bool) (xs : List A) (y : A) → allOf f x
 all-snoc f [] y h k = rw k
 all-snoc f (x ∷ xs) y h k = rw (and-left (f x) (allOf f xs) h, all-snoc f xs y (and-right (f x) (allOf f xs) h) k)
 
-pub any-snoc : {A : Type 0} (f : A → Bool) (xs : List A) (y : A) → anyOf f xs ≡ false → f y ≡ false → anyOf f (xs ++ y ∷ []) ≡ false
+any-snoc : {A : Type 0} (f : A → Bool) (xs : List A) (y : A) → anyOf f xs ≡ false → f y ≡ false → anyOf f (xs ++ y ∷ []) ≡ false
 any-snoc f [] y h k = rw k
 any-snoc f (x ∷ xs) y h k = rw (or-left (f x) (anyOf f xs) h, any-snoc f xs y (or-right (f x) (anyOf f xs) h) k)
 
@@ -120,3 +124,21 @@ all-drop f (suc n) (x ∷ xs) h = all-drop f n xs (and-right (f x) (allOf f xs) 
 pub below-parts : (b : ℕ) (s q : List ℕ) → Below b (s ++ q) → Below b s × Below b q
 below-parts b [] q h = (tt, h)
 below-parts b (x ∷ s) q h = let (f, g) = below-parts b s q (h .1) in ((h .0, f), g)
+
+-- the next element of a list that is gone through by an index, and none
+pub drop-next : (s : List ℕ) (i : ℕ) → i < length s → drop i s ≡ getD s i 0 ∷ drop (i + 1) s
+drop-next s i h = rw (add-one, drop-cons s i 0)
+
+pub drop-none : (s : List ℕ) (i : ℕ) → length s ≤ i → drop i s ≡ []
+drop-none s i h = drop-of-length-le s h
+
+-- texts that are the same
+pub same-octets : (xs : List ℕ) → sameOctets xs xs ≡ true
+same-octets [] = refl
+same-octets (x ∷ xs) = rw (eq-eqb x x refl, same-octets xs)
+
+pub octets-same : (xs ys : List ℕ) → sameOctets xs ys ≡ true → xs ≡ ys
+octets-same [] [] e = refl
+octets-same [] (y ∷ ys) e = cc
+octets-same (x ∷ xs) [] e = cc
+octets-same (x ∷ xs) (y ∷ ys) e = let q : x ≡ y = eqb-true x y (and-left (eqb x y) (sameOctets xs ys) e) in rw (q, octets-same xs ys (and-right (eqb x y) (sameOctets xs ys) e))

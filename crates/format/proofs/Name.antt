@@ -45,7 +45,7 @@ unfolding taken
 zero-last b t [] e = refl
 zero-last b t (x ∷ p) e = cc
 
-name-some : (t : ℕ) (p : List ℕ) → taken (labelLength false t) p ≡ took (length p) → 1 ≤ length p
+pub name-some : (t : ℕ) (p : List ℕ) → taken (labelLength false t) p ≡ took (length p) → 1 ≤ length p
 name-some t [] e = let z : _≡_ {A = ℕ} 0 1 = cc (at-end (labelLength false t) 0 e .0) in absurd (omega arith)
 name-some t (x ∷ p) e = omega arith
 

@@ -8,7 +8,7 @@ use native.Mathlib.Omega.{arith}
 use lib.ListN.{length, drop, length-append, length-drop}
 use Rattle.format.specs.Lists.{_>>=_, consBoth, eachOf, null, flat, flatMap, parted}
 use Rattle.format.specs.Octets.{Octets, ascii, inRange, among}
-use Rattle.format.specs.Wire.{Stage, count, toTheEnd, stringCount, stringOctet, fault, go, step, mayEnd, Taken, short, bad, took, oneMore, taken}
+use Rattle.format.specs.Wire.{Stage, count, toTheEnd, stringCount, stringOctet, fault, go, step, mayEnd, took, taken}
 use Rattle.format.specs.Field.{str, strs, raw}
 use Rattle.format.specs.Number.{fixedDecimal}
 use Rattle.format.specs.Token.{Token, quoted, between, scanned, escaped}
@@ -16,7 +16,7 @@ use Rattle.format.specs.Text.{pieces, withCount, counted, stringEscape, 
 use Rattle.format.specs.Grammar.{after}
 use Rattle.format.specs.Run.{shown, got, oneToken, readField}
 use Rattle.format.proofs.Lists.{bind-some, provided-some, below-parts}
-use Rattle.format.proofs.Wire.{at-end, takes-end, end-some}
+use Rattle.format.proofs.Wire.{at-end, takes-end, end-some, one-less}
 use Rattle.format.proofs.Token.{Parted, at-end-of-text, spaced, quote-scanned, strings-kept, string-read, none-scanned, space-scanned}
 use Rattle.format.proofs.Field.{Back, FieldLaws, got-some, token-accepted, not-empty, counted-accepted, Counted, is-counted, counted-octets, counted-some}
 
@@ -87,11 +87,6 @@ raw-laws = record {
     back : (p r : List ℕ) → 1 ≤ length p → Octets p → Parted r → oneToken readRaw (scanned between (stringText p ++ r)) ≡ got p (scanned between r)
     back [] r n b q = absurd (omega arith)
     back (x ∷ p) r n b q = string-back notEmpty (x ∷ p) (x ∷ p) r b refl q
-
-one-less : (r : Taken) (n : ℕ) → oneMore r ≡ took (suc n) → r ≡ took n
-one-less short n e = cc
-one-less bad n e = cc
-one-less (took m) n e = cc
 
 -- where an octet goes on if a test holds
 pub went-on : (s u : Stage) (c : Bool) (x : ℕ) (xs : List ℕ) (n : ℕ) → step s x ≡ cond c (go u) fault → taken s (x ∷ xs) ≡ took (suc n) → (c ≡ true) × (taken u xs ≡ took n)

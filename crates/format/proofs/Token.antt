@@ -50,7 +50,7 @@ module _ (x : ℕ) (h : plainly x ≡ true) where
   pub in-bare : scanStep (inBare false) x ≡ keep (inBare false)
   in-bare = rw (not-blank, bare-octet)
 
-  from-between : scanStep between x ≡ keep (inBare false)
+  pub from-between : scanStep between x ≡ keep (inBare false)
   from-between = rw (not-blank, bare-octet, not-quote)
 
 rest-scanned : (t r : List ℕ) → Plainly t → Parted r → scanned (inBare false) (t ++ r) ≡ bare t ∷ scanned between r
@@ -92,7 +92,7 @@ kept-append s t (x ∷ xs) ys e = by (scanStep s x) refl e (λ u. kept-append u 
     by endQuoted p f ih = cc
     by breaks p f ih = cc
 
-pub kept-scanned : (s t : Scan) (xs r : List ℕ) → kept s xs ≡ some t → scanned s (xs ++ r) ≡ ontoAll xs (scanned t r)
+kept-scanned : (s t : Scan) (xs r : List ℕ) → kept s xs ≡ some t → scanned s (xs ++ r) ≡ ontoAll xs (scanned t r)
 unfolding scanned
 kept-scanned s t [] r e = let h : s ≡ t = cc in rw h
 kept-scanned s t (x ∷ xs) r e = by (scanStep s x) refl e (λ u. kept-scanned u t xs r)
@@ -164,7 +164,7 @@ is-bare (some (inBare false)) h = refl
 is-bare (some (inQuotes c e)) h = cc
 is-bare (some closed) h = cc
 
-pub string-kept : (x : ℕ) → x < 256 → kept (inQuotes 34 false) (stringEscape x) ≡ some (inQuotes 34 false)
+string-kept : (x : ℕ) → x < 256 → kept (inQuotes 34 false) (stringEscape x) ≡ some (inQuotes 34 false)
 string-kept x h = is-quote _ (at-each (λ x. sameScan true (kept (inQuotes 34 false) (stringEscape x))) 256 refl x h)
 
 pub name-kept : (x : ℕ) → x < 256 → kept (inBare false) (nameEscape x) ≡ some (inBare false)
@@ -240,7 +240,7 @@ string-item x h = by (given outside (stringEscape x)) refl (at-each (λ x. strin
     by none e f = let z : _≡_ {A = ℕ} 0 1 = cc in absurd (omega arith)
     by (some i) e f = (i, e, eqb-true (octetOf i) x f)
 
-none-left : unescapedFrom outside [] ≡ some []
+pub none-left : unescapedFrom outside [] ≡ some []
 unfolding unescapedFrom
 none-left = refl
 

@@ -146,7 +146,7 @@ need-takes (suc n) (x ∷ xs) m e = by (came (anyOctet (suc n)) x xs m e) (λ l.
 pub octets-taken : (w : ℕ) (p : List ℕ) → 1 ≤ w → taken (anyOctets w) p ≡ took (length p) → length p ≡ w
 octets-taken w p h e = omega (arith, need-takes (w - 1) p (length p) e)
 
-pub takes-octets : (n : ℕ) (p : List ℕ) → length p ≡ suc n → taken (anyOctet n) p ≡ took (suc n)
+takes-octets : (n : ℕ) (p : List ℕ) → length p ≡ suc n → taken (anyOctet n) p ≡ took (suc n)
 unfolding taken
 takes-octets n [] e = absurd (omega arith)
 takes-octets zero (x ∷ []) e = refl
@@ -172,3 +172,8 @@ takes-end b (x ∷ p) h = rw (takes-end true p (λ e. absurd (true≢false e)))
 pub end-some : (p : List ℕ) → taken (toTheEnd false) p ≡ took (length p) → 1 ≤ length p
 end-some [] e = let z : _≡_ {A = ℕ} 0 1 = cc (at-end (toTheEnd false) 0 e .0) in absurd (omega arith)
 end-some (x ∷ p) e = omega arith
+
+pub one-less : (r : Taken) (n : ℕ) → oneMore r ≡ took (suc n) → r ≡ took n
+one-less short n e = cc
+one-less bad n e = cc
+one-less (took m) n e = cc

@@ -1,13 +1,13 @@
 -- Laws of the parts of a line: each definition of the grammar at a part of a stanza, by what the code tests there.
-use Prim.Native.Nat.{ℕ, suc, _+_, _-_, _≤_, _<_}
+use Prim.Native.Nat.{ℕ, _+_, _-_, _≤_, _<_}
 use mathlib.Core.Path.{_≡_, refl, sym, ap, _∙_}
 use mathlib.Core.Bool.{Bool, true, false, not, _&&_}
 use mathlib.Core.List.{List, [], _∷_, _++_}
 use mathlib.Core.Option.{Option, none, some}
 use native.Mathlib.Omega.{arith}
 use native.Mathlib.Decide.{decLe}
-use lib.ListN.{length, take, drop, getD, length-append, length-take}
-use lib.Seq.{slice, slice-empty, length-slice, take-take, take-add, drop-at}
+use lib.ListN.{length, getD, length-append}
+use lib.Seq.{slice, slice-empty, length-slice}
 use lib.Dec.{leb}
 use borrow.Author.Tests.{le-leb, lt-leb, eq-eqb, ne-eqb}
 use Rattle.format.specs.Lists.{_>>=_, provided, eachOf, null, allOf, Spanned, spanning, span}
@@ -16,9 +16,9 @@ use Rattle.format.specs.Number.{decimalOf}
 use Rattle.format.specs.Grammar.{partAt, Header, headerLine, Numbered, ifDecimal, startsWithLetter, isName, nameAt, after, afterOptions, freeTextAt, notBracket, Qualifier, qualifier, Qualified, qualifiersAt, fieldNameAt, FieldLine, fieldLine}
 use Rattle.format.specs.Field.{Part}
 use Rattle.format.specs.Lines.{placed}
-use Rattle.octets.specs.Octets.{partIn, firstOr, numberOf}
-use Rattle.octets.specs.declared.Number.the-variants.{Value, Fault}
+use Rattle.octets.specs.Octets.{partIn, firstOr, frontEnd}
 use Rattle.qualifiers.specs.Qualifiers.{piecesIn, qualifiersIn}
+use Rattle.qualifiers.proofs.Laws.{all-front, front}
 use Rattle.grammar.specs.Grammar.{headerIn, shapeIn}
 use Rattle.grammar.specs.Parts.{Within, cutIn, restIn, textIn, numberAfter, textAfter, numberIn, bracketsIn, namedIn, NamedWithin, afterType}
 use Rattle.grammar.specs.declared.HeaderLine.the-variants.{IsHeader}
@@ -31,7 +31,7 @@ use Rattle.grammar.specs.declared.Brackets.{Brackets}
 use Rattle.grammar.specs.declared.Brackets.the-variants.{Unclosed, Between}
 use Rattle.grammar.specs.declared.Named.{Named}
 use Rattle.grammar.specs.declared.Named.the-variants.{Broken, From}
-use Rattle.octets.proofs.Slices.{next, none as nothing, frontEnd, front-rest, front-within, span-front}
+use Rattle.octets.proofs.Slices.{next, none as nothing, front-rest, front-within}
 
 -- the first octet of a part
 pub first-in : (s : List ℕ) (i e c : ℕ) → c < 256 → firstOr (slice i e s) ≡ c → i < e
@@ -41,18 +41,18 @@ first-in s i e c b h = by (decLe e i)
     by (yes y) = let z : 256 ≡ c = rw (nothing s i e y) at h in absurd (omega arith)
     by (no n) = omega arith
 
-pub first-cons : (s : List ℕ) (i e c : ℕ) → e ≤ length s → c < 256 → firstOr (slice i e s) ≡ c → slice i e s ≡ c ∷ slice (i + 1) e s
+first-cons : (s : List ℕ) (i e c : ℕ) → e ≤ length s → c < 256 → firstOr (slice i e s) ≡ c → slice i e s ≡ c ∷ slice (i + 1) e s
 first-cons s i e c l b h =
     let n : slice i e s ≡ getD s i 0 ∷ slice (i + 1) e s = next s i e (first-in s i e c b h) l in
     n ∙ ap (λ x. x ∷ slice (i + 1) e s) (sym (ap firstOr n) ∙ h)
 
 -- where a part begins
-pub place : (s : List ℕ) (i e : ℕ) → i ≤ e → e ≤ length s → e - length (slice i e s) ≡ i
+place : (s : List ℕ) (i e : ℕ) → i ≤ e → e ≤ length s → e - length (slice i e s) ≡ i
 place s i e h l = omega (arith, length-slice i e s l)
 
 -- the front that passes
 module _ (f : ℕ → Bool) where
-  pub span-starts : ((x : ℕ) → letter x ≡ true → f x ≡ true) → (t : List ℕ) → startsWithLetter (span f t .front) ≡ startsWithLetter t
+  span-starts : ((x : ℕ) → letter x ≡ true → f x ≡ true) → (t : List ℕ) → startsWithLetter (span f t .front) ≡ startsWithLetter t
   span-starts h [] = refl
   span-starts h (x ∷ t) = by (letter x) refl (f x) refl
     where
@@ -61,21 +61,8 @@ module _ (f : ℕ → Bool) where
       by true p false q = sym q ∙ h x p ∙ sym p
       by false p false q = sym p
 
-  pub span-all : (t : List ℕ) → allOf f (span f t .front) ≡ true
-  span-all [] = refl
-  span-all (x ∷ t) = by (f x) refl (span-all t)
-    where
-      by : (b : Bool) → f x ≡ b → allOf f (span f t .front) ≡ true → allOf f (spanning b x t (span f t) .front) ≡ true
-      by true q ih = rw (q, ih)
-      by false q ih = refl
-
-  pub front-part : (s : List ℕ) (i e : ℕ) → i ≤ e → e ≤ length s → slice i (frontEnd f s i e) s ≡ span f (slice i e s) .front
-  front-part s i e h l =
-      let n : ℕ = length (span f (slice i e s) .front) in
-      let w : i + n ≤ e = front-within f s i e h l in
-      let k : length (take i (take e s)) ≡ i = omega (arith, length-take i (take e s), length-take e s) in
-      let p : take (i + n) s ≡ take i (take e s) ++ take n (slice i e s) = sym (take-take (i + n) e s w) ∙ take-add i n (take e s) in
-      ap (drop i) p ∙ drop-at (take i (take e s)) (take n (slice i e s)) i k ∙ span-front f (slice i e s)
+  front-part : (s : List ℕ) (i e : ℕ) → i ≤ e → e ≤ length s → slice i (frontEnd f s i e) s ≡ span f (slice i e s) .front
+  front-part s i e h l = sym (front f s i e h l)
 
 pub cut-within : (f : ℕ → Bool) (s : List ℕ) (i e z : ℕ) → i ≤ e → e ≤ length s → z ≡ frontEnd f s i e → (i ≤ z) × (z ≤ e)
 cut-within f s i e z h l q = (omega arith, omega (arith, front-within f s i e h l))
@@ -104,7 +91,7 @@ pub named : (s : List ℕ) (i e z : ℕ) → i ≤ e → e ≤ length s → star
 named s i e z h l a q k =
     let n : length (span nameOctet (slice i e s) .front) ≤ 63 = omega arith in
     let p : isName (span nameOctet (slice i e s) .front) ≡ true
-    = named-by _ _ _ (name-starts (slice i e s) ∙ a) (span-all nameOctet (slice i e s)) (le-leb _ _ n) in
+    = named-by _ _ _ (name-starts (slice i e s) ∙ a) (all-front nameOctet (slice i e s)) (le-leb _ _ n) in
     ap some (cut-as nameOctet s i e z h l q) ∙ sym (ap (λ b. provided b (span nameOctet (slice i e s))) p)
 
 pub unlettered : (s : List ℕ) (i e : ℕ) → startsWithLetter (slice i e s) ≡ false → none ≡ nameAt (slice i e s)
@@ -134,14 +121,6 @@ pub text-none : (s : List ℕ) (i e : ℕ) → e ≤ i → some (partIn s e e) �
 text-none s i e h = let z : e - 0 ≡ e = omega arith in rw (nothing s i e h, slice-empty e s, z)
 
 -- a number after `:`
-pub number-some : (o : Option ℕ) (v : ℕ) → Value v ≡ numberOf o → o ≡ some v
-number-some none v h = cc
-number-some (some w) v h = cc
-
-pub number-none : (o : Option ℕ) → Fault ≡ numberOf o → o ≡ none
-number-none none h = refl
-number-none (some w) h = cc
-
 pub no-number : (t : List ℕ) → (firstOr t ≡ 58 → ⊥) → none ≡ numberAfter t
 no-number [] h = refl
 no-number (x ∷ t) h = rw (ne-eqb x 58 h)

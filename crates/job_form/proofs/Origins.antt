@@ -8,7 +8,7 @@ use native.Mathlib.Omega.{arith}
 use lib.Dec.{leb, eqb}
 use lib.ListN.{length, take, drop, length-append}
 use lib.Seq.{slice, length-slice, take-length}
-use borrow.Author.Tests.{eqb-true, eqb-false, eq-eqb}
+use borrow.Author.Tests.{eqb-true, eqb-false}
 use Rattle.format.specs.Lists.{_>>=_, provided, null, split}
 use Rattle.format.specs.Octets.{inRange, sameOctets}
 use Rattle.format.specs.Wire.{taken}
@@ -16,7 +16,7 @@ use Rattle.format.specs.Token.{tokens, Item, octetOf, unescapedFrom, unescaped}
 use Rattle.format.specs.Text.{withCount}
 use Rattle.format.specs.Name.{isDot, labelBefore, wireName, nameOf, readName, isWireName}
 use Rattle.format.specs.Job.{originToken, originOf}
-use Rattle.format.proofs.Lists.{and-left, and-right}
+use Rattle.format.proofs.Lists.{same-octets, octets-same}
 use Rattle.writing.specs.Writing.{Values}
 use Rattle.writing.specs.declared.Value.{Value}
 use Rattle.writing.specs.declared.Value.the-variants.{Fault, Upto}
@@ -82,12 +82,6 @@ data Spells (t : List ℕ) : Type 0 where
   absolute : ((o : List ℕ) → readName o t ≡ nameOf none t) → Spells t
   relative : nameOf none t ≡ none → ((o q w v : List ℕ) → readName o t ≡ some w → readName q t ≡ some v → length w + length q ≡ length v + length o) → Spells t
 
-same : (xs ys : List ℕ) → sameOctets xs ys ≡ true → xs ≡ ys
-same [] [] e = refl
-same [] (y ∷ ys) e = cc
-same (x ∷ xs) [] e = cc
-same (x ∷ xs) (y ∷ ys) e = let q : x ≡ y = eqb-true x y (and-left (eqb x y) (sameOctets xs ys) e) in rw (q, same xs ys (and-right (eqb x y) (sameOctets xs ys) e))
-
 at-relative : nameOf none (64 ∷ []) ≡ none
 unfolding wireName unescapedFrom
 at-relative = refl
@@ -113,7 +107,7 @@ spells : (t : List ℕ) → Spells t
 spells t = by (sameOctets t (64 ∷ [])) refl (sameOctets t (46 ∷ [])) refl (unescaped t) refl
   where
     by : (a : Bool) → sameOctets t (64 ∷ []) ≡ a → (b : Bool) → sameOctets t (46 ∷ []) ≡ b → (x : Option (List Item)) → unescaped t ≡ x → Spells t
-    by true p b q x r = relative (ap (nameOf none) (same t (64 ∷ []) p) ∙ at-relative) (λ o z w v e f. at-longer o z w v (rw p at e) (rw p at f))
+    by true p b q x r = relative (ap (nameOf none) (octets-same t (64 ∷ []) p) ∙ at-relative) (λ o z w v e f. at-longer o z w v (rw p at e) (rw p at f))
     by false p true q x r = absolute (λ o. rw (p, q))
     by false p false q none r = absolute (λ o. rw (p, q, r))
     by false p false q (some is) r = ends (ends-dotted (pieces-of is)) refl
@@ -151,15 +145,11 @@ pub absolute-value : (t o₁ o₂ p₁ p₂ : List ℕ) (x y r : Value) → Valu
 absolute-value t o₁ o₂ p₁ p₂ x y r a b e = rw e (ends-alike t (1 ∷ 97 ∷ 0 ∷ []) (0 ∷ []) (λ z. omega arith) o₁ o₂ p₁ p₂ x y (rw (take-length t) at a) (rw (take-length t) at b))
 
 -- the line is one bare token
-same-self : (xs : List ℕ) → sameOctets xs xs ≡ true
-same-self [] = refl
-same-self (x ∷ xs) = rw (eq-eqb x x refl) (same-self xs)
-
 part-differs : (t : List ℕ) (a e : ℕ) → e ≤ length t → e - a < length t → sameOctets (slice a e t) t ≡ false
 part-differs t a e l h = by (sameOctets (slice a e t) t) refl
   where
     by : (b : Bool) → sameOctets (slice a e t) t ≡ b → b ≡ false
-    by true q = absurd (omega (arith, length-slice a e t l, ap length (same (slice a e t) t q)))
+    by true q = absurd (omega (arith, length-slice a e t l, ap length (octets-same (slice a e t) t q)))
     by false q = refl
 
 whole-part : (t : List ℕ) (a e : ℕ) → a < e → e ≤ length t → length t ≤ e - a → slice a e t ≡ t
@@ -186,7 +176,7 @@ module _ (t : List ℕ) (r : Next) (k : tokensBy t r ≡ tokens t) where
     part-token h = rw (bare-name, part-differs t a e (bare-within .1) h)
 
     pub whole-token : length t ≤ e - a → (o₁ o₂ : List ℕ) (v : Value) → Values o₁ o₂ 0 v (nameOf none t) → Values o₁ o₂ 0 v (originToken t (tokens t))
-    whole-token h o₁ o₂ v x = rw (bare-name, whole-part t a e (bare-within .0) (bare-within .1) h, same-self t) x
+    whole-token h o₁ o₂ v x = rw (bare-name, whole-part t a e (bare-within .0) (bare-within .1) h, same-octets t) x
 
 -- one line
 pub not-one : (ls : List (List ℕ)) (n : ℕ) → n ≤ length ls → (n ≡ 1 → ⊥) → originOf (take n ls) ≡ none

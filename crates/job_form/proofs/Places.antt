@@ -1,16 +1,15 @@
 -- Laws of the lines of a job that is gone through by a place.
 use Prim.Native.Nat.{ℕ, zero, suc, _+_, _-_, _≤_, _<_}
 use mathlib.Core.Path.{_≡_, refl, sym, ap, ap₂, _∙_}
-use mathlib.Core.Bool.{Bool, true, false}
 use mathlib.Core.List.{List, [], _∷_, _++_, map}
-use mathlib.Core.Option.{Option, none, some}
+use mathlib.Core.Option.{none}
 use native.Mathlib.Omega.{arith}
 use native.Mathlib.Decide.{decLe}
 use lib.ListN.{length, take, drop, getD}
 use lib.Seq.{slice}
 use lib.Dec.{leb}
 use borrow.Author.Tests.{le-leb, lt-leb, eqb-true, not-false}
-use Rattle.format.specs.Lists.{spanning, span, _>>=_, provided}
+use Rattle.format.specs.Lists.{_>>=_, provided}
 use Rattle.format.specs.Number.{decimalOf}
 use Rattle.format.specs.Field.{Part}
 use Rattle.format.specs.Lines.{placed}
@@ -19,8 +18,10 @@ use Rattle.octets.specs.Octets.{inClass, numberOf, lineEnd}
 use Rattle.octets.specs.declared.Class.the-variants.{NotNewline}
 use Rattle.octets.specs.declared.Number.{Number}
 use Rattle.octets.specs.declared.Number.the-variants.{Value, Fault}
-use Rattle.octets.proofs.Slices.{next, none as no-octet, front-within, front-rest}
+use Rattle.octets.proofs.Slices.{next, none as no-octet, front-within, front-rest, stopped}
 use Rattle.octets.proofs.Lines.{next-line, no-line}
+use Rattle.octets.proofs.Numbers.{number-none, number-some}
+use Rattle.octets.proofs.Blocks.{slice-append}
 use Rattle.job_form.specs.declared.lines.Skipped.{Skipped}
 use Rattle.job_form.specs.declared.lines.Skipped.the-variants.{Short, To}
 use Rattle.job_form.specs.declared.lines.Section.the-variants.{Lines}
@@ -50,15 +51,6 @@ some-lines j at h = by (decLe (length j) at)
 pub line-some : (j : List ℕ) (at : ℕ) → at < length j → 1 ≤ length (linesAt j at)
 line-some j at h = omega (arith, ap length (line-first j at h))
 
--- the octet that ends a front does not pass
-stopped : (f : ℕ → Bool) (xs : List ℕ) (y : ℕ) (ys : List ℕ) → span f xs .rest ≡ y ∷ ys → f y ≡ false
-stopped f [] y ys e = cc
-stopped f (x ∷ xs) y ys e = by (f x) refl (stopped f xs y ys) e
-  where
-    by : (b : Bool) → f x ≡ b → (span f xs .rest ≡ y ∷ ys → f y ≡ false) → spanning b x xs (span f xs) .rest ≡ y ∷ ys → f y ≡ false
-    by true q ih r = ih r
-    by false q ih r = let s : x ≡ y = cc in rw s at q
-
 line-ends : (j : List ℕ) (at : ℕ) → lineEnd j at < length j → getD j (lineEnd j at) 0 ≡ 10
 line-ends j at h =
     eqb-true (getD j (lineEnd j at) 0) 10 (not-false _
@@ -66,18 +58,9 @@ line-ends j at h =
     (sym (front-rest (inClass NotNewline) j at (length j)) ∙ next j (lineEnd j at) (length j) h (omega arith))))
 
 -- one octet more
-two-parts : (p : List ℕ) (i k e : ℕ) → i ≤ k → k ≤ e → slice i e p ≡ slice i k p ++ slice k e p
-two-parts p zero zero e h l = refl
-two-parts p (suc i) zero e h l = absurd (omega arith)
-two-parts p i (suc k) zero h l = absurd (omega arith)
-two-parts [] zero (suc k) (suc e) h l = refl
-two-parts [] (suc i) (suc k) (suc e) h l = refl
-two-parts (x ∷ p) zero (suc k) (suc e) h l = ap (λ t. x ∷ t) (two-parts p zero k e (omega arith) (omega arith))
-two-parts (x ∷ p) (suc i) (suc k) (suc e) h l = two-parts p i k e (omega arith) (omega arith)
-
 with-newline : (j : List ℕ) (at e : ℕ) → at ≤ e → e < length j → getD j e 0 ≡ 10 → slice at (e + 1) j ≡ slice at e j ++ 10 ∷ []
 with-newline j at e h l q =
-    two-parts j at e (e + 1) h (omega arith)
+    slice-append j at e (e + 1) h (omega arith) (omega arith)
     ∙ ap (λ t. slice at e j ++ t) (next j e (e + 1) (omega arith) (omega arith) ∙ ap₂ (λ x t. x ∷ t) q (no-octet j (e + 1) (e + 1) (omega arith)))
 
 pub ends-line : (j : List ℕ) (at e : ℕ) → at < length j → e ≡ lineEnd j at → NextLine j at e
@@ -96,7 +79,7 @@ module _ {j : List ℕ} {m e : ℕ} (l : NextLine j m e) where
   line-text : (to : ℕ) (ts : List (List ℕ)) → e + 1 ≤ to → to ≤ length j → ended ts ≡ slice (e + 1) to j → ended (slice m e j ∷ ts) ≡ slice m to j
   line-text to ts h w q =
       ap (λ t. (slice m e j ++ 10 ∷ []) ++ t) q ∙ ap (λ t. t ++ slice (e + 1) to j) (sym (l .text (omega arith)))
-      ∙ sym (two-parts j m (e + 1) to (omega (arith, l .after)) h)
+      ∙ sym (slice-append j m (e + 1) to (omega (arith, l .after)) h w)
 
   lines-on : (n to : ℕ) → LinesTo j (e + 1) n to → LinesTo j m (suc n) to
   lines-on n to s = record {
@@ -125,24 +108,16 @@ skips-short j at n h k = omega (arith, ap length (no-lines j at h))
 pub no-section : (j : List ℕ) (at : ℕ) → length j ≤ at → section (linesAt j at) ≡ none
 no-section j at h = ap section (no-lines j at h)
 
-number-none : (o : Option ℕ) (r : Number) → r ≡ numberOf o → r ≡ Fault → o ≡ none
-number-none none r p q = refl
-number-none (some v) r p q = cc
-
-number-some : (o : Option ℕ) (r : Number) (n : ℕ) → r ≡ numberOf o → r ≡ Value n → o ≡ some n
-number-some none r n p q = cc
-number-some (some v) r n p q = cc
-
 module _ {j : List ℕ} {at e : ℕ} (l : NextLine j at e) (r : Number) (d : r ≡ numberOf (decimalOf (slice at e j))) where
   section-first : section (linesAt j at) ≡ (decimalOf (slice at e j) >>= λ n. provided (leb n (length (linesAt j (e + 1)))) (record { body = take n (linesAt j (e + 1)); later = drop n (linesAt j (e + 1)) }))
   section-first = ap section (l .lines)
 
   pub no-count : r ≡ Fault → section (linesAt j at) ≡ none
-  no-count f = rw (section-first, number-none (decimalOf (slice at e j)) r d f)
+  no-count f = rw (section-first, number-none (decimalOf (slice at e j)) (sym d ∙ f))
 
   module _ (n : ℕ) (f : r ≡ Value n) where
     section-counted : section (linesAt j at) ≡ provided (leb n (length (linesAt j (e + 1)))) (record { body = take n (linesAt j (e + 1)); later = drop n (linesAt j (e + 1)) })
-    section-counted = rw (section-first, number-some (decimalOf (slice at e j)) r n d f)
+    section-counted = rw (section-first, number-some (decimalOf (slice at e j)) n (sym d ∙ f))
 
     pub too-few : Skips j (e + 1) n Short → section (linesAt j at) ≡ none
     too-few h = rw (section-counted, lt-leb n (length (linesAt j (e + 1))) h)

@@ -10,7 +10,8 @@ use lib.Dec.{leb, eqb, eqb·zero-suc, eqb·suc-suc}
 use borrow.Author.Tests.{leb-true, le-leb, eqb-true, eqb-false, eq-eqb, ne-eqb}
 use Rattle.format.specs.Lists.{allOf, spanning, span}
 use Rattle.format.proofs.Lists.{and-left, and-right}
-use Rattle.octets.proofs.Slices.{next, none, lent, frontEnd}
+use Rattle.octets.specs.Octets.{frontEnd}
+use Rattle.octets.proofs.Slices.{next, none, lent}
 
 -- one part after another
 pub slice-append : (t : List ℕ) (a i j : ℕ) → a ≤ i → i ≤ j → j ≤ length t → slice a j t ≡ slice a i t ++ slice i j t
@@ -53,13 +54,13 @@ module _ (f : ℕ → Bool) where
       by false = refl
 
   -- two parts, which may overlap
-  pub all-parts : (t : List ℕ) (i m e : ℕ) → i ≤ m → m ≤ e → e ≤ length t → allOf f (slice i e t) ≡ allOf f (slice i m t) && allOf f (slice m e t)
+  all-parts : (t : List ℕ) (i m e : ℕ) → i ≤ m → m ≤ e → e ≤ length t → allOf f (slice i e t) ≡ allOf f (slice i m t) && allOf f (slice m e t)
   all-parts t i m e h k l = ap (allOf f) (slice-append t i m e h k l) ∙ all-append (slice i m t) (slice m e t)
 
   pub all-whole : (t : List ℕ) (i m e : ℕ) → i ≤ m → m ≤ e → e ≤ length t → allOf f (slice i m t) ≡ true → allOf f (slice m e t) ≡ true → allOf f (slice i e t) ≡ true
   all-whole t i m e h k l a b = rw (all-parts t i m e h k l, a, b)
 
-  pub all-left : (t : List ℕ) (i m e : ℕ) → i ≤ m → m ≤ e → e ≤ length t → allOf f (slice i e t) ≡ true → allOf f (slice i m t) ≡ true
+  all-left : (t : List ℕ) (i m e : ℕ) → i ≤ m → m ≤ e → e ≤ length t → allOf f (slice i e t) ≡ true → allOf f (slice i m t) ≡ true
   all-left t i m e h k l a = and-left (allOf f (slice i m t)) (allOf f (slice m e t)) (sym (all-parts t i m e h k l) ∙ a)
 
   pub all-over : (t : List ℕ) (i j m e : ℕ) → i ≤ m → m ≤ j → j ≤ e → e ≤ length t → allOf f (slice i j t) ≡ true → allOf f (slice m e t) ≡ allOf f (slice i e t)
@@ -68,7 +69,7 @@ module _ (f : ℕ → Bool) where
   pub all-off : (t : List ℕ) (i m n e : ℕ) → i ≤ m → m ≤ n → n ≤ e → e ≤ length t → allOf f (slice m n t) ≡ false → false ≡ allOf f (slice i e t)
   all-off t i m n e h k o l a = rw (all-parts t i m e h (omega arith) l, all-parts t m n e k o l, a, and-false)
 
-  all-length : (xs : List ℕ) → allOf f xs ≡ eqb (length (span f xs .front)) (length xs)
+  pub all-length : (xs : List ℕ) → allOf f xs ≡ eqb (length (span f xs .front)) (length xs)
   all-length [] = refl
   all-length (x ∷ xs) = by (f x) (all-length xs)
     where

@@ -9,11 +9,11 @@ use Rattle.format.specs.Octets.{letter, inRange}
 use Rattle.format.proofs.Lists.{not-true}
 use Rattle.format.proofs.Finite.{at-each}
 
-same-true : (a b : Bool) → cond a b (not b) ≡ true → a ≡ b
+pub same-true : (a b : Bool) → cond a b (not b) ≡ true → a ≡ b
 same-true true b h = sym h
 same-true false b h = sym (not-true b h)
 
-pub small-letter : (x : ℕ) → x < 256 → inRange 97 122 (bitOr x 32) ≡ letter x
+small-letter : (x : ℕ) → x < 256 → inRange 97 122 (bitOr x 32) ≡ letter x
 small-letter x h = same-true _ _ (at-each (λ x. cond (inRange 97 122 (bitOr x 32)) (letter x) (not (letter x))) 256 refl x h)
 
 pub no-letter : (x : ℕ) → x < 256 → bitOr x 32 < 97 → false ≡ letter x

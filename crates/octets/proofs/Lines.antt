@@ -1,26 +1,25 @@
 -- The lines of a list from a place on: the next one ends before the next LF.
-use Prim.Native.Nat.{ℕ, zero, suc, _+_, _-_, _≤_, _<_}
+use Prim.Native.Nat.{ℕ, _+_, _≤_, _<_}
 use mathlib.Core.Path.{_≡_, refl, sym, ap, ap₂, _∙_}
 use mathlib.Core.Bool.{Bool, true, false, not}
-use mathlib.Core.List.{List, [], _∷_, _++_}
+use mathlib.Core.List.{List, [], _∷_}
 use native.Mathlib.Omega.{arith}
-use lib.ListN.{length, take, drop, length-take, length-drop, drop-of-length-le}
-use lib.Seq.{slice, take-length, drop-drop, take-nil}
+use lib.ListN.{length, drop, length-drop, drop-of-length-le}
+use lib.Seq.{slice, drop-drop}
 use lib.Dec.{eqb}
-use Rattle.format.specs.Lists.{Spanned, spanning, span, consFirst, parting, split}
+use Rattle.format.specs.Lists.{Spanned, spanning, span, consFirst, parting}
 use Rattle.format.specs.Octets.{splitOn}
 use Rattle.format.specs.Field.{Part}
 use Rattle.format.specs.Lines.{placed, withoutEmptyLast, linesOf}
-use Rattle.octets.specs.Octets.{inClass, lineEnd, partIn}
-use Rattle.octets.specs.declared.Class.the-variants.{NotNewline}
-use Rattle.octets.proofs.Slices.{frontEnd, front-rest, front-within, span-rest, span-front}
+use Rattle.octets.specs.Octets.{lineEnd, partIn}
+use Rattle.octets.proofs.Slices.{span-rest, span-front, take-drop, to-end}
 
 -- what follows the first separator, cut again
-abbrev cut-rest : ℕ → List ℕ → List (List ℕ)
+abbrev pub cut-rest : ℕ → List ℕ → List (List ℕ)
 cut-rest c [] = []
 cut-rest c (x ∷ xs) = splitOn c xs
 
-cut-first : (c : ℕ) (xs : List ℕ) → splitOn c xs ≡ span (λ x. not (eqb x c)) xs .front ∷ cut-rest c (span (λ x. not (eqb x c)) xs .rest)
+pub cut-first : (c : ℕ) (xs : List ℕ) → splitOn c xs ≡ span (λ x. not (eqb x c)) xs .front ∷ cut-rest c (span (λ x. not (eqb x c)) xs .rest)
 cut-first c [] = refl
 cut-first c (x ∷ xs) = by (eqb x c) (cut-first c xs)
   where
@@ -56,17 +55,9 @@ lines-first xs h = ap withoutEmptyLast (cut-first 10 xs) ∙ by (s .front) (s .r
     by t [] e = some-line (s .front) (omega (arith, ap length e, length-drop (length (s .front)) xs))
     by t (x ∷ r) e = on (s .front) r (splitOn 10 r) refl
 
-part-front : (s : List ℕ) (at n : ℕ) → slice at (at + n) s ≡ take n (drop at s)
-part-front s zero n = let q : 0 + n ≡ n = omega arith in ap (λ k. take k s) q
-part-front [] (suc at) n = rw (take-nil (suc at + n), take-nil n)
-part-front (x ∷ s) (suc at) n = let q : suc at + n ≡ suc (at + n) = omega arith in rw q (part-front s at n)
-
 -- the lines from a place on
 abbrev pub linesFrom : List ℕ → ℕ → List Part
 linesFrom s at = placed at (linesOf (drop at s))
-
-to-end : (s : List ℕ) (at : ℕ) → slice at (length s) s ≡ drop at s
-to-end s at = ap (drop at) (take-length s)
 
 pub next-line : (s : List ℕ) (at : ℕ) → at < length s → linesFrom s at ≡ partIn s at (lineEnd s at) ∷ linesFrom s (lineEnd s at + 1)
 next-line s at h = rw (to-end s at) (ap (placed at) (lines-first xs (omega (arith, length-drop at s))) ∙ ap₂ (λ t us. record { place = at; octets = t } ∷ placed (at + length f + 1) us) first-line (ap linesOf others))
@@ -78,7 +69,7 @@ next-line s at h = rw (to-end s at) (ap (placed at) (lines-first xs (omega (arit
     f = span (λ x. not (eqb x 10)) (drop at s) .front
 
     first-line : f ≡ slice at (at + length f) s
-    first-line = sym (span-front (λ x. not (eqb x 10)) (drop at s)) ∙ sym (part-front s at (length f))
+    first-line = sym (span-front (λ x. not (eqb x 10)) (drop at s)) ∙ take-drop (length f) at s
 
     same-place : at + (length f + 1) ≡ at + length f + 1
     same-place = omega arith

@@ -1,6 +1,6 @@
 -- A decimal number read digit by digit.
-use Prim.Native.Nat.{ℕ, zero, suc, _+_, _*_, _-_, _^_, _≤_, _<_}
-use mathlib.Core.Path.{_≡_, refl, sym, ap, _∙_}
+use Prim.Native.Nat.{ℕ, suc, _+_, _*_, _-_, _^_, _≤_, _<_}
+use mathlib.Core.Path.{_≡_, refl, sym, _∙_}
 use mathlib.Core.Bool.{Bool, true, false, cond}
 use mathlib.Core.List.{List, [], _∷_}
 use mathlib.Core.Option.{Option, none, some}
@@ -8,12 +8,14 @@ use native.Mathlib.Omega.{arith}
 use native.Mathlib.Nat.{pow-suc, pow-le-pow-right}
 use lib.ListN.{length}
 use lib.Seq.{slice, length-slice}
-use lib.Dec.{leb, ltb, lit<}
+use lib.Dec.{ltb, lit<}
 use borrow.Author.Tests.{le-leb, lt-leb, lt-ltb, le-ltb}
 use Rattle.format.specs.Lists.{_>>=_, provided, consBoth, eachOf}
 use Rattle.format.specs.Octets.{digit, letter, lowered}
-use Rattle.format.specs.Digits.{numberFrom, number, digitValue}
+use Rattle.format.specs.Digits.{numberFrom, digitValue}
 use Rattle.format.specs.Number.{decimalOf}
+use Rattle.octets.specs.Octets.{numberOf}
+use Rattle.octets.specs.declared.Number.the-variants.{Value, Fault}
 
 -- the number in a base of the digits so far, which is v, and of those that follow
 unfoldable pub valueIn : ℕ → ℕ → List ℕ → Option ℕ
@@ -84,3 +86,12 @@ nothing-yet i = let e : i - i ≡ 0 = omega arith in rw e (omega arith)
 pub nothing-left : (v : ℕ) → valueFrom v [] ≡ some v
 unfolding valueIn
 nothing-left v = refl
+
+-- the code's answer, as an option
+pub number-none : (o : Option ℕ) → numberOf o ≡ Fault → o ≡ none
+number-none none h = refl
+number-none (some v) h = cc
+
+pub number-some : (o : Option ℕ) (v : ℕ) → numberOf o ≡ Value v → o ≡ some v
+number-some none v h = cc
+number-some (some w) v h = cc

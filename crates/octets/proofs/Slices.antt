@@ -1,13 +1,14 @@
 -- Laws of the part of a list from i to e, gone through by an index.
-use Prim.Native.Nat.{ℕ, zero, suc, _+_, _-_, _≤_, _<_, min}
+use Prim.Native.Nat.{ℕ, zero, suc, _+_, _-_, _≤_, _<_}
 use mathlib.Core.Path.{_≡_, refl, sym, ap, _∙_}
 use mathlib.Core.Bool.{Bool, true, false}
 use mathlib.Core.List.{List, [], _∷_, _++_}
 use native.Mathlib.Omega.{arith}
 use native.Mathlib.Numerals.{add-one}
-use lib.ListN.{length, take, drop, getD, length-take, length-drop, drop-of-length-le}
-use lib.Seq.{slice, slice-cons, drop-drop, length-slice, take-nil}
-use Rattle.format.specs.Lists.{Spanned, spanning, span}
+use lib.ListN.{length, take, drop, getD, length-take, drop-of-length-le, take-append-drop}
+use lib.Seq.{slice, slice-cons, drop-drop, length-slice, take-nil, take-take, take-length, drop-append-le, length-take-le}
+use Rattle.format.specs.Lists.{spanning, span}
+use Rattle.octets.specs.Octets.{frontEnd}
 
 -- the next element, and none
 pub next : (s : List ℕ) (i e : ℕ) → i < e → e ≤ length s → slice i e s ≡ getD s i 0 ∷ slice (i + 1) e s
@@ -21,13 +22,23 @@ pub rest : (s : List ℕ) (i n e : ℕ) → drop n (slice i e s) ≡ slice (i + 
 rest s i n e = drop-drop n i (take e s)
 
 -- the part that is lent to a call
-take-drop : {A : Type 0} (n i : ℕ) (s : List A) → take n (drop i s) ≡ drop i (take (i + n) s)
+pub take-drop : {A : Type 0} (n i : ℕ) (s : List A) → take n (drop i s) ≡ drop i (take (i + n) s)
 take-drop n zero s = let q : 0 + n ≡ n = omega arith in rw q
 take-drop n (suc i) [] = rw (take-nil n, take-nil (suc i + n))
 take-drop n (suc i) (x ∷ s) = let q : suc i + n ≡ suc (i + n) = omega arith in rw q (take-drop n i s)
 
 pub lent : (s : List ℕ) (i e : ℕ) → i ≤ e → take (e - i) (drop i s) ≡ slice i e s
 lent s i e h = let q : i + (e - i) ≡ e = omega arith in take-drop (e - i) i s ∙ ap (λ k. drop i (take k s)) q
+
+-- a part of a part, and a part and the rest of the list
+pub part : (s : List ℕ) (i k e : ℕ) → i + k ≤ e → take k (slice i e s) ≡ slice i (i + k) s
+part s i k e h = take-drop k i (take e s) ∙ ap (drop i) (take-take (i + k) e s h)
+
+pub to-end : (s : List ℕ) (i : ℕ) → slice i (length s) s ≡ drop i s
+to-end s i = ap (drop i) (take-length s)
+
+pub rest-parts : (s : List ℕ) (i j : ℕ) → i ≤ j → j ≤ length s → drop i s ≡ slice i j s ++ drop j s
+rest-parts s i j h k = ap (drop i) (sym (take-append-drop j s)) ∙ drop-append-le i (take j s) (drop j s) (omega (arith, length-take-le j s k))
 
 -- the front that passes, and what is left
 module _ (f : ℕ → Bool) where
@@ -61,22 +72,28 @@ module _ (f : ℕ → Bool) where
       by true ih = omega arith
       by false ih = omega arith
 
-  -- where the front of a part ends
-  abbrev pub frontEnd : List ℕ → ℕ → ℕ → ℕ
-  frontEnd s i e = i + length (span f (slice i e s) .front)
+  -- the octet that ends a front does not pass
+  pub stopped : (xs : List ℕ) (y : ℕ) (ys : List ℕ) → span f xs .rest ≡ y ∷ ys → f y ≡ false
+  stopped [] y ys e = cc
+  stopped (x ∷ xs) y ys e = by (f x) refl (stopped xs y ys) e
+    where
+      by : (b : Bool) → f x ≡ b → (span f xs .rest ≡ y ∷ ys → f y ≡ false) → spanning b x xs (span f xs) .rest ≡ y ∷ ys → f y ≡ false
+      by true q ih r = ih r
+      by false q ih r = let s : x ≡ y = cc in rw s at q
 
-  pub front-on : (s : List ℕ) (i e : ℕ) → i < e → e ≤ length s → f (getD s i 0) ≡ true → frontEnd s (i + 1) e ≡ frontEnd s i e
+  -- the end of the front of a part
+  pub front-on : (s : List ℕ) (i e : ℕ) → i < e → e ≤ length s → f (getD s i 0) ≡ true → frontEnd f s (i + 1) e ≡ frontEnd f s i e
   front-on s i e h l t = rw (next s i e h l, span-on (getD s i 0) (slice (i + 1) e s) t) (omega arith)
 
-  pub front-off : (s : List ℕ) (i e : ℕ) → i < e → e ≤ length s → f (getD s i 0) ≡ false → i ≡ frontEnd s i e
+  pub front-off : (s : List ℕ) (i e : ℕ) → i < e → e ≤ length s → f (getD s i 0) ≡ false → i ≡ frontEnd f s i e
   front-off s i e h l t = rw (next s i e h l, span-off (getD s i 0) (slice (i + 1) e s) t) (omega arith)
 
-  pub front-end : (s : List ℕ) (i e : ℕ) → e ≤ i → i ≡ frontEnd s i e
+  pub front-end : (s : List ℕ) (i e : ℕ) → e ≤ i → i ≡ frontEnd f s i e
   front-end s i e h = rw (none s i e h) (omega arith)
 
   -- it lies in the part, which it cuts into the front and the rest
-  pub front-within : (s : List ℕ) (i e : ℕ) → i ≤ e → e ≤ length s → frontEnd s i e ≤ e
+  pub front-within : (s : List ℕ) (i e : ℕ) → i ≤ e → e ≤ length s → frontEnd f s i e ≤ e
   front-within s i e h l = omega (arith, span-length (slice i e s), length-slice i e s l)
 
-  pub front-rest : (s : List ℕ) (i e : ℕ) → slice (frontEnd s i e) e s ≡ span f (slice i e s) .rest
+  pub front-rest : (s : List ℕ) (i e : ℕ) → slice (frontEnd f s i e) e s ≡ span f (slice i e s) .rest
   front-rest s i e = sym (rest s i (length (span f (slice i e s) .front)) e) ∙ span-rest (slice i e s)

@@ -26,9 +26,13 @@ inClass NotBracket x = not (eqb x (code "]"))
 inClass NotComma x = not (eqb x (code ","))
 inClass FreeText x = inRange 0x20 0xFE x
 
+-- the end of those octets from i on and before e that pass
+abbrev pub frontEnd : (ℕ → Bool) → List ℕ → ℕ → ℕ → ℕ
+frontEnd f s i e = i + length (span f (slice i e s) .front)
+
 -- the end of the line from i on
 abbrev pub lineEnd : List ℕ → ℕ → ℕ
-lineEnd s i = i + length (span (inClass NotNewline) (slice i (length s) s) .front)
+lineEnd s i = frontEnd (inClass NotNewline) s i (length s)
 
 -- the part of a stanza from a to e
 abbrev pub partIn : List ℕ → ℕ → ℕ → Part

@@ -14,9 +14,10 @@ use lib.Dec.{eqb}
 use borrow.Author.Tests.{eq-eqb, ne-eqb, eqb-true, eqb-false}
 use Rattle.format.specs.Octets.{Below, among}
 use Rattle.format.specs.Digits.{digits, number}
-use Rattle.format.specs.Bitmap.{bitsOf, octetsFrom, windowOctets, beforeZeros, withoutLastZeros, blockOf, blocksFrom, blocks}
+use Rattle.format.specs.Bitmap.{bitsOf, octetsFrom, windowOctets, beforeZeros, withoutLastZeros, blockOf, blocksFrom}
 use Rattle.format.proofs.Finite.{allBelow, at-each}
 use Rattle.format.proofs.Digits.{digits-number, number-bound}
+use Rattle.format.proofs.Bitmap.{window-length}
 use Rattle.picture.specs.Windows.{zeroOctet, Holds}
 
 -- an octet with one bit more
@@ -95,11 +96,6 @@ module _ (ts : List ℕ) (v : ℕ) where
   octets-more n (suc b) k (suc c) e h l =
       octets-both (sym (bits-same ts more n 8 (λ i m o. others i (λ r. omega arith)))) (octets-more (n + 8) b k c (omega arith) h (omega arith))
 
-window-length : (ts : List ℕ) (n c : ℕ) → length (octetsFrom ts n c) ≡ c
-unfolding octetsFrom
-window-length ts n zero = refl
-window-length ts n (suc c) = ap suc (window-length ts (n + 8) c)
-
 -- a window that has octets is there
 row-there : (m : List (List ℕ)) (w : ℕ) → 0 < length (getD m w []) → w < length m
 row-there [] w h = absurd (omega arith)
@@ -162,7 +158,7 @@ module _ (r : List ℕ) where
       sym (ap length (ap withoutLastZeros t ∙ last-some (take n r) (getD r n 0) z ∙ sym t) ∙ length-take-le (suc n) r l)
 
 -- a window of zeros has no octet before them
-pub all-zeros : (r : List ℕ) → allOf zeroOctet r ≡ true → withoutLastZeros r ≡ []
+all-zeros : (r : List ℕ) → allOf zeroOctet r ≡ true → withoutLastZeros r ≡ []
 all-zeros [] h = refl
 all-zeros (x ∷ xs) h =
     let z : x ≡ 0 = eqb-true x 0 (and-left (zeroOctet x) (allOf zeroOctet xs) h) in
@@ -228,6 +224,3 @@ module _ (m : List (List ℕ)) (top : ℕ) (ts : List ℕ) (p : Holds m top ts) 
 
   pub no-more : top ≤ w → blocksFrom ts w (256 - w) ≡ []
   no-more h = no-blocks ts w (256 - w) (λ t l. p .above t (omega arith))
-
-  pub row-length : w < 256 → length (getD m w []) ≡ 32
-  row-length h = ap length (p .windows w h) ∙ window-length ts (w * 256) 32

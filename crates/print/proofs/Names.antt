@@ -1,7 +1,7 @@
 -- Laws of a name that is a part of a list of octets: its labels one after another, and its text.
 use Prim.Native.Nat.{ℕ, zero, suc, _+_, _-_, _*_, _≤_, _<_}
 use mathlib.Core.Path.{_≡_, refl, sym, ap, subst, _∙_}
-use mathlib.Core.Bool.{Bool, true, false, _&&_}
+use mathlib.Core.Bool.{Bool, false, _&&_}
 use mathlib.Core.List.{List, [], _∷_, _++_, map}
 use native.Mathlib.Omega.{arith}
 use lib.Dec.{leb}
@@ -10,10 +10,10 @@ use lib.Seq.{slice, length-slice, drop-at}
 use Rattle.format.specs.Lists.{flatMap, parted}
 use Rattle.format.specs.Octets.{ascii}
 use Rattle.format.specs.Wire.{labelLength, labelOctet, took, taken}
-use Rattle.format.specs.Text.{piecesFrom, pieces}
+use Rattle.format.specs.Text.{pieces}
 use Rattle.format.specs.Name.{nameEscape, orRoot, nameText}
-use Rattle.format.proofs.Wire.{at-end}
 use Rattle.format.proofs.Text.{escape-bound, escapes-bound, went-on, piece-taken}
+use Rattle.format.proofs.Name.{name-some}
 use Rattle.octets.proofs.Slices.{next, none, rest}
 use Rattle.print.proofs.Pieces.{pieces-at, pieces-some}
 
@@ -25,10 +25,6 @@ label-length p i e l = omega (arith, escapes-bound nameEscape (escape-bound 0x21
 abbrev pub Named : List ℕ → Type 0
 Named xs = (b : Bool) × (t : ℕ) × (taken (labelLength b t) xs ≡ took (length xs))
 
-some-left : (t : ℕ) (xs : List ℕ) → taken (labelLength false t) xs ≡ took (length xs) → 1 ≤ length xs
-some-left t [] e = let z : _≡_ {A = ℕ} 0 1 = cc (at-end (labelLength false t) 0 e .0) in absurd (omega arith)
-some-left t (x ∷ xs) e = omega arith
-
 zero-ends : (xs : List ℕ) → Named (0 ∷ xs) → length xs ≡ 0
 unfolding taken
 zero-ends [] w = refl
@@ -38,7 +34,7 @@ first-label : (n : ℕ) (xs : List ℕ) → Named (suc n ∷ xs) → (suc n < le
 first-label n xs (b, t, e) =
     let u = t + 1 + suc n in
     let (s, q, f, l, g) = piece-taken (λ k. labelOctet k u) (labelLength false u) (λ x. refl) (λ n x. refl) (λ n. refl) n xs (went-on (labelLength b t) (labelOctet n u) (leb (suc n) 63 && leb (u + 1) 255) (suc n) xs (length xs) refl e .1) in
-    (omega (arith, ap length f, length-append s q, some-left u q g), subst Named (sym (ap (drop (suc n)) f ∙ drop-at s q (suc n) l)) (false, u, g))
+    (omega (arith, ap length f, length-append s q, name-some u q g), subst Named (sym (ap (drop (suc n)) f ∙ drop-at s q (suc n) l)) (false, u, g))
 
 label-or-end : (c : ℕ) (xs : List ℕ) → 1 ≤ length xs → Named (c ∷ xs) → (c < length xs) × Named (drop c xs)
 label-or-end zero xs h w = let z = zero-ends xs w in absurd (omega arith)

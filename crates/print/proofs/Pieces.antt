@@ -7,16 +7,7 @@ use lib.ListN.{length, take, drop, getD}
 use lib.Seq.{slice, length-slice}
 use Rattle.format.specs.Lists.{consFirst}
 use Rattle.format.specs.Text.{piecesFrom, pieces}
-use Rattle.octets.proofs.Slices.{next, none, rest}
-
--- the front of a part is a part
-pub front : (p : List ℕ) (i e n : ℕ) → i + n ≤ e → e ≤ length p → take n (slice i e p) ≡ slice i (i + n) p
-front p i e zero h l = sym (none p i (i + 0) (omega arith))
-front p i e (suc n) h l =
-    let q : i + 1 + n ≡ i + suc n = omega arith in
-    ap (take (suc n)) (next p i e (omega arith) l)
-    ∙ ap (λ t. getD p i 0 ∷ t) (front p (i + 1) e n (omega arith) l ∙ ap (λ k. slice (i + 1) k p) q)
-    ∙ sym (next p i (i + suc n) (omega arith) (omega arith))
+use Rattle.octets.proofs.Slices.{next, rest, part}
 
 -- the first piece and the others
 pieces-first : (n : ℕ) (xs : List ℕ) → n ≤ length xs → piecesFrom n xs ≡ take n xs ∷ pieces (drop n xs)
@@ -30,7 +21,7 @@ pieces-at p i e n q h l =
     ap pieces (next p i e (omega arith) l)
     ∙ ap (λ k. piecesFrom k (slice (i + 1) e p)) (sym q)
     ∙ pieces-first n (slice (i + 1) e p) (omega (arith, length-slice (i + 1) e p l))
-    ∙ ap (λ t. t ∷ pieces (drop n (slice (i + 1) e p))) (front p (i + 1) e n h l)
+    ∙ ap (λ t. t ∷ pieces (drop n (slice (i + 1) e p))) (part p (i + 1) n e h)
     ∙ ap (λ t. slice (i + 1) (i + 1 + n) p ∷ pieces t) (rest p (i + 1) n e)
 
 -- there is a piece

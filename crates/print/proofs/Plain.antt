@@ -1,19 +1,18 @@
 -- Octets of a string that are printed as they are, found in blocks and one by one.
-use Prim.Native.Nat.{ℕ, zero, suc, _+_, _-_, _≤_, _<_}
-use mathlib.Core.Path.{_≡_, refl, sym, ap, _∙_, subst}
-use mathlib.Core.Bool.{Bool, true, false, not, cond, _&&_, _||_, true≢false}
+use Prim.Native.Nat.{ℕ, _+_, _≤_, _<_}
+use mathlib.Core.Path.{_≡_, refl, sym, ap, _∙_}
+use mathlib.Core.Bool.{Bool, true, false, not, _||_}
 use mathlib.Core.List.{List, [], _∷_, _++_, append-assoc}
 use native.Mathlib.Omega.{arith}
 use lib.ListN.{length, getD}
-use lib.Seq.{slice, length-slice}
-use Rattle.format.specs.Lists.{allOf, flatMap, Spanned, spanning, span}
+use lib.Seq.{slice}
+use Rattle.format.specs.Lists.{flatMap, spanning, span}
 use Rattle.format.specs.Octets.{ascii, inRange, among}
 use Rattle.format.specs.Text.{stringEscape}
 use Rattle.format.proofs.Text.{escape-bound}
 use Rattle.format.proofs.Lists.{and-left, and-right, not-true}
-use Rattle.octets.proofs.Slices.{next, none, front-on, front-within, front-rest, span-front, lent}
+use Rattle.octets.proofs.Slices.{next, front-within, front-rest, span-front, part}
 use Rattle.print.specs.Plain.{plainText, plainEnd}
-use Rattle.print.proofs.Pieces.{front}
 
 -- their text is themselves
 plain-escape : (x : ℕ) → plainText x ≡ true → stringEscape x ≡ x ∷ []
@@ -32,7 +31,7 @@ front-text (x ∷ xs) = by (plainText x) refl (front-text xs)
 pub plain-part : (p : List ℕ) (i e k : ℕ) → i ≤ e → e ≤ length p → k ≡ plainEnd p i e → flatMap stringEscape (slice i e p) ≡ slice i k p ++ flatMap stringEscape (slice k e p)
 plain-part p i e k h l q =
     front-text (slice i e p)
-    ∙ ap (λ t. t ++ flatMap stringEscape (span plainText (slice i e p) .rest)) (sym (span-front plainText (slice i e p)) ∙ front p i e (length (span plainText (slice i e p) .front)) (front-within plainText p i e h l) l ∙ ap (λ j. slice i j p) (sym q))
+    ∙ ap (λ t. t ++ flatMap stringEscape (span plainText (slice i e p) .rest)) (sym (span-front plainText (slice i e p)) ∙ part p i (length (span plainText (slice i e p) .front)) e (front-within plainText p i e h l) ∙ ap (λ j. slice i j p) (sym q))
     ∙ ap (λ t. slice i k p ++ flatMap stringEscape t) (sym (front-rest plainText p i e) ∙ ap (λ j. slice j e p) (sym q))
 
 -- an octet that is escaped, and the plain ones after it

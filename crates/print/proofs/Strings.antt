@@ -11,17 +11,15 @@ use Rattle.format.specs.Lists.{flatMap, parted}
 use Rattle.format.specs.Octets.{ascii}
 use Rattle.format.specs.Wire.{stringCount, stringOctet, took, taken}
 use Rattle.format.specs.Text.{pieces, stringEscape, stringText}
-use Rattle.format.proofs.Text.{escape-bound, escapes-bound, went-on, piece-taken}
+use Rattle.format.proofs.Text.{escapes-bound, went-on, piece-taken}
 use Rattle.format.proofs.Wire.{at-end}
 use Rattle.octets.proofs.Slices.{next, none, rest}
 use Rattle.print.proofs.Pieces.{pieces-at}
+use Rattle.print.proofs.Plain.{escape-short}
 
--- an escape is at most four octets, and so a string's text is at most four for each octet and two
-string-escape-bound : (x : ℕ) → length (stringEscape x) ≤ 4
-string-escape-bound x = escape-bound 0x20 (ascii "\"\\") x
-
+-- a string's text is at most four octets for each octet and two
 pub escapes-length : (p : List ℕ) (i e : ℕ) → e ≤ length p → length (flatMap stringEscape (slice i e p)) ≤ 4 * (e - i)
-escapes-length p i e l = omega (arith, escapes-bound stringEscape string-escape-bound (slice i e p), length-slice i e p l)
+escapes-length p i e l = omega (arith, escapes-bound stringEscape escape-short (slice i e p), length-slice i e p l)
 
 pub string-length : (p : List ℕ) (i e : ℕ) → e ≤ length p → length (stringText (slice i e p)) ≤ 4 * (e - i) + 2
 string-length p i e l = omega (arith, escapes-length p i e l, length-append (flatMap stringEscape (slice i e p)) (34 ∷ []))

@@ -2,7 +2,7 @@
 use Prim.Native.Nat.{ℕ, zero, suc, _+_, _*_, _-_, _≤_, _<_, max}
 use mathlib.Core.Path.{_≡_, refl, sym, ap, _∙_}
 use mathlib.Core.Bool.{Bool, true, false, cond}
-use mathlib.Core.List.{List, [], _∷_, _++_}
+use mathlib.Core.List.{List, _∷_, _++_}
 use native.Mathlib.Omega.{arith}
 use lib.Dec.{leb, eqb}
 use lib.ListN.{length, drop, getD}
@@ -10,6 +10,7 @@ use lib.Seq.{slice, length-slice}
 use borrow.Author.Tests.{lt-ltb, le-ltb, leb-true, leb-false, eq-eqb, ne-eqb}
 use Rattle.format.specs.Address.{groups, groupText, colons, zerosAt, longestZeros, beforeRun, afterRun, aaaaText}
 use Rattle.format.proofs.Field.{pieces-bound}
+use Rattle.format.proofs.Address.{groups-short}
 use Rattle.octets.proofs.Slices.{none}
 use Rattle.print_address.specs.Zeros.{Longest}
 use Rattle.print_address.proofs.GroupTexts.{next-group, group-short}
@@ -100,11 +101,6 @@ module _ (p : List ℕ) (j k g : ℕ) (n : k ≡ j + 2) (d : g ≡ getD p j 0 * 
 -- colons between groups: how long the text is
 pub colons-short : (p : List ℕ) (i e : ℕ) → e ≤ length p → 2 * length (colons (groups (slice i e p))) ≤ 5 * (e - i)
 colons-short p i e l = omega (arith, pieces-bound 4 58 groupText (groups (slice i e p)) group-short, groups-short (slice i e p), length-slice i e p l)
-  where
-    groups-short : (xs : List ℕ) → 2 * length (groups xs) ≤ length xs
-    groups-short [] = omega arith
-    groups-short (x ∷ []) = omega arith
-    groups-short (x ∷ y ∷ xs) = omega (arith, groups-short xs)
 
 -- the text with no run written `::`, and with one
 module _ (p : List ℕ) (i e at count : ℕ) (o : Longest p i e at count) where

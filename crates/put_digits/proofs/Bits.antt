@@ -1,7 +1,7 @@
 -- Bits, and the digits of any width that they make.
 use Prim.Native.Nat.{ℕ, zero, suc, _+_, _*_, _/_, _%_, _^_, _<_}
 use mathlib.Core.Path.{_≡_, refl, sym, ap, subst, _∙_}
-use mathlib.Core.List.{List, [], _∷_, _++_}
+use mathlib.Core.List.{List, [], _∷_}
 use native.Mathlib.Omega.{arith}
 use native.Mathlib.Nat.{pow-suc, pow-zero, mul-assoc, mul-suc, one-le-pow}
 use lib.Pow.{pow-add}
@@ -9,12 +9,8 @@ use lib.ListN.{length}
 use Rattle.format.specs.Octets.{Below}
 use Rattle.format.specs.Digits.{digits, numberFrom, number}
 use Rattle.format.specs.Base.{bits}
-use Rattle.format.proofs.Digits.{digits-below, digits-length, number-digits, digits-number, number-bound}
+use Rattle.format.proofs.Digits.{digits-below, digits-length, number-digits, digits-number, number-bound, number-append}
 use Rattle.format.proofs.Base.{bits-below, bits-length}
-
-pub number-append : (b a : ℕ) (ds es : List ℕ) → numberFrom b a (ds ++ es) ≡ numberFrom b (numberFrom b a ds) es
-number-append b a [] es = refl
-number-append b a (d ∷ ds) es = number-append b (a * b + d) ds es
 
 -- a number and the w bits of another
 pub bits-after : (w a d : ℕ) → d < 2 ^ w → numberFrom 2 a (digits 2 w d) ≡ a * 2 ^ w + d

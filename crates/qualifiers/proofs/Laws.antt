@@ -1,46 +1,38 @@
 -- Laws of names, of texts that are the same, and of the pieces between commas.
-use Prim.Native.Nat.{ℕ, zero, suc, _+_, _-_, _≤_, _<_}
+use Prim.Native.Nat.{ℕ, suc, _+_, _-_, _≤_, _<_}
 use Prim.Native.Char.{code}
 use mathlib.Core.Path.{_≡_, refl, sym, ap, _∙_}
 use mathlib.Core.Bool.{Bool, true, false, not, cond, _&&_, _||_, and-false}
 use mathlib.Core.List.{List, [], _∷_, map}
-use mathlib.Core.Option.{Option, none, some}
+use mathlib.Core.Option.{none, some}
 use native.Mathlib.Omega.{arith}
-use lib.ListN.{length, take, drop, getD, length-take}
-use lib.Seq.{slice, take-take, take-nil, length-slice}
-use lib.Dec.{eqb, leb, ltb, eqb·zero-suc, eqb·suc-suc}
+use lib.ListN.{length, getD}
+use lib.Seq.{slice, length-slice}
+use lib.Dec.{eqb, leb, ltb}
 use borrow.Author.Tests.{eq-eqb, ne-eqb, eqb-true, lt-leb, le-leb, ltb-true, ltb-false}
-use Rattle.format.specs.Lists.{_>>=_, provided, eachOf, anyOf, allOf, twice, consFirst, parting, split, Spanned, spanning, span}
-use Rattle.format.specs.Octets.{letter, digit, nameOctet, lowered, sameOctets, sameWord}
+use Rattle.format.specs.Lists.{_>>=_, provided, anyOf, allOf, Spanned, spanning, span}
+use Rattle.format.specs.Octets.{letter, digit, nameOctet, lowered, sameOctets}
 use Rattle.format.specs.Number.{decimalOf}
-use Rattle.format.specs.Field.{Part, Symbol}
+use Rattle.format.specs.Field.{Part}
 use Rattle.format.specs.Lines.{placed}
-use Rattle.format.specs.Grammar.{Qualifier, word, symbol, startsWithLetter, isName, after, ifQualifier, qualifier}
+use Rattle.format.specs.Grammar.{word, symbol, startsWithLetter, isName, ifQualifier, qualifier}
 use Rattle.format.specs.Types.{knownWord, hasWord}
-use Rattle.octets.specs.Octets.{partIn, numberOf}
-use Rattle.octets.specs.declared.Number.the-variants.{Value, Fault}
-use Rattle.octets.proofs.Slices.{next, none as nothing, rest, frontEnd, front-on, front-end, front-rest, front-within, span-front, span-length}
+use Rattle.octets.specs.Octets.{partIn, frontEnd}
+use Rattle.octets.proofs.Slices.{next, none as nothing, front-on, front-end, front-rest, front-within, span-front, part}
+use Rattle.octets.proofs.Blocks.{all-length}
+use Rattle.octets.proofs.Lines.{cut-rest, cut-first}
 use Rattle.qualifiers.specs.Qualifiers.{piecesIn, wordsFor, holdsOf, anyIn, sameBy, nameIn, twiceIn}
 use Rattle.qualifiers.specs.declared.Test.{Test}
 use Rattle.qualifiers.specs.declared.Test.the-variants.{Malformed, Unknown, NotSymbol, NotWord, IsWord}
 use Rattle.qualifiers.specs.declared.Words.{Words}
 use Rattle.qualifiers.specs.declared.Words.the-variants.{Nothing, OnR, OnN, OnS, OnX}
 
--- a part of a part
-take-drop : (i k : ℕ) (xs : List ℕ) → take k (drop i xs) ≡ drop i (take (i + k) xs)
-take-drop zero k xs = let q : k ≡ 0 + k = omega arith in ap (λ n. take n xs) q
-take-drop (suc i) k [] = rw (take-nil k, take-nil (suc i + k))
-take-drop (suc i) k (x ∷ xs) = let q : suc (i + k) ≡ suc i + k = omega arith in take-drop i k xs ∙ ap (λ n. drop (suc i) (take n (x ∷ xs))) q
-
-pub part : (s : List ℕ) (i k e : ℕ) → i + k ≤ e → take k (slice i e s) ≡ slice i (i + k) s
-part s i k e h = take-drop i k (take e s) ∙ ap (drop i) (take-take (i + k) e s h)
-
 -- the front that passes is the part up to its end
 module _ (f : ℕ → Bool) where
   pub front : (s : List ℕ) (i e : ℕ) → i ≤ e → e ≤ length s → span f (slice i e s) .front ≡ slice i (frontEnd f s i e) s
   front s i e h l = sym (span-front f (slice i e s)) ∙ part s i (length (span f (slice i e s) .front)) e (front-within f s i e h l)
 
-  all-front : (xs : List ℕ) → allOf f (span f xs .front) ≡ true
+  pub all-front : (xs : List ℕ) → allOf f (span f xs .front) ≡ true
   all-front [] = refl
   all-front (x ∷ xs) = by (f x) refl (all-front xs)
     where
@@ -48,21 +40,8 @@ module _ (f : ℕ → Bool) where
       by true h ih = rw (h, ih)
       by false h ih = refl
 
-  all-length : (xs : List ℕ) → allOf f xs ≡ eqb (length (span f xs .front)) (length xs)
-  all-length [] = refl
-  all-length (x ∷ xs) = by (f x) (all-length xs)
-    where
-      by : (b : Bool) → allOf f xs ≡ eqb (length (span f xs .front)) (length xs)
-          → b && allOf f xs ≡ eqb (length (spanning b x xs (span f xs) .front)) (suc (length xs))
-      by true ih = rw (eqb·suc-suc) ih
-      by false ih = rw (eqb·zero-suc)
-
-  -- every octet of a part passes where the front ends with it
-  pub all-passed : (s : List ℕ) (i e : ℕ) → i ≤ e → e ≤ length s → frontEnd f s i e ≡ e → allOf f (slice i e s) ≡ true
-  all-passed s i e h l q = all-length (slice i e s) ∙ eq-eqb (length (span f (slice i e s) .front)) (length (slice i e s)) (omega (arith, length-slice i e s l))
-
-  pub not-passed : (s : List ℕ) (i e : ℕ) → i ≤ e → e ≤ length s → (frontEnd f s i e ≡ e → ⊥) → allOf f (slice i e s) ≡ false
-  not-passed s i e h l q = all-length (slice i e s) ∙ ne-eqb (length (span f (slice i e s) .front)) (length (slice i e s)) (λ m. q (omega (arith, length-slice i e s l)))
+  not-passed : (s : List ℕ) (i e : ℕ) → i ≤ e → e ≤ length s → (frontEnd f s i e ≡ e → ⊥) → allOf f (slice i e s) ≡ false
+  not-passed s i e h l q = all-length f (slice i e s) ∙ ne-eqb (length (span f (slice i e s) .front)) (length (slice i e s)) (λ m. q (omega (arith, length-slice i e s l)))
 
   pub all-passes : (s : List ℕ) (i e : ℕ) → i ≤ e → e ≤ length s → allOf f (slice i (frontEnd f s i e) s) ≡ true
   all-passes s i e h l = rw (← front s i e h l) (all-front (slice i e s))
@@ -72,7 +51,7 @@ pub same-next : (g : Bool) (x y : ℕ) (xs ys : List ℕ) → sameBy g (x ∷ xs
 same-next true x y xs ys = refl
 same-next false x y xs ys = refl
 
-pub same-none : (g : Bool) → sameBy g [] [] ≡ true
+same-none : (g : Bool) → sameBy g [] [] ≡ true
 same-none true = refl
 same-none false = refl
 
@@ -168,14 +147,6 @@ module _ (s : List ℕ) (a z n : ℕ) (h : a ≤ z) (l : z ≤ length s) (q : n 
     pub found-number : (v : ℕ) → n < z → getD s n 0 ≡ 61 → decimalOf (slice (n + 1) z s) ≡ some v → some (symbol (record { spelling = partIn s a n; value = v })) ≡ qualifier (partIn s a z)
     found-number v e o d = rw (after-name e, eq-eqb (getD s n 0) 61 o, d)
 
-pub number-none : (o : Option ℕ) → numberOf o ≡ Fault → o ≡ none
-number-none none h = refl
-number-none (some v) h = cc
-
-pub number-some : (o : Option ℕ) (v : ℕ) → numberOf o ≡ Value v → o ≡ some v
-number-some none v h = cc
-number-some (some w) v h = cc
-
 -- names
 pub begins-next : (s : List ℕ) (a e : ℕ) → a < e → e ≤ length s → begins (slice a e s) ≡ letter (getD s a 0) && leb (e - a) 63
 begins-next s a e h l = ap (λ n. startsWithLetter (slice a e s) && leb n 63) (length-slice a e s l) ∙ rw (next s a e h l)
@@ -239,27 +210,6 @@ any-symbol (NotWord w) p q v = refl
 any-symbol (IsWord x) p q v = refl
 
 -- the pieces between commas: the first, and those after it
-module _ (c : ℕ) where
-  abbrev apart : ℕ → Bool
-  apart x = not (eqb x c)
-
-  abbrev more : List ℕ → List ℕ → List (List ℕ)
-  more t [] = t ∷ []
-  more t (y ∷ ys) = t ∷ split (λ x. eqb x c) ys
-
-  first-more : (x : ℕ) (t r : List ℕ) → consFirst x (more t r) ≡ more (x ∷ t) r
-  first-more x t [] = refl
-  first-more x t (y ∷ ys) = refl
-
-  split-span : (xs : List ℕ) → split (λ x. eqb x c) xs ≡ more (span apart xs .front) (span apart xs .rest)
-  split-span [] = refl
-  split-span (x ∷ xs) = by (eqb x c) (split-span xs)
-    where
-      by : (b : Bool) → split (λ x. eqb x c) xs ≡ more (span apart xs .front) (span apart xs .rest)
-          → parting b x (split (λ x. eqb x c) xs) ≡ more (spanning (not b) x xs (span apart xs) .front) (spanning (not b) x xs (span apart xs) .rest)
-      by true ih = refl
-      by false ih = rw (ih) (first-more x (span apart xs .front) (span apart xs .rest))
-
 abbrev pub notComma : ℕ → Bool
 notComma x = not (eqb x (code ","))
 
@@ -267,8 +217,8 @@ module _ (s : List ℕ) (i b z : ℕ) (h : i ≤ b) (l : b ≤ length s) (q : z 
   pub within : (i ≤ z) × (z ≤ b)
   within = (omega arith, omega (arith, front-within notComma s i b h l))
 
-  pieces : piecesIn s i b ≡ placed i (more (code ",") (slice i z s) (slice z b s))
-  pieces = rw (q, split-span (code ",") (slice i b s), front-rest notComma s i b, ← front notComma s i b h l)
+  pieces : piecesIn s i b ≡ placed i (slice i z s ∷ cut-rest (code ",") (slice z b s))
+  pieces = rw (q, cut-first (code ",") (slice i b s), front-rest notComma s i b, ← front notComma s i b h l)
 
   pub last-piece : z ≡ b → piecesIn s i b ≡ partIn s i z ∷ []
   last-piece e = rw (pieces, nothing s z b (omega arith))
@@ -282,7 +232,7 @@ module _ (s : List ℕ) (i b z : ℕ) (h : i ≤ b) (l : b ≤ length s) (q : z 
     pub any-found : f (partIn s i z) ≡ true → anyOf f (piecesIn s i b) ≡ true
     any-found e = rw pieces (by (slice z b s))
       where
-        by : (r : List ℕ) → anyOf f (placed i (more (code ",") (slice i z s) r)) ≡ true
+        by : (r : List ℕ) → anyOf f (placed i (slice i z s ∷ cut-rest (code ",") r)) ≡ true
         by [] = rw e
         by (y ∷ ys) = rw e
 
@@ -299,9 +249,6 @@ module _ (s : List ℕ) (i b z : ℕ) (h : i ≤ b) (l : b ≤ length s) (q : z 
   name-in n e = rw e (front nameOctet s i z (within .0) (omega (arith, within)))
 
   module _ (g : Bool) (n : ℕ) (e : n ≡ frontEnd nameOctet s i z) where
-    pub same-name : (t : List ℕ) (r : Bool) → r ≡ sameBy g t (slice i n s) → sameBy g t (nameIn (partIn s i z)) ≡ r
-    same-name t r d = rw (name-in n e) (sym d)
-
     twice-next : (z ≡ b → ⊥) → twiceIn g s i b ≡ anyOf (λ p. sameBy g (slice i n s) (nameIn p)) (piecesIn s (z + 1) b) || twiceIn g s (z + 1) b
     twice-next m = rw (next-piece m, ← name-in n e) (ap (λ d. d || twiceIn g s (z + 1) b) (any-map (piecesIn s (z + 1) b)))
       where

@@ -9,20 +9,9 @@ use lib.Dec.{eqb}
 use lib.ListN.{length, take, drop, getD, length-take}
 use lib.Seq.{slice, take-suc, drop-append-le, length-slice}
 use Rattle.format.specs.Address.{Doubled, single, double, intoBefore, atDoubleColon}
+use Rattle.format.proofs.Address.{beforeAll, all-single, all-double}
 use Rattle.octets.proofs.Slices.{next, none as no-octet}
 use Rattle.read_address.specs.Address.{DoubledAt}
-
-abbrev beforeAll : List ℕ → Doubled → Doubled
-beforeAll [] d = d
-beforeAll (x ∷ xs) d = intoBefore x (beforeAll xs d)
-
-all-single : (t : List ℕ) → beforeAll t single ≡ single
-all-single [] = refl
-all-single (x ∷ t) = rw (all-single t)
-
-all-double : (t s u : List ℕ) → beforeAll t (double s u) ≡ double (t ++ s) u
-all-double [] s u = refl
-all-double (x ∷ t) s u = rw (all-double t s u)
 
 before-last : (t : List ℕ) (x : ℕ) (d : Doubled) → beforeAll (t ++ x ∷ []) d ≡ beforeAll t (intoBefore x d)
 before-last [] x d = refl

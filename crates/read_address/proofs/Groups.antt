@@ -9,33 +9,32 @@ use lib.Dec.{leb, eqb}
 use lib.ListN.{length, set, replicate, length-append}
 use lib.Seq.{slice, sets, set-set}
 use borrow.Author.Tests.{le-leb, lt-leb, leb-true, leb-false, eqb-true, eqb-false, eq-eqb, ne-eqb}
-use Rattle.format.specs.Lists.{_>>=_, provided, consBoth, eachOf, exactly, span}
+use Rattle.format.specs.Lists.{_>>=_, provided, consBoth, eachOf, exactly}
 use Rattle.format.specs.Octets.{Below, splitOn}
 use Rattle.format.specs.Digits.{digits}
 use Rattle.format.specs.Address.{smallNumber, readA, groups, groupOctets, groupOf, groupsOf, sideOf, single, double, atDoubleColon, eightGroups, readAAAA}
 use Rattle.format.proofs.Lists.{bind-some, provided-some}
-use Rattle.format.proofs.Digits.{digits-number}
 use Rattle.format.proofs.Field.{exactly-length}
+use Rattle.format.proofs.Address.{pair-back, groups-length}
 use Rattle.octets.specs.declared.Number.{Number}
 use Rattle.octets.specs.declared.Number.the-variants.{Value as Found, Fault as NoNumber}
 use Rattle.octets.specs.Octets.{numberOf}
 use Rattle.octets.proofs.Slices.{next, none as no-octet}
-use Rattle.writing.specs.Writing.{Wrote, Values}
+use Rattle.octets.proofs.Lines.{cut-first}
+use Rattle.octets.proofs.Numbers.{number-none, number-some}
+use Rattle.writing.specs.Writing.{Wrote, Values, after}
 use Rattle.writing.specs.declared.Value.{Value}
 use Rattle.writing.specs.declared.Value.the-variants.{Fault, Upto}
 use Rattle.writing.proofs.Laws.{wrote-append, set-before}
 use Rattle.read_address.specs.declared.part.Form.the-variants.{Small, Group}
-use Rattle.read_address.specs.Part.{apart, partEnd, pieceOf, partsOf}
+use Rattle.read_address.specs.Part.{partEnd, pieceOf, partsOf}
 use Rattle.read_address.specs.Address.{octetsIn, lastIn, groupsIn, sideIn, sixteen, filled, bothSides}
-use Rattle.writing.proofs.Values.{after, Begun, begun-none, begun-piece, begun-fault, begun-rest}
-use Rattle.read_address.proofs.Numbers.{was-number, was-fault, small-octet, piece-short}
-use Rattle.read_address.proofs.Parts.{within, more, split-span, split-last, split-next}
+use Rattle.writing.proofs.Values.{Begun, begun-none, begun-piece, begun-fault, begun-rest}
+use Rattle.read_address.proofs.Numbers.{small-octet, piece-short}
+use Rattle.read_address.proofs.Parts.{within, split-last, split-next}
 use Rattle.read_address.proofs.Read.{each-octet, a-parts}
 
 -- four octets are two groups
-pair-back : (x y : ℕ) → x < 256 → y < 256 → digits 256 2 (x * 256 + y) ≡ x ∷ y ∷ []
-pair-back x y h k = ap (digits 256 2) (omega arith) ∙ digits-number 256 (x ∷ y ∷ []) (h, (k, tt))
-
 four-back : (xs : List ℕ) → length xs ≡ 4 → Below 256 xs → groupOctets (groups xs) ≡ xs
 four-back [] l b = absurd (omega arith)
 four-back (x ∷ []) l b = absurd (omega arith)
@@ -59,15 +58,15 @@ tail-back t = by (readA t) refl
 module _ (t : List ℕ) (r : Number) (d : r ≡ numberOf (groupOf t)) where
   pub last-group : (tail : Bool) (v : ℕ) → r ≡ Found v → lastIn tail t ≡ some (digits 256 2 v)
   unfolding lastIn
-  last-group tail v e = rw (was-number v (groupOf t) (sym e ∙ d))
+  last-group tail v e = rw (number-some (groupOf t) v (sym d ∙ e))
 
   pub last-tail : r ≡ NoNumber → partsOf Small 4 t ≡ lastIn true t
   unfolding lastIn
-  last-tail e = rw (was-fault (groupOf t) (sym e ∙ d)) (a-parts t ∙ sym (tail-back t))
+  last-tail e = rw (number-none (groupOf t) (sym d ∙ e)) (a-parts t ∙ sym (tail-back t))
 
   pub last-none : r ≡ NoNumber → lastIn false t ≡ none
   unfolding lastIn
-  last-none e = rw (was-fault (groupOf t) (sym e ∙ d))
+  last-none e = rw (number-none (groupOf t) (sym d ∙ e))
 
 -- a group and those after it
 first-octets : (g : ℕ) (o : Option (List ℕ)) → octetsIn (consBoth (some g) o) ≡ after (digits 256 2 g) (octetsIn o)
@@ -93,11 +92,7 @@ module _ (tail : Bool) where
   groups-cons : (a t : List ℕ) → groupsOf tail (a ∷ splitOn 58 t) ≡ consBoth (groupOf a) (groupsOf tail (splitOn 58 t))
   unfolding groupsOf
   groups-cons a t =
-      ap (λ ts. groupsOf tail (a ∷ ts)) (split-span 58 t) ∙ by (span (apart 58) t .front) (span (apart 58) t .rest) ∙ ap (λ ts. consBoth (groupOf a) (groupsOf tail ts)) (sym (split-span 58 t))
-    where
-      by : (f r : List ℕ) → groupsOf tail (a ∷ more 58 f r) ≡ consBoth (groupOf a) (groupsOf tail (more 58 f r))
-      by f [] = refl
-      by f (y ∷ ys) = refl
+      ap (λ ts. groupsOf tail (a ∷ ts)) (cut-first 58 t) ∙ ap (λ ts. consBoth (groupOf a) (groupsOf tail ts)) (sym (cut-first 58 t))
 
   one-group : (a : List ℕ) → octetsIn (groupsOf tail (a ∷ [])) ≡ lastIn tail a
   unfolding groupsOf lastIn
@@ -108,7 +103,7 @@ module _ (tail : Bool) where
     unfolding groupsIn
     groups-next m = ap (λ ts. octetsIn (groupsOf tail ts)) (split-next 58 s j e z h l q m) ∙ ap octetsIn (groups-cons (slice j z s) (slice (z + 1) e s))
 
-    pub groups-last : e ≤ z → groupsIn tail (slice j e s) ≡ lastIn tail (slice j e s)
+    groups-last : e ≤ z → groupsIn tail (slice j e s) ≡ lastIn tail (slice j e s)
     unfolding groupsIn
     groups-last m =
         let k : z ≡ e = omega (arith, within 58 s j e z h l q) in
@@ -224,10 +219,6 @@ module _ (s t : List ℕ) (o o₁ : List ℕ) (n : ℕ) (x : Value) (p : Values 
         begun-rest o₂ v (begun-piece xs (filled (m - n) (sideIn true t)) (begun-none o n (bothSides s t)) w (ap (withRight t) e ∙ ap (λ k. after xs (filled k (sideIn true t))) c)) q
 
 -- eight groups
-groups-length : (gs : List ℕ) → length (groupOctets gs) ≡ 2 * length gs
-groups-length [] = refl
-groups-length (g ∷ gs) = omega (arith, groups-length gs)
-
 groups-append : (gs hs : List ℕ) → groupOctets (gs ++ hs) ≡ groupOctets gs ++ groupOctets hs
 groups-append [] hs = refl
 groups-append (g ∷ gs) hs = ap (λ t. digits 256 2 g ++ t) (groups-append gs hs)

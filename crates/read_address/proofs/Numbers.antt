@@ -16,14 +16,14 @@ use Rattle.format.specs.Digits.{digits, numberFrom, number, withoutZeros, upper
 use Rattle.format.specs.Number.{decimal, decimalOf, below}
 use Rattle.format.specs.Hex.{hexPair}
 use Rattle.format.specs.Address.{smallNumber, groupOf}
-use Rattle.format.proofs.Lists.{and-left, and-right, bind-some, provided-some}
+use Rattle.format.proofs.Lists.{and-left, and-right, bind-some, provided-some, same-octets, octets-same}
 use Rattle.format.proofs.Finite.{at-each}
 use Rattle.format.proofs.Digits.{digits-length, digits-number, zeros-length, number-bound}
 use Rattle.octets.proofs.Slices.{next, none as no-octet}
 use Rattle.octets.specs.declared.Number.{Number}
 use Rattle.octets.specs.declared.Number.the-variants.{Value, Fault}
 use Rattle.octets.specs.Octets.{numberOf}
-use Rattle.octets.proofs.Numbers.{valueIn, value-each}
+use Rattle.octets.proofs.Numbers.{valueIn, value-each, number-none, number-some}
 use Rattle.read_address.specs.declared.part.Form.{Form}
 use Rattle.read_address.specs.declared.part.Form.the-variants.{Pair, Small, Group}
 use Rattle.read_address.specs.Part.{hexOf, hexNumber, zeroFirst, widthOf, valueOf, pieceOf}
@@ -139,21 +139,11 @@ small-octet t v e =
     omega (arith, ltb-true y 256 (q .0), q .1, r .1)
 
 -- a decimal number is printed so, but for leading zeros
-same-self : (xs : List ℕ) → sameOctets xs xs ≡ true
-same-self [] = refl
-same-self (x ∷ xs) = rw (eq-eqb x x refl) (same-self xs)
-
-same-lengths : (xs ys : List ℕ) → sameOctets xs ys ≡ true → length xs ≡ length ys
-same-lengths [] [] h = refl
-same-lengths [] (y ∷ ys) h = cc
-same-lengths (x ∷ xs) [] h = cc
-same-lengths (x ∷ xs) (y ∷ ys) h = ap suc (same-lengths xs ys (and-right (eqb x y) (sameOctets xs ys) h))
-
 not-same : (xs ys : List ℕ) → length xs < length ys → sameOctets xs ys ≡ false
 not-same xs ys h = by (sameOctets xs ys) refl
   where
     by : (b : Bool) → sameOctets xs ys ≡ b → b ≡ false
-    by true e = absurd (omega (arith, same-lengths xs ys e))
+    by true e = absurd (omega (arith, ap length (octets-same xs ys e)))
     by false e = refl
 
 digit-char : (x d : ℕ) → digitValue 10 x ≡ some d → x ≡ upperDigit d
@@ -199,14 +189,14 @@ ten-digits ds h l =
 
 plainly : (ds : List ℕ) → Below 10 ds → 1 ≤ length ds → sameOctets (map upperDigit (withoutZeros ds)) (map upperDigit ds) ≡ not (zeroFirst (map upperDigit ds))
 plainly [] b h = absurd (omega arith)
-plainly (d ∷ []) b h = same-self (upperDigit d ∷ [])
+plainly (d ∷ []) b h = same-octets (upperDigit d ∷ [])
 plainly (zero ∷ e ∷ ds) b h =
     not-same (map upperDigit (withoutZeros (e ∷ ds))) (map upperDigit (0 ∷ e ∷ ds)) (omega (arith, length-map (withoutZeros (e ∷ ds)) upperDigit, length-map (0 ∷ e ∷ ds) upperDigit, zeros-length (e ∷ ds) (omega arith)))
 plainly (suc d ∷ e ∷ ds) b h =
     let f : eqb (upperDigit (suc d)) 48 ≡ false = rw (lt-ltb (suc d) 10 (b .0)) (ne-eqb (48 + suc d) 48 (λ q. omega arith)) in
-    same-self (map upperDigit (suc d ∷ e ∷ ds)) ∙ ap not (sym f)
+    same-octets (map upperDigit (suc d ∷ e ∷ ds)) ∙ ap not (sym f)
 
-pub spelled : (t : List ℕ) (v : ℕ) → decimalOf t ≡ some v → sameOctets (decimal v) t ≡ not (zeroFirst t)
+spelled : (t : List ℕ) (v : ℕ) → decimalOf t ≡ some v → sameOctets (decimal v) t ≡ not (zeroFirst t)
 spelled t v e = by (inRange 1 10 (length t)) refl e
   where
     first : (ds : List ℕ) → 1 ≤ length ds → withoutZeros (replicate (10 - length ds) 0 ++ ds) ≡ withoutZeros ds
@@ -227,21 +217,13 @@ spelled t v e = by (inRange 1 10 (length t)) refl e
     by false f g = let z : _≡_ {A = ℕ} 0 1 = cc in absurd (omega arith)
 
 -- a number 0 to 255
-pub was-number : (v : ℕ) (o : Option ℕ) → Value v ≡ numberOf o → o ≡ some v
-was-number v none e = let z : _≡_ {A = ℕ} 0 1 = cc in absurd (omega arith)
-was-number v (some x) e = cc
-
-pub was-fault : (o : Option ℕ) → Fault ≡ numberOf o → o ≡ none
-was-fault none e = refl
-was-fault (some x) e = let z : _≡_ {A = ℕ} 0 1 = cc in absurd (omega arith)
-
 module _ (t : List ℕ) (r : Number) (d : r ≡ numberOf (decimalOf t)) where
   pub no-small : r ≡ Fault → Fault ≡ numberOf (smallNumber t)
-  no-small e = rw (was-fault (decimalOf t) (sym e ∙ d))
+  no-small e = rw (number-none (decimalOf t) (sym d ∙ e))
 
   module _ (v : ℕ) (e : r ≡ Value v) where
     found : decimalOf t ≡ some v
-    found = was-number v (decimalOf t) (sym e ∙ d)
+    found = number-some (decimalOf t) v (sym d ∙ e)
 
     pub large : 255 < v → Fault ≡ numberOf (smallNumber t)
     large h = rw (found, le-ltb v 256 (omega arith))
@@ -270,11 +252,11 @@ module _ (s : List ℕ) (i e : ℕ) (l : e ≤ length s) where
 module _ (f : Form) (t : List ℕ) (r : Number) (d : r ≡ numberOf (valueOf f t)) where
   pub piece-some : (v : ℕ) → r ≡ Value v → pieceOf f t ≡ some (digits 256 (widthOf f) v)
   unfolding pieceOf
-  piece-some v e = rw (was-number v (valueOf f t) (sym e ∙ d))
+  piece-some v e = rw (number-some (valueOf f t) v (sym d ∙ e))
 
   pub piece-none : r ≡ Fault → pieceOf f t ≡ none
   unfolding pieceOf
-  piece-none e = rw (was-fault (valueOf f t) (sym e ∙ d))
+  piece-none e = rw (number-none (valueOf f t) (sym d ∙ e))
 
 width-small : (f : Form) → widthOf f ≤ 2
 width-small Pair = omega arith

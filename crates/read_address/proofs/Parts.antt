@@ -1,49 +1,27 @@
 -- A text gone through part by part.
 use Prim.Native.Nat.{ℕ, zero, suc, _+_, _-_, _≤_, _<_}
 use mathlib.Core.Path.{_≡_, refl, sym, ap, _∙_}
-use mathlib.Core.Bool.{Bool, true, false, not}
+use mathlib.Core.Bool.{Bool, true, false}
 use mathlib.Core.List.{List, [], _∷_, _++_}
 use mathlib.Core.Option.{Option, none, some}
 use native.Mathlib.Omega.{arith}
 use lib.Dec.{eqb, eqb·suc-suc, eqb·suc-zero}
-use lib.ListN.{length, take, drop}
-use lib.Seq.{slice, take-take}
+use lib.ListN.{length}
+use lib.Seq.{slice}
 use borrow.Author.Tests.{ne-eqb}
-use Rattle.format.specs.Lists.{provided, consBoth, eachOf, flat, consFirst, parting, split, spanning, span}
+use Rattle.format.specs.Lists.{provided, consBoth, eachOf, flat, span}
 use Rattle.format.specs.Octets.{splitOn}
-use Rattle.octets.proofs.Slices.{next, none as no-octet, lent, span-front, front-within, front-rest}
-use Rattle.writing.specs.Writing.{Values}
+use Rattle.octets.proofs.Slices.{next, none as no-octet, span-front, front-within, front-rest, part}
+use Rattle.octets.proofs.Lines.{cut-rest, cut-first}
+use Rattle.writing.specs.Writing.{Values, after}
 use Rattle.writing.specs.declared.Value.{Value}
 use Rattle.writing.specs.declared.Value.the-variants.{Fault, Upto}
 use Rattle.read_address.specs.declared.part.Form.{Form}
 use Rattle.read_address.specs.Part.{apart, partEnd, pieceOf, joined, partsBy}
-use Rattle.writing.proofs.Values.{after, Begun, begun-piece, begun-fault, begun-all}
+use Rattle.writing.proofs.Values.{Begun, begun-piece, begun-fault, begun-all}
 use Rattle.read_address.proofs.Numbers.{piece-short}
 
 -- the first part, and those after it
-module _ (c : ℕ) where
-  abbrev pub more : List ℕ → List ℕ → List (List ℕ)
-  more t [] = t ∷ []
-  more t (y ∷ ys) = t ∷ split (λ x. eqb x c) ys
-
-  first-more : (x : ℕ) (t r : List ℕ) → consFirst x (more t r) ≡ more (x ∷ t) r
-  first-more x t [] = refl
-  first-more x t (y ∷ ys) = refl
-
-  pub split-span : (xs : List ℕ) → split (λ x. eqb x c) xs ≡ more (span (apart c) xs .front) (span (apart c) xs .rest)
-  split-span [] = refl
-  split-span (x ∷ xs) = by (eqb x c) (split-span xs)
-    where
-      by : (b : Bool) → split (λ x. eqb x c) xs ≡ more (span (apart c) xs .front) (span (apart c) xs .rest)
-          → parting b x (split (λ x. eqb x c) xs) ≡ more (spanning (not b) x xs (span (apart c) xs) .front) (spanning (not b) x xs (span (apart c) xs) .rest)
-      by true ih = refl
-      by false ih = rw (ih) (first-more x (span (apart c) xs .front) (span (apart c) xs .rest))
-
-part : (s : List ℕ) (i k e : ℕ) → i + k ≤ e → take k (slice i e s) ≡ slice i (i + k) s
-part s i k e h =
-    let q : i + k - i ≡ k = omega arith in
-    ap (λ m. take m (slice i e s)) (sym q) ∙ lent (take e s) i (i + k) (omega arith) ∙ ap (drop i) (take-take (i + k) e s h)
-
 module _ (c : ℕ) (s : List ℕ) (j e z : ℕ) (h : j ≤ e) (l : e ≤ length s) (q : z ≡ partEnd c s j e) where
   pub within : (j ≤ z) × (z ≤ e)
   within = (omega arith, omega (arith, front-within (apart c) s j e h l))
@@ -53,14 +31,14 @@ module _ (c : ℕ) (s : List ℕ) (j e z : ℕ) (h : j ≤ e) (l : e ≤ length 
       sym (span-front (apart c) (slice j e s)) ∙ part s j (length (span (apart c) (slice j e s) .front)) e (front-within (apart c) s j e h l)
       ∙ ap (λ k. slice j k s) (sym q)
 
-  pub split-parts : splitOn c (slice j e s) ≡ more c (slice j z s) (slice z e s)
-  split-parts = split-span c (slice j e s) ∙ ap (λ t. more c t (span (apart c) (slice j e s) .rest)) front ∙ ap (more c (slice j z s)) (sym (ap (λ k. slice k e s) q ∙ front-rest (apart c) s j e))
+  split-parts : splitOn c (slice j e s) ≡ slice j z s ∷ cut-rest c (slice z e s)
+  split-parts = cut-first c (slice j e s) ∙ ap (λ t. t ∷ cut-rest c (span (apart c) (slice j e s) .rest)) front ∙ ap (λ r. slice j z s ∷ cut-rest c r) (sym (ap (λ k. slice k e s) q ∙ front-rest (apart c) s j e))
 
   pub split-last : e ≤ z → splitOn c (slice j e s) ≡ slice j z s ∷ []
-  split-last m = split-parts ∙ ap (more c (slice j z s)) (no-octet s z e m)
+  split-last m = split-parts ∙ ap (λ r. slice j z s ∷ cut-rest c r) (no-octet s z e m)
 
   pub split-next : z < e → splitOn c (slice j e s) ≡ slice j z s ∷ splitOn c (slice (z + 1) e s)
-  split-next m = split-parts ∙ ap (more c (slice j z s)) (next s z e m l)
+  split-next m = split-parts ∙ ap (λ r. slice j z s ∷ cut-rest c r) (next s z e m l)
 
 -- joined parts
 joined-next : (w : ℕ) (xs : List ℕ) (o : Option (List (List ℕ))) → joined (suc w) (consBoth (some xs) o) ≡ after xs (joined w o)
@@ -77,24 +55,16 @@ joined-zero (some xs) none = refl
 joined-zero (some xs) (some l) = rw (eqb·suc-zero (length l))
 
 module _ (c : ℕ) (p : List ℕ → Option (List ℕ)) where
-  more-none : (w : ℕ) (t r : List ℕ) → p t ≡ none → joined w (eachOf p (more c t r)) ≡ none
-  more-none w t [] h = rw h
-  more-none w t (y ∷ ys) h = rw h
-
-  more-zero : (t r : List ℕ) → joined 0 (eachOf p (more c t r)) ≡ none
-  more-zero t [] = joined-zero (p t) (some [])
-  more-zero t (y ∷ ys) = joined-zero (p t) (eachOf p (split (λ x. eqb x c) ys))
-
-  pub none-left : (t : List ℕ) → partsBy c p 0 t ≡ none
+  none-left : (t : List ℕ) → partsBy c p 0 t ≡ none
   unfolding partsBy
-  none-left t = rw (split-span c t) (more-zero (span (apart c) t .front) (span (apart c) t .rest))
+  none-left t = rw (cut-first c t) (joined-zero (p (span (apart c) t .front)) (eachOf p (cut-rest c (span (apart c) t .rest))))
 
   module _ (s : List ℕ) (j e z : ℕ) (h : j ≤ e) (l : e ≤ length s) (q : z ≡ partEnd c s j e) where
-    pub part-fault : (w : ℕ) → p (slice j z s) ≡ none → partsBy c p w (slice j e s) ≡ none
+    part-fault : (w : ℕ) → p (slice j z s) ≡ none → partsBy c p w (slice j e s) ≡ none
     unfolding partsBy
-    part-fault w f = ap (λ ts. joined w (eachOf p ts)) (split-parts c s j e z h l q) ∙ more-none w (slice j z s) (slice z e s) f
+    part-fault w f = ap (λ ts. joined w (eachOf p ts)) (split-parts c s j e z h l q) ∙ rw f
 
-    pub part-next : (k : ℕ) (xs : List ℕ) → 0 < k → z < e → p (slice j z s) ≡ some xs → partsBy c p k (slice j e s) ≡ after xs (partsBy c p (k - 1) (slice (z + 1) e s))
+    part-next : (k : ℕ) (xs : List ℕ) → 0 < k → z < e → p (slice j z s) ≡ some xs → partsBy c p k (slice j e s) ≡ after xs (partsBy c p (k - 1) (slice (z + 1) e s))
     unfolding partsBy
     part-next k xs g m f =
         let r : k ≡ suc (k - 1) = omega arith in
@@ -105,10 +75,10 @@ module _ (c : ℕ) (p : List ℕ → Option (List ℕ)) where
     unfolding partsBy
     part-one k xs m f = ap (λ ts. joined k (eachOf p ts)) (split-last c s j e z h l q m) ∙ ap (λ o. joined k (consBoth o (some []))) f
 
-    pub part-last : (k : ℕ) (xs : List ℕ) → k ≡ 1 → e ≤ z → p (slice j z s) ≡ some xs → partsBy c p k (slice j e s) ≡ after xs (some [])
+    part-last : (k : ℕ) (xs : List ℕ) → k ≡ 1 → e ≤ z → p (slice j z s) ≡ some xs → partsBy c p k (slice j e s) ≡ after xs (some [])
     part-last k xs g m f = part-one k xs m f ∙ ap (λ n. provided (eqb 1 n) (xs ++ [])) g
 
-    pub part-few : (k : ℕ) (xs : List ℕ) → (k ≡ 1 → ⊥) → e ≤ z → p (slice j z s) ≡ some xs → partsBy c p k (slice j e s) ≡ none
+    part-few : (k : ℕ) (xs : List ℕ) → (k ≡ 1 → ⊥) → e ≤ z → p (slice j z s) ≡ some xs → partsBy c p k (slice j e s) ≡ none
     part-few k xs g m f = part-one k xs m f ∙ ap (λ b. provided b (xs ++ [])) (ne-eqb 1 k (λ r. g (sym r)))
 
 -- one step of a reader: the part up to z was read, or it was not

@@ -1,17 +1,17 @@
 -- The parts of an address.
-use Prim.Native.Nat.{ℕ, _+_, _-_}
+use Prim.Native.Nat.{ℕ, _-_}
 use Prim.Native.Char.{code}
 use mathlib.Core.Bool.{Bool, false, not, cond}
 use mathlib.Core.List.{List, [], _∷_}
 use mathlib.Core.Option.{Option, some}
 use lib.Dec.{ltb, eqb}
 use lib.ListN.{length}
-use lib.Seq.{slice}
-use Rattle.format.specs.Lists.{_>>=_, provided, eachOf, flat, span}
+use Rattle.format.specs.Lists.{_>>=_, provided, eachOf, flat}
 use Rattle.format.specs.Octets.{splitOn}
 use Rattle.format.specs.Digits.{digits, number, digitValue}
 use Rattle.format.specs.Hex.{hexPair}
 use Rattle.format.specs.Address.{smallNumber, groupOf}
+use Rattle.octets.specs.Octets.{frontEnd}
 use Rattle.read_address.specs.declared.part.Form.{Form}
 use Rattle.read_address.specs.declared.part.Form.the-variants.{Pair, Small, Group}
 
@@ -36,7 +36,7 @@ abbrev pub apart : ℕ → ℕ → Bool
 apart c x = not (eqb x c)
 
 abbrev pub partEnd : ℕ → List ℕ → ℕ → ℕ → ℕ
-partEnd c t i e = i + length (span (apart c) (slice i e t) .front)
+partEnd c t i e = frontEnd (apart c) t i e
 
 -- a part by its form
 abbrev pub markOf : Form → ℕ

@@ -1,7 +1,7 @@
 -- Base 64 of all the tokens that are left: its alphabet, its padding, and what any other octet does.
 use Prim.Native.Nat.{ℕ, zero, suc, _+_, _*_, _-_, _%_, _≤_, _<_}
 use mathlib.Core.Path.{_≡_, refl, sym, ap, subst, _∙_}
-use mathlib.Core.Bool.{Bool, true, false, not, cond, _&&_, _||_}
+use mathlib.Core.Bool.{Bool, true, false, not, cond, _||_, and-false}
 use mathlib.Core.List.{List, [], _∷_, _++_, append-nil}
 use mathlib.Core.Option.{Option, none, some}
 use native.Mathlib.Omega.{arith}
@@ -98,10 +98,6 @@ chars-pass [] ds e = refl
 chars-pass (x ∷ xs) ds e = let q = each-first base64Value x xs ds e in rw (char-passes x (q .0) (q .2)) (chars-pass xs (q .1) (q .3))
 
 -- an octet that is not `=` is no padding
-and-false : (b : Bool) → b && false ≡ false
-and-false true = refl
-and-false false = refl
-
 no-padding : (us : List ℕ) (x : ℕ) (vs : List ℕ) (k : ℕ) → eqb x 61 ≡ false → sameOctets (us ++ x ∷ vs) (replicate k 61) ≡ false
 no-padding [] x vs zero h = refl
 no-padding [] x vs (suc k) h = rw h

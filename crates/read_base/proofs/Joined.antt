@@ -1,20 +1,20 @@
 -- All the tokens of a text, joined: for a reader that an octet other than its own makes fail, they are the text without blanks.
-use Prim.Native.Nat.{ℕ, zero, suc, _+_, _≤_, _<_}
-use mathlib.Core.Path.{_≡_, refl, sym, ap, subst, _∙_}
-use mathlib.Core.Bool.{Bool, true, false, not, cond, _&&_, _||_}
-use mathlib.Core.List.{List, [], _∷_, _++_, append-assoc, append-nil}
+use Prim.Native.Nat.{ℕ, _+_, _≤_, _<_}
+use mathlib.Core.Path.{_≡_, refl, sym, ap, _∙_}
+use mathlib.Core.Bool.{Bool, true, false, not, cond, _&&_}
+use mathlib.Core.List.{List, [], _∷_, _++_, append-assoc}
 use mathlib.Core.Option.{Option, none, some}
 use native.Mathlib.Omega.{arith}
 use lib.Dec.{eqb}
 use lib.ListN.{length}
 use Rattle.format.specs.Lists.{_>>=_, consBoth, eachOf, null, flat}
 use Rattle.format.specs.Octets.{blank}
-use Rattle.format.specs.Token.{Token, bare, quoted, broken, Scan, between, inBare, inQuotes, closed, keep, skip, endBare, endQuoted, breaks, textOctet, quoteMark, guarded, bareOctet, scanStep, scanEnd, intoFirst, afterScan, scanned, tokens}
+use Rattle.format.specs.Token.{Token, bare, quoted, broken, Scan, between, inBare, inQuotes, closed, keep, skip, endBare, endQuoted, breaks, textOctet, quoteMark, guarded, scanStep, intoFirst, afterScan, scanned, tokens}
 use Rattle.format.specs.Text.{notEmpty}
 use Rattle.format.specs.Run.{Got, noToken, badToken, got, gotOr, bareOf, joinedBares}
-use Rattle.format.proofs.Lists.{and-left, and-right, or-left, not-true}
-use Rattle.format.proofs.Token.{plainly, in-bare}
-use Rattle.read_group.specs.Group.{without, after}
+use Rattle.format.proofs.Token.{plainly, in-bare, from-between}
+use Rattle.read_group.specs.Group.{without}
+use Rattle.writing.specs.Writing.{after}
 
 -- the octets of tokens, where all are bare
 abbrev joined : List Token → Option (List ℕ)
@@ -96,21 +96,6 @@ joined-other : (ts : List Token) → OtherFirst ts → joined ts ≡ none
 joined-other ts (quoted-first t us) = refl
 joined-other ts (other-broken us) = refl
 
-module _ (x : ℕ) (h : plainly x ≡ true) where
-  not-blank : blank x ≡ false
-  not-blank = not-true (blank x) (and-left (not (blank x)) (textOctet x) (and-left (not (blank x) && textOctet x) (not (guarded x)) (and-left (not (blank x) && textOctet x && not (guarded x)) (not (eqb x 92)) h)))
-
-  not-quote : quoteMark x ≡ false
-  not-quote =
-      or-left (quoteMark x) (eqb x 59) (or-left (quoteMark x || eqb x 59) (eqb x 40) (or-left (quoteMark x || eqb x 59 || eqb x 40) (eqb x 41)
-      (not-true (guarded x) (and-right (not (blank x) && textOctet x) (not (guarded x)) (and-left (not (blank x) && textOctet x && not (guarded x)) (not (eqb x 92)) h)))))
-
-  bare-octet : bareOctet x ≡ keep (inBare false)
-  bare-octet = rw not-blank at (in-bare x h)
-
-  from-between : scanStep between x ≡ keep (inBare false)
-  from-between = rw (not-blank, bare-octet, not-quote)
-
 -- between tokens, or in a bare one after no backslash
 abbrev place : Bool → Scan
 place true = inBare false
@@ -146,7 +131,7 @@ module _ (f : List ℕ → Option (List ℕ)) (good : ℕ → Bool) (plain : (x 
       ap (λ o. o >>= λ ys. f (p ++ ys)) (joined-into x (scanned (inBare false) s) (bare-scan false s)) ∙ good-into p x (joined (scanned (inBare false) s)) ∙ ih
       ∙ ap f (append-assoc p (x ∷ []) (without blank s))
 
-  pub reads : (b : Bool) (s p : List ℕ) → read-from p (scanned (place b) s) ≡ f (p ++ without blank s)
+  reads : (b : Bool) (s p : List ℕ) → read-from p (scanned (place b) s) ≡ f (p ++ without blank s)
   unfolding scanned
   reads true [] p = refl
   reads false [] p = refl

@@ -6,7 +6,7 @@ use mathlib.Core.List.{List, [], _∷_, _++_, append-assoc, append-nil}
 use mathlib.Core.Option.{Option, none, some}
 use native.Mathlib.Omega.{arith}
 use lib.ListN.{length, take, drop, getD}
-use lib.Seq.{slice, length-slice, take-length}
+use lib.Seq.{slice, length-slice}
 use lib.Dec.{eqb, ltb, leb}
 use borrow.Author.Tests.{eqb-true, leb-true, ltb-true, le-ltb}
 use Rattle.format.specs.Lists.{_>>=_, provided, consBoth, eachOf, span}
@@ -22,8 +22,7 @@ use Rattle.format.proofs.Token.{plainly, Plainly, in-bare}
 use Rattle.tokens.specs.Tokens.{partedOff}
 use Rattle.octets.specs.Octets.{numberOf}
 use Rattle.octets.specs.declared.Number.the-variants.{Value, Fault as NoValue}
-use Rattle.octets.proofs.Slices.{next}
-use Rattle.octets.proofs.Blocks.{slice-append}
+use Rattle.octets.proofs.Slices.{next, rest-parts}
 use Rattle.tokens.proofs.Scans.{bare-first}
 use Rattle.read_bitmap.specs.declared.NextType.the-variants.{Found, Fault}
 use Rattle.read_bitmap.specs.Reading.{typesRead, foundAt, typesBy, TypeWithin, PlainAt}
@@ -139,12 +138,9 @@ module _ (t : List ℕ) (i a e v : ℕ) (h : i ≤ length t) (p : a ≡ i + leng
   first : getD (slice a e t) 0 0 ≡ getD t a 0
   first = ap (λ (s : List ℕ). getD s 0 0) (next t a e later m)
 
-  parts : drop a t ≡ slice a e t ++ drop e t
-  parts = sym (ap (drop a) (take-length t)) ∙ slice-append t a e (length t) l m (omega arith) ∙ ap (λ (s : List ℕ). slice a e t ++ s) (ap (drop e) (take-length t))
-
   plain-token : tokens (drop i t) ≡ bare (slice a e t) ∷ tokens (drop e t)
   plain-token =
-      sym (bare-first t i a h p (omega (arith, later)) (rw first at (y .no-quote))) ∙ ap (scanned (inBare false)) parts ∙ plain-then (slice a e t) (drop e t) (y .plain) r
+      sym (bare-first t i a h p (omega (arith, later)) (rw first at (y .no-quote))) ∙ ap (scanned (inBare false)) (rest-parts t a e l m) ∙ plain-then (slice a e t) (drop e t) (y .plain) r
 
   pub plain-types : typesBy t (Found v e) ≡ typesRead (drop i t)
   plain-types = rw (plain-token, q)

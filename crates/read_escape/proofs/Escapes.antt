@@ -43,14 +43,10 @@ module _ (x v : ℕ) (e : v ≡ cond (digit x) (x - 48) 10) where
       by true f g = (f, g)
       by false f g = absurd (omega arith)
 
--- an octet that begins no escape, the end, and a backslash
+-- an octet that begins no escape, and a backslash
 pub plain-unescaped : (x : ℕ) (xs : List ℕ) → noEscape x ≡ true → unescapedFrom outside (x ∷ xs) ≡ consBoth (some (plain x)) (unescapedFrom outside xs)
 unfolding unescapedFrom
 plain-unescaped x xs h = rw (not-true (eqb x 92) h)
-
-pub nothing-unescaped : unescapedFrom outside [] ≡ some []
-unfolding unescapedFrom
-nothing-unescaped = refl
 
 pub slash-unescaped : (xs : List ℕ) → unescapedFrom outside (92 ∷ xs) ≡ unescapedFrom slash xs
 unfolding unescapedFrom

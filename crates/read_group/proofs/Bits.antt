@@ -2,27 +2,26 @@
 use Prim.Native.Nat.{ℕ, zero, suc, _+_, _*_, _-_, _/_, _%_, _^_, _≤_, _<_}
 use mathlib.Core.Path.{_≡_, refl, sym, ap, subst, _∙_}
 use mathlib.Core.Bool.{_&&_}
-use mathlib.Core.List.{List, [], _∷_, _++_, append-assoc, append-nil}
+use mathlib.Core.List.{List, [], _∷_, _++_, append-nil}
 use mathlib.Core.Option.{Option, none, some}
 use native.Mathlib.Omega.{arith}
 use native.Mathlib.Numerals.{add-one}
-use native.Mathlib.Nat.{pow-suc, pow-zero, mul-assoc, mul-suc, one-le-pow, mul-add-div-right, mul-add-mod-self-right, div-eq-of-lt, mod-eq-of-lt, mod-lt, add-zero, sub-zero, pow-le-pow-right, mul-le-mul-right}
-use lib.Pow.{pow-add}
+use native.Mathlib.Nat.{pow-suc, pow-zero, one-le-pow, mul-add-div-right, mul-add-mod-self-right, div-eq-of-lt, mod-eq-of-lt, mod-lt, add-zero, sub-zero, pow-le-pow-right, mul-le-mul-right}
 use lib.Dec.{ltb, eqb}
-use lib.ListN.{length, take, drop, length-append, length-take, length-drop, take-append-drop}
-use Rattle.format.specs.Lists.{_>>=_, provided, consBoth}
+use lib.ListN.{length, take, drop, length-take, length-drop, take-append-drop}
+use Rattle.format.specs.Lists.{provided, consBoth}
 use Rattle.format.specs.Octets.{Below, Octets}
 use Rattle.format.specs.Digits.{digits, numberFrom, number}
 use Rattle.format.specs.Base.{bits, wholeOctets, fromDigits}
 use Rattle.format.proofs.Lists.{below-take, below-drop}
-use Rattle.format.proofs.Digits.{digits-below, digits-length, number-digits, digits-number, number-bound}
+use Rattle.format.proofs.Digits.{digits-below, digits-length, number-digits, digits-number, number-bound, number-append}
 use Rattle.format.proofs.Base.{bits-below, bits-length}
 use Rattle.put_digits.proofs.Hex.{flat-append}
-use Rattle.put_digits.proofs.Bits.{number-append, bits-number, power, regrouped}
+use Rattle.put_digits.proofs.Bits.{bits-number, power, regrouped}
 use borrow.Author.Tests.{lt-ltb, le-ltb, ne-eqb}
-use Rattle.writing.specs.Writing.{Wrote, Values}
+use Rattle.writing.specs.Writing.{Wrote, Values, after}
 use Rattle.writing.specs.declared.Value.the-variants.{Upto}
-use Rattle.read_group.specs.Group.{after}
+use Rattle.writing.proofs.Values.{after-none}
 
 pub number-last : (b : ℕ) (ds : List ℕ) (d : ℕ) → number b (ds ++ d ∷ []) ≡ number b ds * b + d
 number-last b ds d = number-append b 0 ds (d ∷ [])
@@ -72,10 +71,6 @@ octet-whole w v [] r h = absurd (omega arith)
 octet-whole w v (b ∷ []) r h = refl
 octet-whole w v (b ∷ c ∷ bs) r h = octet-whole w (v * 2 + b) (c ∷ bs) r (omega arith)
 
-pub after-none : (o : Option (List ℕ)) → after [] o ≡ o
-after-none none = refl
-after-none (some ys) = refl
-
 octets-whole : (w : ℕ) (xs r : List ℕ) → Octets xs → wholeOctets w 8 0 (bits 8 xs ++ r) ≡ after xs (wholeOctets w 8 0 r)
 octets-whole w [] r h = sym (after-none (wholeOctets w 8 0 r))
 octets-whole w (x ∷ xs) r h =
@@ -91,7 +86,7 @@ left-over w (suc zero) v (b ∷ bs) h = absurd (omega arith)
 left-over w (suc (suc m)) v (b ∷ bs) h = let q : suc (suc m) - suc (length bs) ≡ suc m - length bs = omega arith in rw q (left-over w (suc m) (v * 2 + b) bs (omega arith))
 
 -- the octets of a number's bits
-pub number-octets : (w l v o z : ℕ) → l ≡ 8 * o + z → z < 8 → v < 2 ^ l → wholeOctets w 8 0 (digits 2 l v) ≡ after (digits 256 o (v / 2 ^ z)) (provided (ltb z w && eqb (v % 2 ^ z) 0) [])
+number-octets : (w l v o z : ℕ) → l ≡ 8 * o + z → z < 8 → v < 2 ^ l → wholeOctets w 8 0 (digits 2 l v) ≡ after (digits 256 o (v / 2 ^ z)) (provided (ltb z w && eqb (v % 2 ^ z) 0) [])
 number-octets w l v o z e h s =
     let bs : List ℕ = digits 2 l v in
     let u : ℕ = v % 2 ^ z in

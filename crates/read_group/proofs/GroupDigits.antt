@@ -1,33 +1,32 @@
 -- Digits taken from a text by an alphabet, and their octets, group by group.
-use Prim.Native.Nat.{ℕ, zero, suc, _+_, _*_, _-_, _/_, _%_, _^_, _≤_, _<_}
+use Prim.Native.Nat.{ℕ, suc, _+_, _*_, _-_, _^_, _≤_, _<_}
 use mathlib.Core.Path.{_≡_, refl, sym, ap, subst, _∙_}
 use mathlib.Core.Bool.{Bool, true, false, cond}
 use mathlib.Core.List.{List, [], _∷_, _++_, append-assoc, append-nil}
 use mathlib.Core.Option.{Option, none, some}
 use native.Mathlib.Omega.{arith}
 use native.Mathlib.Nat.{lt-of-lt-of-le, pow-le-pow-right, pow-le-pow-left, le-trans, mul-suc, mul-le-mul-left}
-use native.Mathlib.Numerals.{add-one}
-use lib.Dec.{ltb, eqb}
-use lib.ListN.{length, take, drop, getD, set, length-append}
-use lib.Seq.{slice, sets, take-take, take-add, drop-append-le, length-take-le, length-slice}
-use borrow.Author.Tests.{lt-ltb, le-ltb, eq-eqb, ne-eqb}
-use Rattle.format.specs.Lists.{_>>=_, provided, consBoth, eachOf, spanning, span}
+use lib.ListN.{length, take, drop, getD, length-append}
+use lib.Seq.{slice, take-take}
+use borrow.Author.Tests.{lt-ltb, le-ltb, ne-eqb}
+use Rattle.format.specs.Lists.{_>>=_, consBoth, eachOf, spanning, span}
 use Rattle.format.specs.Octets.{Below}
 use Rattle.format.specs.Digits.{digits, number}
-use Rattle.format.specs.Base.{bits, wholeOctets, fromDigits}
+use Rattle.format.specs.Base.{wholeOctets, fromDigits}
 use Rattle.format.proofs.Lists.{below-append}
 use Rattle.format.proofs.Digits.{digits-length, number-bound}
-use Rattle.writing.specs.Writing.{Wrote, Values}
+use Rattle.writing.specs.Writing.{Wrote, Values, after}
 use Rattle.writing.specs.declared.Value.{Value}
 use Rattle.writing.specs.declared.Value.the-variants.{Fault, Upto}
 use Rattle.writing.proofs.Laws.{wrote-none, wrote-append}
-use Rattle.octets.proofs.Slices.{next, none as no-octet, lent, span-front, front-within, front-rest}
+use Rattle.writing.proofs.Values.{after-none, after-after}
+use Rattle.octets.proofs.Slices.{next, none as no-octet, lent, span-front, front-within, front-rest, stopped}
 use Rattle.octets.proofs.Blocks.{slice-append}
-use Rattle.read_group.specs.Group.{charValue, leftOut, keptFrom, without, digitsBy, octetsBy, after, Grouping, Stops, Taken, Begun}
-use Rattle.read_group.proofs.Bits.{number-last, digits-bits, digits-bound, group-octets, after-none}
+use Rattle.read_group.specs.Group.{charValue, leftOut, keptFrom, without, digitsBy, octetsBy, Grouping, Stops, Taken, Begun}
+use Rattle.read_group.proofs.Bits.{number-last, digits-bits, digits-bound, group-octets}
 
 -- a number of a few digits has room for another
-pub few-digits : (base q v : ℕ) → base ≤ 64 → q < 8 → v < base ^ q → v < 2 ^ 42
+few-digits : (base q v : ℕ) → base ≤ 64 → q < 8 → v < base ^ q → v < 2 ^ 42
 few-digits base q v h k l =
     let a : base ^ q ≤ 64 ^ q = pow-le-pow-left h q in
     let b : 64 ^ q ≤ 64 ^ 7 = let j : q ≤ 7 = omega arith in pow-le-pow-right (omega arith) j in
@@ -50,14 +49,6 @@ module _ (f : ℕ → Bool) where
       by true e ih = rw e ih
       by false e ih = refl
 
-  rest-head : (xs : List ℕ) (y : ℕ) (ys : List ℕ) → span f xs .rest ≡ y ∷ ys → f y ≡ false
-  rest-head [] y ys e = cc
-  rest-head (x ∷ xs) y ys e = by (f x) refl (rest-head xs y ys) e
-    where
-      by : (b : Bool) → f x ≡ b → (span f xs .rest ≡ y ∷ ys → f y ≡ false) → spanning b x xs (span f xs) .rest ≡ y ∷ ys → f y ≡ false
-      by true p ih q = ih q
-      by false p ih q = let z : x ≡ y = cc in ap f (sym z) ∙ p
-
   module _ (t : List ℕ) (i e j : ℕ) (h : i ≤ e) (l : e ≤ length t) (p : j ≡ i + length (span f (slice i e t) .front)) where
     pub run-within : (i ≤ j) × (j ≤ e)
     run-within = (omega arith, omega (arith, front-within f t i e h l))
@@ -71,7 +62,7 @@ module _ (f : ℕ → Bool) where
     run-out = ap (without f) (sym run-is) ∙ without-front (slice i e t)
 
     pub run-stops : j < e → f (getD t j 0) ≡ false
-    run-stops k = rest-head (slice i e t) (getD t j 0) (slice (j + 1) e t) (sym (front-rest f t i e) ∙ ap (λ m. slice m e t) (sym p) ∙ next t j e k l)
+    run-stops k = stopped f (slice i e t) (getD t j 0) (slice (j + 1) e t) (sym (front-rest f t i e) ∙ ap (λ m. slice m e t) (sym p) ∙ next t j e k l)
 
     -- what is left out stands before the first that is not
     pub run-skipped : without f (slice i e t) ≡ without f (slice j e t)
@@ -233,10 +224,6 @@ module _ (a : List ℕ) (skip base : ℕ) (t : List ℕ) where
         stops = λ m n. absurd (omega arith);
       })
 
-after-after : (xs ys : List ℕ) (o : Option (List ℕ)) → after xs (after ys o) ≡ after (xs ++ ys) o
-after-after xs ys none = refl
-after-after xs ys (some zs) = ap some (sym (append-assoc xs ys zs))
-
 module _ (o₀ : List ℕ) (n : ℕ) (a : List ℕ) (skip w base k g : ℕ) (u : Grouping w base k g) (t : List ℕ) (i e : ℕ) (h : i ≤ e) (l : e ≤ length t) where
   pub begun-none : (j q v : ℕ) → Taken a skip base t i e k j q v → Begun o₀ o₀ n a skip w base t i e k j n q v
   begun-none j q v s = record {
@@ -296,7 +283,7 @@ module _ (o₀ : List ℕ) (n : ℕ) (a : List ℕ) (skip w base k g : ℕ) (u :
         subst (λ x. x < 2 ^ (w * q)) z (subst (λ x. number (2 ^ w) (b .ds) < 2 ^ (w * x)) (b .long) (digits-bound w (b .ds) d))
 
     -- all of the digits have been taken, or another octet stands before the end
-    pub begun-digits : fromDigits w (b .all) ≡ after (b .xs) (wholeOctets w 8 0 (digits 2 (w * q) v))
+    begun-digits : fromDigits w (b .all) ≡ after (b .xs) (wholeOctets w 8 0 (digits 2 (w * q) v))
     begun-digits =
         let d : Below (2 ^ w) (b .ds) = subst (λ x. Below x (b .ds)) (u .based) (b .below) in
         let z : number (2 ^ w) (b .ds) ≡ v = ap (λ x. number x (b .ds)) (sym (u .based)) ∙ b .is in

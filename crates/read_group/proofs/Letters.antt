@@ -1,12 +1,12 @@
 -- The alphabet of digits and letters against the definitions, and a count before octets.
-use Prim.Native.Nat.{ℕ, zero, suc, _+_, _*_, _-_, _%_, _≤_, _<_}
-use mathlib.Core.Path.{_≡_, refl, sym, ap, ap₂, subst, _∙_}
+use Prim.Native.Nat.{ℕ, suc, _+_, _-_, _%_, _≤_, _<_}
+use mathlib.Core.Path.{_≡_, refl, sym, ap, subst, _∙_}
 use mathlib.Core.Bool.{Bool, true, false, not, cond}
 use mathlib.Core.List.{List, [], _∷_}
 use mathlib.Core.Option.{Option, none, some}
 use native.Mathlib.Omega.{arith}
 use lib.Dec.{eqb, ltb}
-use lib.ListN.{length, getD, set, take, drop}
+use lib.ListN.{length, getD, set, take}
 use lib.Seq.{slice}
 use borrow.Author.Tests.{le-leb, lt-leb, eqb-true, ltb-true}
 use Rattle.format.specs.Lists.{_>>=_, provided, consBoth, eachOf}
@@ -18,14 +18,14 @@ use Rattle.format.specs.Hex.{hexPair, fromHex, readCountedHex}
 use Rattle.format.specs.Base.{readBase32}
 use Rattle.format.proofs.Lists.{below-take, below-drop, not-true}
 use Rattle.format.proofs.Finite.{allBelow, at-each}
-use Rattle.writing.specs.Writing.{Wrote, Values}
-use Rattle.writing.specs.declared.Value.the-variants.{Fault, Upto}
+use Rattle.writing.specs.Writing.{Values, after}
+use Rattle.writing.specs.declared.Value.the-variants.{Upto}
 use Rattle.writing.proofs.Laws.{wrote-before}
-use Rattle.read_group.specs.Group.{charValue, leftOut, without, digitsBy, octetsBy, after, letters, countedBy}
+use Rattle.read_group.specs.Group.{charValue, leftOut, without, octetsBy, letters, countedBy}
 use Rattle.read_group.proofs.Bits.{group-octets}
 
 -- a list whose numbers are octets at each place
-pub octets-each : (s : List ℕ) → ((k : ℕ) → getD s k 0 < 256) → Octets s
+octets-each : (s : List ℕ) → ((k : ℕ) → getD s k 0 < 256) → Octets s
 octets-each [] h = tt
 octets-each (x ∷ s) h = (h 0, octets-each s (λ k. h (suc k)))
 

@@ -7,12 +7,13 @@ use mathlib.Core.Option.{Option, none, some}
 use lib.ListN.{length, getD}
 use lib.Seq.{slice}
 use lib.Dec.{ltb, eqb}
-use Rattle.format.specs.Lists.{_>>=_, provided, eachOf, span}
+use Rattle.format.specs.Lists.{_>>=_, provided, eachOf}
 use Rattle.format.specs.Octets.{Below, blank}
 use Rattle.format.specs.Digits.{number, digitValue}
 use Rattle.format.specs.Text.{counted}
 use Rattle.format.specs.Base.{fromDigits, base64Value}
-use Rattle.writing.specs.Writing.{Wrote}
+use Rattle.writing.specs.Writing.{Wrote, after}
+use Rattle.octets.specs.Octets.{frontEnd}
 
 -- a digit below the base
 abbrev pub charValue : List ℕ → ℕ → ℕ → Option ℕ
@@ -22,7 +23,7 @@ abbrev pub leftOut : List ℕ → ℕ → ℕ → Bool
 leftOut a skip x = eqb (getD a x 0) skip
 
 abbrev pub keptFrom : List ℕ → ℕ → List ℕ → ℕ → ℕ → ℕ
-keptFrom a skip t i e = i + length (span (leftOut a skip) (slice i e t) .front)
+keptFrom a skip t i e = frontEnd (leftOut a skip) t i e
 
 -- the elements that do not pass
 abbrev pub without : (ℕ → Bool) → List ℕ → List ℕ
@@ -34,10 +35,6 @@ digitsBy a skip base s = eachOf (charValue a base) (without (leftOut a skip) s)
 
 abbrev pub octetsBy : List ℕ → ℕ → ℕ → ℕ → List ℕ → Option (List ℕ)
 octetsBy a skip w base s = digitsBy a skip base s >>= fromDigits w
-
--- octets before those of a value
-abbrev pub after : List ℕ → Option (List ℕ) → Option (List ℕ)
-after xs o = o >>= λ ys. some (xs ++ ys)
 
 -- digits of w bits in base 2 ^ w, of which k are g octets
 pub record Grouping (w base k g : ℕ) : Type 0 where
@@ -90,20 +87,20 @@ abbrev pub numbered : (ℕ → ℕ) → ℕ → ℕ → List ℕ
 numbered f x zero = []
 numbered f x (suc n) = f x ∷ numbered f (x + 1) n
 
-abbrev pub orElse : Option ℕ → ℕ → ℕ
-orElse none d = d
-orElse (some x) d = x
+abbrev pub orNumber : Option ℕ → ℕ → ℕ
+orNumber none d = d
+orNumber (some x) d = x
 
 -- 0 to 9, then letters in either case
 abbrev pub letterNumber : ℕ → ℕ
-letterNumber x = cond (blank x) 64 (orElse (digitValue 32 x) 99)
+letterNumber x = cond (blank x) 64 (orNumber (digitValue 32 x) 99)
 
 unfoldable pub letters : List ℕ
 letters = numbered letterNumber 0 256
 
 -- RFC 4648's base 64 alphabet
 abbrev pub base64Number : ℕ → ℕ
-base64Number x = cond (blank x) 64 (orElse (base64Value x) 99)
+base64Number x = cond (blank x) 64 (orNumber (base64Value x) 99)
 
 unfoldable pub base64Numbers : List ℕ
 base64Numbers = numbered base64Number 0 256

@@ -1,7 +1,7 @@
 -- A name gone through label by label is what the definition, which works on all its pieces, gives.
 use Prim.Native.Nat.{ℕ, _+_, _-_, _≤_, _<_}
 use mathlib.Core.Path.{_≡_, refl, sym, ap, subst, _∙_}
-use mathlib.Core.Bool.{Bool, true, false, cond, _&&_}
+use mathlib.Core.Bool.{Bool, true, false, cond, _&&_, and-false}
 use mathlib.Core.List.{List, [], _∷_, _++_, map, append-assoc, append-nil}
 use mathlib.Core.Option.{Option, none, some}
 use native.Mathlib.Omega.{arith}
@@ -15,7 +15,8 @@ use Rattle.format.specs.Token.{Item, plain, escape, octetOf, slash, unescapedFr
 use Rattle.format.specs.Text.{withCount}
 use Rattle.format.specs.Name.{isDot, labelBefore, wireName, readName}
 use Rattle.format.proofs.Lists.{split-some, map-some, map-first}
-use Rattle.writing.specs.Writing.{Wrote, Values}
+use Rattle.format.proofs.Token.{none-left as nothing-unescaped}
+use Rattle.writing.specs.Writing.{Wrote, Values, after}
 use Rattle.writing.specs.declared.Value.{Value}
 use Rattle.writing.specs.declared.Value.the-variants.{Fault, Upto}
 use Rattle.writing.proofs.Laws.{wrote-none, wrote-one, wrote-append, wrote-before, wrote-length}
@@ -26,8 +27,8 @@ use Rattle.read_name.specs.declared.LabelEnd.{LabelEnd}
 use Rattle.read_name.specs.declared.LabelEnd.the-variants.{Fault as NoLabel, Dot, Last}
 use Rattle.read_escape.specs.Escapes.{itemsBy, EndsWithin}
 use Rattle.read_name.specs.Name.{sole, labelsOf, spelled, limited, limitedEnd, OneItem, BeforeDot, BeforeOrigin, Labelled, nameEnd, Finished}
-use Rattle.writing.proofs.Values.{after, Begun, begun-fault, begun-piece, begun-rest}
-use Rattle.read_escape.proofs.Escapes.{plain-unescaped, nothing-unescaped, slash-unescaped}
+use Rattle.writing.proofs.Values.{Begun, begun-fault, begun-piece, begun-rest}
+use Rattle.read_escape.proofs.Escapes.{plain-unescaped, slash-unescaped}
 
 -- the pieces, item by item
 octet-first : (i : Item) (is : List Item) → isDot i ≡ false → labelsOf (i ∷ is) ≡ consFirst (octetOf i) (labelsOf is)
@@ -118,7 +119,7 @@ module _ (o : List ℕ) where
   named-last : (p : List ℕ) → 1 ≤ length p → named o p (some []) ≡ labelBefore p o
   named-last p h = ap (λ q. wireName (some o) (q ∷ [])) (append-nil p) ∙ last-wire p h
 
-  pub spelled-none : spelled o [] ≡ some (0 ∷ [])
+  spelled-none : spelled o [] ≡ some (0 ∷ [])
   unfolding wireName unescapedFrom
   spelled-none = refl
 
@@ -263,14 +264,10 @@ and-same : (a : Bool) → a && true ≡ a
 and-same true = refl
 and-same false = refl
 
-and-never : (a : Bool) → a && false ≡ false
-and-never true = refl
-and-never false = refl
-
 same-sole : (c : ℕ) (s : List ℕ) → eqb 0 c ≡ false → sameOctets s (c ∷ []) ≡ eqb (sole s) c
 same-sole c [] h = sym h
 same-sole c (x ∷ []) h = and-same (eqb x c)
-same-sole c (x ∷ y ∷ s) h = and-never (eqb x c) ∙ sym h
+same-sole c (x ∷ y ∷ s) h = and-false (eqb x c) ∙ sym h
 
 bind-limited : {A : Type 0} (x : Option A) (f : A → Option (List ℕ)) → limited (x >>= f) ≡ (x >>= λ a. limited (f a))
 bind-limited none f = refl

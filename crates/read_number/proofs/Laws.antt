@@ -1,12 +1,12 @@
 -- Laws of numbers that are read, and of their octets.
-use Prim.Native.Nat.{ℕ, zero, suc, _+_, _-_, _/_, _%_, _^_, _≤_, _<_}
+use Prim.Native.Nat.{ℕ, _+_, _-_, _^_, _≤_, _<_}
 use mathlib.Core.Path.{_≡_, refl, sym, ap, _∙_}
 use mathlib.Core.Bool.{Bool, true, false, not, _&&_, and-true}
-use mathlib.Core.List.{List, [], _∷_, map}
+use mathlib.Core.List.{List, [], _∷_}
 use mathlib.Core.Option.{Option, none, some}
 use native.Mathlib.Omega.{arith}
-use lib.ListN.{length, take, getD, set, length-take}
-use lib.Seq.{slice, sets, length-slice}
+use lib.ListN.{length, take, getD, length-take}
+use lib.Seq.{slice, length-slice}
 use lib.Dec.{eqb, leb}
 use borrow.Author.Tests.{ne-eqb, lt-ltb, le-ltb, le-leb, leb-true}
 use Rattle.format.specs.Lists.{_>>=_, orElse}
@@ -15,14 +15,12 @@ use Rattle.format.specs.Digits.{digits}
 use Rattle.format.specs.Field.{Symbol}
 use Rattle.format.specs.Number.{decimalOf, below, readInteger}
 use Rattle.format.specs.Rrtype.{typeNumber, readType}
-use Rattle.format.proofs.Digits.{digits-length}
 use Rattle.octets.specs.declared.Number.{Number}
 use Rattle.octets.specs.declared.Number.the-variants.{Value, Fault}
 use Rattle.octets.specs.Octets.{numberOf}
-use Rattle.octets.proofs.Slices.{next, none as nothing, rest}
+use Rattle.octets.proofs.Slices.{next, none as nothing, rest, part}
 use Rattle.octets.proofs.Numbers.{valueFrom, decimal-value, nothing-left}
-use Rattle.qualifiers.proofs.Laws.{part, same-length as word-length}
-use Rattle.writing.specs.Writing.{Wrote}
+use Rattle.qualifiers.proofs.Laws.{same-length as word-length}
 use Rattle.read_number.specs.Numbers.{octetsOf, integerOf}
 
 -- a number's octets
@@ -77,7 +75,7 @@ abbrev pub sameLetter : ℕ → ℕ → Bool
 sameLetter b c = eqb (lowered b) (lowered c)
 
 module _ (s : List ℕ) (i : ℕ) where
-  pub four-octets : i + 4 ≤ length s → slice i (i + 4) s ≡ getD s i 0 ∷ getD s (i + 1) 0 ∷ getD s (i + 2) 0 ∷ getD s (i + 3) 0 ∷ []
+  four-octets : i + 4 ≤ length s → slice i (i + 4) s ≡ getD s i 0 ∷ getD s (i + 1) 0 ∷ getD s (i + 2) 0 ∷ getD s (i + 3) 0 ∷ []
   four-octets h =
       let b : i + 1 + 1 ≡ i + 2 = omega arith in
       let c : i + 2 + 1 ≡ i + 3 = omega arith in

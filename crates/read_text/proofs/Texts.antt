@@ -13,8 +13,8 @@ use Rattle.format.specs.Lists.{_>>=_, consBoth, spanning, span}
 use Rattle.format.specs.Octets.{among}
 use Rattle.format.specs.Token.{bare, quoted, Item, plain, escape, octetOf, outside, slash, unescapedFrom}
 use Rattle.format.specs.Text.{stringValue, counted, notEmpty}
-use Rattle.format.proofs.Lists.{not-true}
-use Rattle.writing.specs.Writing.{Values}
+use Rattle.format.proofs.Token.{none-left as nothing-unescaped}
+use Rattle.writing.specs.Writing.{Values, after}
 use Rattle.writing.specs.declared.Value.the-variants.{Upto}
 use Rattle.writing.proofs.Laws.{wrote-before}
 use Rattle.octets.proofs.Slices.{next, none as no-octet, lent, span-front, front-within, front-rest}
@@ -23,8 +23,8 @@ use Rattle.read_escape.specs.declared.Escape.the-variants.{Fault, Octet}
 use Rattle.read_escape.specs.Escapes.{itemsBy, EndsWithin}
 use Rattle.read_escape.specs.Escapes.{noEscape}
 use Rattle.read_text.specs.Text.{tokenOf, plainEnd}
-use Rattle.writing.proofs.Values.{after, after-none, after-after}
-use Rattle.read_escape.proofs.Escapes.{plain-unescaped, nothing-unescaped, slash-unescaped}
+use Rattle.writing.proofs.Values.{after-none, after-after}
+use Rattle.read_escape.proofs.Escapes.{plain-unescaped, slash-unescaped}
 
 -- the octets of items
 abbrev octetsOf : Option (List Item) → Option (List ℕ)
@@ -76,7 +76,7 @@ rest-starts (x ∷ xs) = by (noEscape x) refl (rest-starts xs)
     by true e ih = ih
     by false e ih = rw e
 
-pub slash-at : (t : List ℕ) (j e : ℕ) → j < e → e ≤ length t → plainEnd t j e ≡ j → getD t j 0 ≡ 92
+slash-at : (t : List ℕ) (j e : ℕ) → j < e → e ≤ length t → plainEnd t j e ≡ j → getD t j 0 ≡ 92
 slash-at t j e h l p = by (eqb (getD t j 0) 92) refl (rw (next t j e h l) at p)
   where
     by : (b : Bool) → eqb (getD t j 0) 92 ≡ b → j + length (spanning (not b) (getD t j 0) (slice (j + 1) e t) (span noEscape (slice (j + 1) e t)) .front) ≡ j → getD t j 0 ≡ 92

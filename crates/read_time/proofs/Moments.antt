@@ -16,7 +16,7 @@ use Rattle.format.specs.Digits.{numberFrom, number, digitValue}
 use Rattle.format.specs.Number.{decimalOf}
 use Rattle.format.specs.Time.{leap, monthDays, monthLength, daysBefore, moment, digitsAt, momentOf, readTime}
 use Rattle.format.proofs.Lists.{and-left, and-right, provided-some, below-append, below-take, below-drop}
-use Rattle.format.proofs.Digits.{number-bound}
+use Rattle.format.proofs.Digits.{number-bound, number-append}
 use Rattle.format.proofs.Finite.{at-each}
 use Rattle.octets.specs.Octets.{numberOf}
 use Rattle.octets.specs.declared.Number.{Number}
@@ -141,16 +141,12 @@ module _ (year month day hour minute second : ℕ) where
 
 -- the number of some digits among others
 module _ (b : ℕ) where
-  number-on : (a : ℕ) (xs ys : List ℕ) → numberFrom b a (xs ++ ys) ≡ numberFrom b (numberFrom b a xs) ys
-  number-on a [] ys = refl
-  number-on a (x ∷ xs) ys = number-on (a * b + x) xs ys
-
   from-number : (a : ℕ) (ds : List ℕ) → numberFrom b a ds ≡ a * b ^ length ds + number b ds
   from-number a [] = rw (pow-zero b) (omega arith)
   from-number a (d ∷ ds) = rw (pow-suc b (length ds)) (omega (arith, from-number (a * b + d) ds, from-number (0 * b + d) ds))
 
   number-parts : (xs ys : List ℕ) → number b (xs ++ ys) ≡ number b xs * b ^ length ys + number b ys
-  number-parts xs ys = number-on 0 xs ys ∙ from-number (number b xs) ys
+  number-parts xs ys = number-append b 0 xs ys ∙ from-number (number b xs) ys
 
   module _ (ds : List ℕ) (h : Below b ds) (n q : ℕ) (e : length ds ≡ n + q) where
     back-length : length (drop n ds) ≡ q

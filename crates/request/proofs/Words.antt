@@ -6,8 +6,8 @@ use mathlib.Core.List.{List, [], _∷_, _++_, append-nil}
 use mathlib.Core.Option.{Option, none, some}
 use native.Mathlib.Omega.{arith}
 use native.Mathlib.Decide.{decLe}
-use lib.ListN.{length, take, drop, getD, take-append-drop}
-use lib.Seq.{slice, length-take-le, drop-append-le}
+use lib.ListN.{length, drop, getD}
+use lib.Seq.{slice}
 use lib.Dec.{eqb}
 use borrow.Author.Tests.{le-leb, lt-leb, eq-eqb, ne-eqb}
 use Rattle.format.specs.Lists.{_>>=_, provided, null}
@@ -15,7 +15,7 @@ use Rattle.format.specs.Octets.{splitOn}
 use Rattle.format.proofs.Lists.{split-some}
 use Rattle.format.proofs.Field.{Free, split-last, split-more}
 use Rattle.writing.proofs.Laws.{next as drop-next, none as drop-none}
-use Rattle.octets.proofs.Slices.{next, none as no-octet}
+use Rattle.octets.proofs.Slices.{next, none as no-octet, rest-parts}
 use Rattle.octets.proofs.Blocks.{slice-append}
 use Rattle.request.specs.Request.{Said, said}
 use Rattle.request.specs.declared.Span.{Span}
@@ -39,10 +39,6 @@ module _ (l : List ℕ) where
       rw (slice-append l i j (j + 1) h (omega arith) (omega arith), next l j (j + 1) (omega arith) (omega arith), no-octet l (j + 1) (j + 1) (omega arith))
       (free-more 32 (slice i j l) (getD l j 0) f e)
 
-  rest-parts : (i j : ℕ) → i ≤ j → j ≤ length l → drop i l ≡ slice i j l ++ drop j l
-  rest-parts i j h k =
-      ap (drop i) (sym (take-append-drop j l)) ∙ drop-append-le i (take j l) (drop j l) (omega (arith, length-take-le j l k))
-
   some-words : (end : ℕ) → end < length l → wordsAt l end ≡ splitOn 32 (drop (end + 1) l)
   some-words end h = rw (lt-leb (length l) end h)
 
@@ -52,7 +48,7 @@ module _ (l : List ℕ) where
   -- the word ends at a space, or with the line, or there is none
   pub at-space : (end to : ℕ) → end + 1 ≤ to → to < length l → getD l to 0 ≡ 32 → Free 32 (slice (end + 1) to l) → NextWord l end (record { from = end + 1; to = to })
   at-space end to h k e f = record {
-    words = λ m. some-words end m ∙ ap (splitOn 32) (rest-parts (end + 1) to h (omega arith) ∙ ap (λ t. slice (end + 1) to l ++ t) (drop-next l to k ∙ ap (λ x. x ∷ drop (to + 1) l) e))
+    words = λ m. some-words end m ∙ ap (splitOn 32) (rest-parts l (end + 1) to h (omega arith) ∙ ap (λ t. slice (end + 1) to l ++ t) (drop-next l to k ∙ ap (λ x. x ∷ drop (to + 1) l) e))
         ∙ split-more 32 (slice (end + 1) to l) (drop (to + 1) l) f ∙ ap (λ ws. slice (end + 1) to l ∷ ws) (sym (some-words to k));
     after = omega arith;
     ordered = h;
@@ -61,7 +57,7 @@ module _ (l : List ℕ) where
 
   pub at-end : (end to : ℕ) → end + 1 ≤ to → to ≤ length l → length l ≤ to → Free 32 (slice (end + 1) to l) → NextWord l end (record { from = end + 1; to = to })
   at-end end to h k e f = record {
-    words = λ m. some-words end m ∙ ap (splitOn 32) (rest-parts (end + 1) to h k ∙ ap (λ t. slice (end + 1) to l ++ t) (drop-none l to e) ∙ append-nil (slice (end + 1) to l))
+    words = λ m. some-words end m ∙ ap (splitOn 32) (rest-parts l (end + 1) to h k ∙ ap (λ t. slice (end + 1) to l ++ t) (drop-none l to e) ∙ append-nil (slice (end + 1) to l))
         ∙ split-last 32 (slice (end + 1) to l) f ∙ ap (λ ws. slice (end + 1) to l ∷ ws) (sym (no-words to e));
     after = omega arith;
     ordered = h;

@@ -1,13 +1,13 @@
 -- Laws of the first symbol that passes, among the pieces between commas.
-use Prim.Native.Nat.{ℕ, zero, suc, _+_, _-_, _^_, _≤_, _<_}
+use Prim.Native.Nat.{ℕ, _+_, _-_, _^_, _≤_, _<_}
 use Prim.Native.Char.{code}
 use mathlib.Core.Path.{_≡_, refl, sym, ap, _∙_}
 use mathlib.Core.Bool.{Bool, true, false, cond, _&&_}
 use mathlib.Core.List.{List, [], _∷_}
 use mathlib.Core.Option.{Option, none, some}
 use native.Mathlib.Omega.{arith}
-use lib.ListN.{length, take, drop, getD, length-take, length-drop}
-use lib.Seq.{slice, length-slice, take-nil}
+use lib.ListN.{length, take, getD, length-take, length-drop}
+use lib.Seq.{slice, length-slice}
 use lib.Dec.{eqb, ltb}
 use borrow.Author.Tests.{ne-eqb, eq-eqb, eqb-true, eqb-false}
 use Rattle.format.specs.Lists.{_>>=_, provided, orElse, consBoth, eachOf, null, Spanned}
@@ -16,8 +16,8 @@ use Rattle.format.specs.Number.{decimal, decimalOf, symbolOrDecimal, symbolValu
 use Rattle.format.specs.Field.{Part, Symbol}
 use Rattle.format.specs.Grammar.{Qualifier, word, symbol, after, ifQualifier, qualifier}
 use Rattle.format.specs.Types.{symbolOf}
-use Rattle.octets.specs.Octets.{partIn}
-use Rattle.octets.proofs.Slices.{next, none as nothing, frontEnd, front-within}
+use Rattle.octets.specs.Octets.{partIn, frontEnd}
+use Rattle.octets.proofs.Slices.{next, none as nothing, front-within}
 use Rattle.qualifiers.specs.Qualifiers.{piecesIn}
 use Rattle.qualifiers.proofs.Laws.{same-length, begins, named, notComma, last-piece, next-piece}
 use Rattle.types.specs.Types.{symbolsIn}
@@ -123,13 +123,6 @@ module _ (s : List ℕ) (a b v w : ℕ) (l : List Symbol) (e : symbolsIn w s a b
 
   pub found-text : (a ≡ b → ⊥) → (o : Option (List ℕ)) → o ≡ firstIn (nameFor v) s a b → orDecimal v o ≡ symbolOrDecimal l v
   found-text q o m = rw (m, among-symbols s a b w l e (nameFor v) q) (first-or-decimal v l)
-
--- the part that is lent to a writer
-pub lent : (i e : ℕ) (s : List ℕ) → i ≤ e → take (e - i) (drop i s) ≡ slice i e s
-lent zero e s h = let q : e - 0 ≡ e = omega arith in rw q
-lent (suc i) zero s h = absurd (omega arith)
-lent (suc i) (suc e) [] h = take-nil (suc e - suc i)
-lent (suc i) (suc e) (x ∷ s) h = let q : suc e - suc i ≡ e - i = omega arith in rw q (lent i e s (omega arith))
 
 -- a symbol's number, by what was found
 first-value : (t : List ℕ) (l : List Symbol) → firstOf (valueFor t) l ≡ symbolValue l t

@@ -1,15 +1,15 @@
 -- The longest front of a part whose octets pass a test, found piece by piece.
-use Prim.Native.Nat.{ℕ, _+_, _-_, _≤_, _<_}
-use mathlib.Core.Path.{_≡_, refl, sym, ap, _∙_}
-use mathlib.Core.Bool.{Bool, true, false, _&&_}
+use Prim.Native.Nat.{ℕ, _+_, _≤_, _<_}
+use mathlib.Core.Path.{_≡_, refl}
+use mathlib.Core.Bool.{Bool, true, false}
 use mathlib.Core.List.{List, [], _∷_, _++_}
 use native.Mathlib.Omega.{arith}
-use lib.ListN.{length, take, drop, getD}
-use lib.Seq.{slice, length-slice, take-add, drop-append-le, length-take-le}
-use Rattle.format.specs.Lists.{allOf, spanning, span}
-use Rattle.format.proofs.Lists.{and-left, and-right}
-use Rattle.octets.proofs.Slices.{frontEnd, front-within}
+use lib.ListN.{length}
+use lib.Seq.{slice, length-slice}
+use Rattle.format.specs.Lists.{spanning, span}
+use Rattle.octets.proofs.Slices.{front-within}
 use Rattle.octets.proofs.Blocks.{slice-append}
+use Rattle.octets.specs.Octets.{frontEnd}
 
 module _ (f : ℕ → Bool) where
   -- a front that ends in the first part, and one that is all of it

@@ -4,32 +4,25 @@ use mathlib.Core.Path.{_≡_, refl, sym, ap, subst, _∙_}
 use mathlib.Core.Bool.{Bool, true, false, not, cond, _&&_}
 use mathlib.Core.List.{List, [], _∷_, _++_, append-nil}
 use native.Mathlib.Nat.{le-refl}
-use native.Mathlib.Numerals.{add-one}
 use native.Mathlib.Omega.{arith}
 use lib.Dec.{eqb, ltb}
-use lib.ListN.{length, take, drop, getD, length-drop, drop-of-length-le}
-use lib.Seq.{slice, slice-empty, drop-cons, drop-drop, take-length}
+use lib.ListN.{length, take, drop, getD, length-drop}
+use lib.Seq.{slice, slice-empty, drop-drop}
 use borrow.Author.Tests.{eqb-true, ne-eqb, ltb-true, ltb-false}
 use Rattle.format.specs.Lists.{Spanned, spanning, span}
 use Rattle.format.specs.Octets.{blank}
 use Rattle.format.specs.Token.{textOctet, quoteMark, guarded, Token, bare, quoted, broken, Scan, between, inBare, inQuotes, closed, skip, keep, breaks, scanStep, intoFirst, afterScan, scanned, tokens}
-use Rattle.format.proofs.Lists.{and-left, and-right, not-true}
+use Rattle.format.proofs.Lists.{and-left, and-right, not-true, drop-next as next, drop-none as none}
 use Rattle.format.proofs.Token.{in-bare, ontoAll, onto-bare, onto-quote}
-use Rattle.octets.proofs.Slices.{span-front, span-rest, span-length, lent}
+use Rattle.octets.proofs.Slices.{span-front, span-rest, span-length, lent, to-end}
 use Rattle.octets.proofs.Blocks.{slice-append}
 use Rattle.tokens.specs.declared.Next.{Next}
 use Rattle.tokens.specs.declared.Next.the-variants.{End, Bare, Quoted, Broken}
 use Rattle.tokens.specs.Tokens.{tokensBy, inside, standing, frontEnd, escapes, partedOff, closes, endedAt, From, Within}
 
--- the next octet, the next two, and none
-pub next : (t : List ℕ) (i : ℕ) → i < length t → drop i t ≡ getD t i 0 ∷ drop (i + 1) t
-next t i h = rw (add-one, drop-cons t i 0)
-
+-- the next two octets
 pub next-two : (t : List ℕ) (i : ℕ) → i + 2 ≤ length t → drop i t ≡ getD t i 0 ∷ getD t (i + 1) 0 ∷ drop (i + 2) t
 next-two t i h = let e : i + 1 + 1 ≡ i + 2 = omega arith in next t i (omega arith) ∙ ap (λ xs. getD t i 0 ∷ xs) (next t (i + 1) (omega arith) ∙ rw e)
-
-pub none : (t : List ℕ) (i : ℕ) → length t ≤ i → drop i t ≡ []
-none t i h = drop-of-length-le t h
 
 pub short : (xs : List ℕ) → length xs < 2 → false ≡ escapes xs
 short [] h = refl
@@ -125,13 +118,10 @@ kept-more t q a i j k h l e = record {
 
 -- the octets from i to j that pass, and what follows them
 module _ (t : List ℕ) (f : ℕ → Bool) (i j : ℕ) (h : i ≤ length t) (p : j ≡ i + length (span f (slice i (length t) t) .front)) where
-  to-end : slice i (length t) t ≡ drop i t
-  to-end = ap (drop i) (take-length t)
-
   reaches : j ≡ i + length (span f (drop i t) .front)
-  reaches = rw to-end at p
+  reaches = rw (to-end t i) at p
 
-  pub front-within : (i ≤ j) × (j ≤ length t)
+  front-within : (i ≤ j) × (j ≤ length t)
   front-within = (omega (arith, reaches), omega (arith, reaches, span-length f (drop i t), length-drop i t))
 
   front-is : span f (drop i t) .front ≡ slice i j t

@@ -1,6 +1,6 @@
 -- Which octets stand for themselves, by the tests of the code.
 use Prim.Native.Nat.{ℕ, zero, suc, _+_, _-_, _<_, _≤_}
-use mathlib.Core.Path.{_≡_, refl, sym}
+use mathlib.Core.Path.{_≡_, refl}
 use mathlib.Core.Bool.{Bool, true, false, not, cond, _&&_, _||_}
 use mathlib.Core.List.{List}
 use native.Mathlib.Omega.{arith}
@@ -15,10 +15,7 @@ use Rattle.format.proofs.Lists.{and-left, and-right, not-true}
 use Rattle.format.proofs.Finite.{at-each}
 use Rattle.tokens.specs.Tokens.{standing, frontEnd, blockAt}
 use Rattle.octets.proofs.Blocks.{all-front}
-
-same-true : (a b : Bool) → cond a b (not b) ≡ true → a ≡ b
-same-true true b h = sym h
-same-true false b h = sym (not-true b h)
+use Rattle.octets.proofs.Letters.{same-true}
 
 and-yes : (b : Bool) → b ≡ b && true
 and-yes true = refl

@@ -6,9 +6,10 @@ use mathlib.Core.List.{List, [], _∷_}
 use lib.Dec.{eqb, leb}
 use lib.ListN.{length, drop}
 use lib.Seq.{slice}
-use Rattle.format.specs.Lists.{allOf, span}
+use Rattle.format.specs.Lists.{allOf}
 use Rattle.format.specs.Octets.{blank}
 use Rattle.format.specs.Token.{textOctet, guarded, Token, bare, quoted, broken, Scan, inBare, inQuotes, tokens}
+use Rattle.octets.specs.Octets.{frontEnd as endOf}
 use Rattle.tokens.specs.declared.Next.{Next}
 use Rattle.tokens.specs.declared.Next.the-variants.{End, Bare, Quoted, Broken}
 
@@ -38,7 +39,7 @@ standing (suc q) x = not (eqb x (suc q)) && not (eqb x 92) && textOctet x
 
 -- the end of those from i on and before e
 abbrev pub frontEnd : ℕ → List ℕ → ℕ → ℕ → ℕ
-frontEnd q t i e = i + length (span (standing q) (slice i e t) .front)
+frontEnd q t i e = endOf (standing q) t i e
 
 -- 64 of them from i on
 abbrev pub blockAt : ℕ → List ℕ → ℕ → Bool

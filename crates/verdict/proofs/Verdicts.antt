@@ -15,9 +15,9 @@ use Rattle.format.specs.Field.{Field}
 use Rattle.format.specs.Grammar.{FieldLine, Qualifier, headerLine, fieldLine}
 use Rattle.format.specs.Types.{Meaning, unknown, forbidden, means, meaning}
 use Rattle.format.specs.Judge.{Description, Progress, afterHeader, Verdict, faulty, goesOn, withField, ofMeaning, ofFieldLine, ofHeader, contentLine, ignored, lineVerdict}
-use Rattle.octets.specs.Octets.{inClass, partIn}
+use Rattle.octets.specs.Octets.{inClass, partIn, frontEnd}
 use Rattle.octets.specs.declared.Class.the-variants.{Blank}
-use Rattle.octets.proofs.Slices.{frontEnd, front-rest, front-within}
+use Rattle.octets.proofs.Slices.{front-rest, front-within}
 use Rattle.qualifiers.specs.Qualifiers.{qualifiersIn}
 use Rattle.grammar.specs.declared.HeaderShape.{HeaderShape}
 use Rattle.grammar.specs.declared.HeaderLine.{HeaderLine}
@@ -136,7 +136,7 @@ module _ (s : List ℕ) (at e t : ℕ) (l : at ≤ e) (k : e ≤ length s) (q : 
   rest-line = sym (front-rest (inClass Blank) s at e) ∙ ap (λ j. slice j e s) (sym q)
 
   -- what it is by the definition
-  pub line-is : (p : Progress) → lineVerdict p (partIn s at e) ≡ cond (ignored (slice t e s)) (goesOn p) (contentLine p (not (eqb t at)) e (slice t e s))
+  line-is : (p : Progress) → lineVerdict p (partIn s at e) ≡ cond (ignored (slice t e s)) (goesOn p) (contentLine p (not (eqb t at)) e (slice t e s))
   line-is p = rw (line-end, rest-line, no-front)
 
   pub line-ignored : (p : Progress) → ignored (slice t e s) ≡ true → goesOn p ≡ lineVerdict p (partIn s at e)

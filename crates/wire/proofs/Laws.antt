@@ -9,10 +9,7 @@ use lib.Seq.{slice, length-slice, drop-cons}
 use borrow.Author.Tests.{lt-ltb, le-ltb, le-leb, lt-leb}
 use Rattle.format.specs.Wire.{Stage, anyOctet, count, labelLength, labelOctet, toTheEnd, stringCount, stringOctet, window, blockCount, blockOctet, stop, fault, go, step, mayEnd, Taken, short, bad, took, oneMore, taken}
 use Rattle.format.specs.Field.{anyOctets}
-use Rattle.format.proofs.Wire.{fits, takes-end}
-use Rattle.wire.specs.Wire.{takenIn}
-use Rattle.wire.specs.declared.Take.{Take}
-use Rattle.wire.specs.declared.Take.the-variants.{Took}
+use Rattle.format.proofs.Wire.{takes-end}
 use Rattle.octets.proofs.Slices.{next, none, rest}
 
 -- k octets before what is taken
@@ -102,10 +99,6 @@ module _ (s : List ℕ) (i e : ℕ) (l : e ≤ length s) where
   pub nothing : (st : Stage) (b : Bool) → mayEnd st ≡ b → e ≤ i → cond b (took 0) short ≡ taken st (slice i e s)
   nothing st b m h = sym (ap (taken st) (none s i e h) ∙ ended st b m)
 
-  -- what a field takes lies in the part
-  pub within : (st : Stage) (n : ℕ) (r : Take) → i ≤ e → r ≡ Took n → takenIn r ≡ taken st (slice i e s) → i + n ≤ e
-  within st n r h q t = omega (arith, fits st (slice i e s) n (sym t ∙ ap takenIn q), long)
-
 -- Where a field stands, with its next octet x.
 module _ (s : List ℕ) (i e : ℕ) (l : e ≤ length s) (h : i < e) where
   first : (st : Stage) → taken st (slice i e s) ≡ taken st (getD s i 0 ∷ slice (i + 1) e s)
@@ -172,7 +165,7 @@ module _ (s : List ℕ) (i e : ℕ) (l : e ≤ length s) (h : i < e) where
       by zero = refl
       by (suc n) = refl
 
-  pub name-there : (t : ℕ) (b c : Bool) → taken (labelLength b t) (slice i e s) ≡ taken (labelLength c t) (slice i e s)
+  name-there : (t : ℕ) (b c : Bool) → taken (labelLength b t) (slice i e s) ≡ taken (labelLength c t) (slice i e s)
   unfolding taken
   name-there t b c = first (labelLength b t) ∙ by (getD s i 0) ∙ sym (first (labelLength c t))
     where

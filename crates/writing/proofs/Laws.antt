@@ -6,23 +6,17 @@ use native.Mathlib.Nat.{add-zero, le-of-suc-le-suc, not-suc-le-zero, le-refl}
 use native.Mathlib.Numerals.{add-one}
 use native.Mathlib.Omega.{arith}
 use native.Mathlib.Decide.{decLe}
-use lib.ListN.{length, getD, take, drop, set, length-set, length-append, length-drop, drop-of-length-le}
-use lib.Seq.{drop-cons, sets, set-out, set-comm, take-all, length-sets}
+use lib.ListN.{length, take, drop, set, length-set, length-append, length-drop, drop-of-length-le}
+use lib.Seq.{sets, set-out, set-comm, take-all, length-sets}
 use Rattle.writing.specs.Writing.{Wrote}
-
--- the next element of a list that is gone through by an index, and none
-pub next : (s : List ℕ) (i : ℕ) → i < length s → drop i s ≡ getD s i 0 ∷ drop (i + 1) s
-next s i h = rw (add-one, drop-cons s i 0)
-
-pub none : (s : List ℕ) (i : ℕ) → length s ≤ i → drop i s ≡ []
-none s i h = drop-of-length-le s h
+pub use Rattle.format.proofs.Lists.{drop-next as next, drop-none as none}
 
 -- stores: one text after another, past the end, into the rest, and one octet before a text
-pub sets-append : (o : List ℕ) (n : ℕ) (s t : List ℕ) → sets o n (s ++ t) ≡ sets (sets o n s) (n + length s) t
+sets-append : (o : List ℕ) (n : ℕ) (s t : List ℕ) → sets o n (s ++ t) ≡ sets (sets o n s) (n + length s) t
 sets-append o n [] t = rw add-zero
 sets-append o n (b ∷ s) t = sets-append (set o n b) (suc n) s t ∙ ap (λ (k : ℕ). sets (sets (set o n b) (suc n) s) k t) (omega arith)
 
-pub sets-out : (xs : List ℕ) (n : ℕ) (t : List ℕ) → length xs ≤ n → sets xs n t ≡ xs
+sets-out : (xs : List ℕ) (n : ℕ) (t : List ℕ) → length xs ≤ n → sets xs n t ≡ xs
 sets-out xs n [] h = refl
 sets-out xs n (b ∷ t) h =
     ap (λ (l : List ℕ). sets l (suc n) t) (set-out xs n b h) ∙ sets-out xs (suc n) t (omega arith)
@@ -31,7 +25,7 @@ pub sets-cons : (x : ℕ) (xs : List ℕ) (n : ℕ) (t : List ℕ) → sets (x �
 sets-cons x xs n [] = refl
 sets-cons x xs n (b ∷ t) = sets-cons x (set xs n b) (suc n) t
 
-pub sets-drop : (a : ℕ) (xs t : List ℕ) → a ≤ length xs → sets xs a t ≡ take a xs ++ sets (drop a xs) 0 t
+sets-drop : (a : ℕ) (xs t : List ℕ) → a ≤ length xs → sets xs a t ≡ take a xs ++ sets (drop a xs) 0 t
 sets-drop zero xs t h = refl
 sets-drop (suc a) [] t h = absurd (not-suc-le-zero h)
 sets-drop (suc a) (x ∷ xs) t h = sets-cons x xs a t ∙ ap (λ (l : List ℕ). x ∷ l) (sets-drop a xs t (le-of-suc-le-suc h))

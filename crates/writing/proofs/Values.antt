@@ -3,15 +3,11 @@ use Prim.Native.Nat.{ℕ}
 use mathlib.Core.Path.{_≡_, refl, sym, ap, _∙_}
 use mathlib.Core.List.{List, [], _++_, append-assoc, append-nil}
 use mathlib.Core.Option.{Option, none, some}
-use Rattle.format.specs.Lists.{_>>=_}
 use Rattle.writing.specs.Writing.{Wrote, Values}
 use Rattle.writing.specs.declared.Value.{Value}
 use Rattle.writing.specs.declared.Value.the-variants.{Fault, Upto}
 use Rattle.writing.proofs.Laws.{wrote-none, wrote-append}
-
--- octets before those of a value
-abbrev pub after : List ℕ → Option (List ℕ) → Option (List ℕ)
-after xs o = o >>= λ ys. some (xs ++ ys)
+pub use Rattle.writing.specs.Writing.{after}
 
 pub after-none : (o : Option (List ℕ)) → after [] o ≡ o
 after-none none = refl

@@ -1,10 +1,11 @@
 -- What a writer and a reader leave.
 use Prim.Native.Nat.{ℕ, _+_}
 use mathlib.Core.Path.{_≡_}
-use mathlib.Core.List.{List}
+use mathlib.Core.List.{List, _++_}
 use mathlib.Core.Option.{Option, none, some}
 use lib.ListN.{length}
 use lib.Seq.{sets}
+use Rattle.format.specs.Lists.{_>>=_}
 use Rattle.writing.specs.declared.Value.{Value}
 use Rattle.writing.specs.declared.Value.the-variants.{Fault, Upto}
 
@@ -18,3 +19,7 @@ pub record Wrote (before after : List ℕ) (place result : ℕ) (text : List ℕ
 abbrev pub Values : List ℕ → List ℕ → ℕ → Value → Option (List ℕ) → Type 0
 Values before after place Fault o = o ≡ none
 Values before after place (Upto r) o = (xs : List ℕ) × (o ≡ some xs) × Wrote before after place r xs
+
+-- octets before those of a value
+abbrev pub after : List ℕ → Option (List ℕ) → Option (List ℕ)
+after xs o = o >>= λ ys. some (xs ++ ys)

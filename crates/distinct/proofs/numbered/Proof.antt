@@ -1,7 +1,6 @@
-use mathlib.Core.Path.{_≡_, refl, sym, ap, _∙_}
-use Rattle.qualifiers.proofs.Laws.{number-some}
-use native.Mathlib.Omega.{arith}
+use mathlib.Core.Path.{refl, sym, _∙_}
 use borrow.Author.Needs.{needs}
+use Rattle.octets.proofs.Numbers.{number-some}
 use Rattle.distinct.proofs.numbered.Statement.{statement}
 use Rattle.distinct.proofs.numbered.Tie as tie
 

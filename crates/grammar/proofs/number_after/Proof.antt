@@ -2,9 +2,10 @@ use lib.Seq.{slice}
 use mathlib.Core.Path.{sym, _∙_}
 use Prim.Native.Nat.{_+_, _≤_}
 use Rattle.format.specs.Octets.{digit}
-use Rattle.grammar.proofs.Laws.{first-in, number-on, number-off, no-number, number-some, number-none, later-within}
+use Rattle.grammar.proofs.Laws.{first-in, number-on, number-off, no-number, later-within}
 use native.Mathlib.Omega.{arith}
 use borrow.Author.Needs.{needs}
+use Rattle.octets.proofs.Numbers.{number-some, number-none}
 use Rattle.grammar.proofs.number_after.Statement.{statement}
 use Rattle.grammar.proofs.number_after.Tie as tie
 
@@ -30,13 +31,13 @@ enum-known-n : tie.Need-enum-known-n
 enum-known-n c = search needs
 
 returns : tie.Need-returns
-returns c = (number-on (c .before .before .before .before .before .before .before .before .args .s .now) (c .before .before .before .before .before .before .before .before .args .i) (c .before .before .before .before .before .before .before .before .args .end) _ (c .before .before .before .before .before .before .before .before .pre .1) (sym (c .before .before .before .before .before .before .octet-at .ensures) ∙ c .before .before .before .before .before .if1 .taken) (c .before .before .before .before .skip .ensures) _ (number-some _ _ (sym (c .before .n .given .1) ∙ c .before .before .before .decimal .ensures)), later-within digit (c .before .before .before .before .before .before .before .before .args .s .now) (c .before .before .before .before .before .before .before .before .args .i) (c .before .before .before .before .before .before .before .before .args .end) _ 58 (c .before .before .before .before .before .before .before .before .pre .1) (omega arith) (sym (c .before .before .before .before .before .before .octet-at .ensures) ∙ c .before .before .before .before .before .if1 .taken) (c .before .before .before .before .skip .ensures) .1)
+returns c = (number-on (c .before .before .before .before .before .before .before .before .args .s .now) (c .before .before .before .before .before .before .before .before .args .i) (c .before .before .before .before .before .before .before .before .args .end) _ (c .before .before .before .before .before .before .before .before .pre .1) (sym (c .before .before .before .before .before .before .octet-at .ensures) ∙ c .before .before .before .before .before .if1 .taken) (c .before .before .before .before .skip .ensures) _ (number-some _ _ (sym (c .before .before .before .decimal .ensures) ∙ c .before .n .given .1)), later-within digit (c .before .before .before .before .before .before .before .before .args .s .now) (c .before .before .before .before .before .before .before .before .args .i) (c .before .before .before .before .before .before .before .before .args .end) _ 58 (c .before .before .before .before .before .before .before .before .pre .1) (omega arith) (sym (c .before .before .before .before .before .before .octet-at .ensures) ∙ c .before .before .before .before .before .if1 .taken) (c .before .before .before .before .skip .ensures) .1)
 
 enum-told : tie.Need-enum-told
 enum-told c = search needs
 
 returns-2 : tie.Need-returns-2
-returns-2 c = (number-off (c .before .before .before .before .before .before .before .args .s .now) (c .before .before .before .before .before .before .before .args .i) (c .before .before .before .before .before .before .before .args .end) _ (c .before .before .before .before .before .before .before .pre .1) (sym (c .before .before .before .before .before .octet-at .ensures) ∙ c .before .before .before .before .if1 .taken) (c .before .before .before .skip .ensures) (number-none _ (sym (c .enum-told .given .1) ∙ c .before .before .decimal .ensures)), tt)
+returns-2 c = (number-off (c .before .before .before .before .before .before .before .args .s .now) (c .before .before .before .before .before .before .before .args .i) (c .before .before .before .before .before .before .before .args .end) _ (c .before .before .before .before .before .before .before .pre .1) (sym (c .before .before .before .before .before .octet-at .ensures) ∙ c .before .before .before .before .if1 .taken) (c .before .before .before .skip .ensures) (number-none _ (sym (c .before .before .decimal .ensures) ∙ c .enum-told .given .1)), tt)
 
 returns-3 : tie.Need-returns-3
 returns-3 c = (no-number (slice (c .before .before .before .args .i) (c .before .before .before .args .end) (c .before .before .before .args .s .now)) (λ h. c .if1 .left (c .before .octet-at .ensures ∙ h)), tt)

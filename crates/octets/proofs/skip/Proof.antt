@@ -1,9 +1,7 @@
-use Rattle.octets.proofs.Slices.{frontEnd, front-on, front-off, front-end}
-use Rattle.octets.specs.Octets.{inClass}
-use lib.ListN.{length}
+use Rattle.octets.proofs.Slices.{front-on, front-off, front-end}
+use Rattle.octets.specs.Octets.{inClass, frontEnd}
 use mathlib.Core.Path.{_≡_, refl, sym, _∙_}
-use Prim.Native.Nat.{_+_, _-_, _≤_}
-use native.Mathlib.Omega.{arith}
+use Prim.Native.Nat.{_-_, _≤_}
 use borrow.Author.Needs.{needs}
 use Rattle.octets.proofs.skip.Statement.{statement}
 use Rattle.octets.proofs.skip.Tie as tie

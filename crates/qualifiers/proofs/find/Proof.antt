@@ -1,7 +1,8 @@
-use mathlib.Core.Path.{_≡_, refl, sym, _∙_}
-use Rattle.qualifiers.proofs.Laws.{front-in, found-bad, found-word, found-other, found-fault, found-number, number-none, number-some}
+use mathlib.Core.Path.{sym, _∙_}
+use Rattle.qualifiers.proofs.Laws.{front-in, found-bad, found-word, found-other, found-fault, found-number}
 use native.Mathlib.Omega.{arith}
 use borrow.Author.Needs.{needs}
+use Rattle.octets.proofs.Numbers.{number-some, number-none}
 use Rattle.qualifiers.proofs.find.Statement.{statement}
 use Rattle.qualifiers.proofs.find.Tie as tie
 

@@ -2,7 +2,8 @@ use Prim.Native.Nat.{_-_, _≤_}
 use mathlib.Core.Path.{_≡_, refl, sym, ap, _∙_}
 use lib.Seq.{slice}
 use Rattle.octets.specs.Octets.{numberOf}
-use Rattle.qualifiers.proofs.Laws.{within, number-some, number-none}
+use Rattle.octets.proofs.Numbers.{number-some, number-none}
+use Rattle.qualifiers.proofs.Laws.{within}
 use Rattle.symbols.specs.Symbols.{firstIn, valueFor}
 use Rattle.symbols.proofs.Laws.{first-here, first-none, first-next}
 use native.Mathlib.Omega.{arith}

@@ -1,10 +1,11 @@
 use mathlib.Core.Path.{sym, ap, _∙_}
 use Rattle.writing.proofs.Laws.{wrote-text}
 use Rattle.symbols.specs.Symbols.{spelled}
-use Rattle.symbols.proofs.Laws.{bare-text, found-text, lent}
+use Rattle.symbols.proofs.Laws.{bare-text, found-text}
 use lib.ListN.{length-take, length-drop}
 use native.Mathlib.Omega.{arith}
 use borrow.Author.Needs.{needs}
+use Rattle.octets.proofs.Slices.{lent}
 use Rattle.symbols.proofs.put_number.Statement.{statement}
 use Rattle.symbols.proofs.put_number.Tie as tie
 
