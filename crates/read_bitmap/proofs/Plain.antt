@@ -24,6 +24,7 @@ use Rattle.octets.specs.Octets.{numberOf}
 use Rattle.octets.specs.declared.Number.the-variants.{Value, Fault as NoValue}
 use Rattle.octets.proofs.Slices.{next, rest-parts}
 use Rattle.tokens.proofs.Scans.{bare-first}
+use Rattle.writing.specs.Writing.{after}
 use Rattle.read_bitmap.specs.declared.NextType.the-variants.{Found, Fault}
 use Rattle.read_bitmap.specs.Reading.{typesRead, foundAt, typesBy, TypeWithin, PlainAt}
 
@@ -170,13 +171,6 @@ found-plain t a e h l r none q = tt
 found-plain t a e h l r (some v) q = (q, h, l, r)
 
 -- the types that are left, after some
-abbrev pub after : List ℕ → Option (List ℕ) → Option (List ℕ)
-after ts o = o >>= λ l. some (ts ++ l)
-
-pub after-none : (o : Option (List ℕ)) → o ≡ after [] o
-after-none none = refl
-after-none (some l) = refl
-
 pub after-one : (ts : List ℕ) (v : ℕ) (o : Option (List ℕ)) → after ts (consBoth (some v) o) ≡ after (ts ++ v ∷ []) o
 after-one ts v none = refl
 after-one ts v (some l) = ap some (sym (append-assoc ts (v ∷ []) l))

@@ -1,7 +1,7 @@
 -- A name gone through label by label is what the definition, which works on all its pieces, gives.
 use Prim.Native.Nat.{ℕ, _+_, _-_, _≤_, _<_}
 use mathlib.Core.Path.{_≡_, refl, sym, ap, subst, _∙_}
-use mathlib.Core.Bool.{Bool, true, false, cond, _&&_, and-false}
+use mathlib.Core.Bool.{Bool, true, false, cond, and-false, and-true}
 use mathlib.Core.List.{List, [], _∷_, _++_, map, append-assoc, append-nil}
 use mathlib.Core.Option.{Option, none, some}
 use native.Mathlib.Omega.{arith}
@@ -260,13 +260,9 @@ pub with-zero : {o₀ o : List ℕ} {n m : ℕ} {all : Option (List ℕ)} (origi
 with-zero {o₀} {o} {n} {m} {all} origin t j e b h o′ v (y, w, q) = rw q (limited-value o₀ o′ n y all (begun-rest o′ (Upto y) b (0 ∷ [], ap (spelled origin) (no-octet t j e h) ∙ spelled-none origin, w)))
 
 -- "`.` is the root", "`@` alone is the origin"
-and-same : (a : Bool) → a && true ≡ a
-and-same true = refl
-and-same false = refl
-
 same-sole : (c : ℕ) (s : List ℕ) → eqb 0 c ≡ false → sameOctets s (c ∷ []) ≡ eqb (sole s) c
 same-sole c [] h = sym h
-same-sole c (x ∷ []) h = and-same (eqb x c)
+same-sole c (x ∷ []) h = and-true (eqb x c)
 same-sole c (x ∷ y ∷ s) h = and-false (eqb x c) ∙ sym h
 
 bind-limited : {A : Type 0} (x : Option A) (f : A → Option (List ℕ)) → limited (x >>= f) ≡ (x >>= λ a. limited (f a))

@@ -1,7 +1,7 @@
 -- Which octets stand for themselves, by the tests of the code.
 use Prim.Native.Nat.{ℕ, zero, suc, _+_, _-_, _<_, _≤_}
-use mathlib.Core.Path.{_≡_, refl}
-use mathlib.Core.Bool.{Bool, true, false, not, cond, _&&_, _||_}
+use mathlib.Core.Path.{_≡_, refl, sym}
+use mathlib.Core.Bool.{true, false, not, cond, _&&_, _||_, and-true, or-false}
 use mathlib.Core.List.{List}
 use native.Mathlib.Omega.{arith}
 use lib.ListN.{length}
@@ -17,10 +17,6 @@ use Rattle.tokens.specs.Tokens.{standing, frontEnd, blockAt}
 use Rattle.octets.proofs.Blocks.{all-front}
 use Rattle.octets.proofs.Letters.{same-true}
 
-and-yes : (b : Bool) → b ≡ b && true
-and-yes true = refl
-and-yes false = refl
-
 -- in a bare token: none below 21 hex, none above 7E hex, and of the others those that are not special
 pub low-standing : (x : ℕ) → x < 33 → false ≡ standing 0 x
 low-standing x h = rw (not-true (standing 0 x) (at-each (λ x. not (standing 0 x)) 33 refl x h))
@@ -31,7 +27,7 @@ high-standing x h = rw (ne-eqb x 32 (λ e. omega arith), ne-eqb x 9 (λ e. omega
 pub bare-standing : (x : ℕ) → 33 ≤ x → x ≤ 126 → (x ≡ 34 → ⊥) → (x ≡ 59 → ⊥) → (x ≡ 92 → ⊥) → not (inRange 39 41 x) ≡ standing 0 x
 bare-standing x h k n m l =
     let r : inRange 39 41 x ≡ eqb x 39 || false || eqb x 40 || eqb x 41 = same-true _ _ (at-each (λ x. cond (inRange 39 41 x) (eqb x 39 || false || eqb x 40 || eqb x 41) (not (eqb x 39 || false || eqb x 40 || eqb x 41))) 127 refl x (omega arith)) in
-    rw (r, ne-eqb x 32 (λ e. omega arith), ne-eqb x 9 (λ e. omega arith), le-leb 32 x (omega arith), le-leb x 126 k, ne-eqb x 34 n, ne-eqb x 59 m, ne-eqb x 92 l) (and-yes (not (eqb x 39 || false || eqb x 40 || eqb x 41)))
+    rw (r, ne-eqb x 32 (λ e. omega arith), ne-eqb x 9 (λ e. omega arith), le-leb 32 x (omega arith), le-leb x 126 k, ne-eqb x 34 n, ne-eqb x 59 m, ne-eqb x 92 l) (sym (and-true (not (eqb x 39 || false || eqb x 40 || eqb x 41))))
 
 -- in a quoted one
 pub quoted-standing : (q x : ℕ) → (q ≡ 0 → ⊥) → standing q x ≡ not (eqb x q) && not (eqb x 92) && textOctet x
@@ -39,17 +35,13 @@ quoted-standing zero x h = absurd (h refl)
 quoted-standing (suc q) x h = refl
 
 pub low-text : (x : ℕ) → x < 32 → eqb x 9 ≡ not (eqb x 92) && textOctet x
-low-text x h = rw (ne-eqb x 92 (λ e. omega arith), lt-leb 32 x h) (or-no (eqb x 9))
-  where
-    or-no : (b : Bool) → b ≡ b || false
-    or-no true = refl
-    or-no false = refl
+low-text x h = rw (ne-eqb x 92 (λ e. omega arith), lt-leb 32 x h) (sym (or-false (eqb x 9)))
 
 pub high-text : (x : ℕ) → 126 < x → false ≡ not (eqb x 92) && textOctet x
 high-text x h = rw (ne-eqb x 92 (λ e. omega arith), ne-eqb x 9 (λ e. omega arith), le-leb 32 x (omega arith), lt-leb x 126 h)
 
 pub plain-text : (x : ℕ) → 32 ≤ x → x ≤ 126 → not (eqb x 92) ≡ not (eqb x 92) && textOctet x
-plain-text x h k = rw (ne-eqb x 9 (λ e. omega arith), le-leb 32 x h, le-leb x 126 k) (and-yes (not (eqb x 92)))
+plain-text x h k = rw (ne-eqb x 9 (λ e. omega arith), le-leb 32 x h, le-leb x 126 k) (sym (and-true (not (eqb x 92))))
 
 -- 64 of them
 pub block-within : (q : ℕ) (t : List ℕ) (i : ℕ) → blockAt q t i ≡ true → i + 64 ≤ length t

@@ -1,4 +1,4 @@
-use Rattle.read_bitmap.proofs.Plain.{after, after-none, after-one, after-all}
+use Rattle.read_bitmap.proofs.Plain.{after-one, after-all}
 use Rattle.read_bitmap.specs.Reading.{typesRead}
 use Rattle.picture.specs.Windows.{Holds}
 use lib.ListN.{length, drop}
@@ -7,6 +7,8 @@ use mathlib.Core.Path.{_≡_, sym, ap, _∙_}
 use Prim.Native.Nat.{ℕ, _-_, _≤_}
 use native.Mathlib.Omega.{arith}
 use borrow.Author.Needs.{needs}
+use Rattle.writing.specs.Writing.{after}
+use Rattle.writing.proofs.Values.{after-none}
 use Rattle.read_bitmap.proofs.fill.Statement.{statement}
 use Rattle.read_bitmap.proofs.fill.Tie as tie
 
@@ -17,7 +19,7 @@ abbrev μ-loop : tie.MeasureT-loop
 μ-loop m₀ t i top₀ j₀ m top j = length t - j
 
 loop-holds : tie.Need-loop-holds Inv-loop μ-loop
-loop-holds c = (search needs, search needs, ([], c .before .pre .2, after-none (typesRead (drop (c .before .args .i) (c .before .args .t .now)))))
+loop-holds c = (search needs, search needs, ([], c .before .pre .2, sym (after-none (typesRead (drop (c .before .args .i) (c .before .args .t .now))))))
 
 next-type-requires : tie.Need-next-type-requires Inv-loop μ-loop
 next-type-requires c κs = search needs
