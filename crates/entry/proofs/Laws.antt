@@ -1,15 +1,11 @@
 -- What the judged outline answers.
-use Prim.Native.Nat.{ℕ, zero, suc, _+_, _*_, _≤_, _<_}
-use mathlib.Core.Path.{_≡_, refl, sym, ap, _∙_}
-use mathlib.Core.Bool.{Bool, true, false, cond}
-use mathlib.Core.List.{List, [], _∷_}
+use Prim.Native.Nat.{ℕ, _+_, _*_, _≤_}
+use mathlib.Core.Path.{_≡_, sym, _∙_}
+use mathlib.Core.List.{List}
 use native.Mathlib.Omega.{arith}
-use lib.ListN.{length}
-use lib.Dec.{eqb}
 use borrow.Author.Tests.{eq-eqb, ne-eqb}
-use Rattle.format.specs.Field.{Field}
-use Rattle.format.specs.Judge.{Description, Judged, rejected, described, judged}
-use Rattle.format.specs.Entries.{Outcome, judgeOutcome, judge}
+use Rattle.format.specs.Judge.{rejected, described, judged}
+use Rattle.format.specs.Entries.{judge}
 use Rattle.format.proofs.Judge.{judges}
 use Rattle.stanza.specs.declared.Outline.{Outline}
 use Rattle.stanza.specs.Stanza.{Outlined}

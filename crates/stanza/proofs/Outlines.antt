@@ -32,7 +32,6 @@ use Rattle.verdict.specs.declared.NewField.{NewField}
 use Rattle.verdict.specs.declared.Step.{Step}
 use Rattle.verdict.specs.declared.Step.the-variants.{Skip, Refuse, Head, Add}
 use Rattle.verdict.specs.Verdict.{headerOf, namedFrom, progressOf, Stands, stepOf, Due}
-use Rattle.stanza.specs.declared.Outline.{Outline}
 use Rattle.stanza.specs.Stanza.{outlineOf, AllPlaced, Outlined}
 
 -- m fields from number k on

@@ -65,9 +65,7 @@ pub fn judged_outline(s: &[u8], codes: &mut [u64; 64]) -> Outline
                 // no line after it is judged
                 at = s.len();
             }
-            Step::Head(_) => {
-                have = true;
-            }
+            Step::Head(_) => have = true,
             Step::Add(x) => {
                 let f = x.field;
                 let form = f.form;

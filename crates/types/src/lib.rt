@@ -12,8 +12,8 @@ ghost use Rattle.qualifiers.specs.declared.Words.the-variants.{OnN, OnS};
 use qualifiers::Test;
 use qualifiers::Words;
 
-// A kind of field: the octets of an integer or an EUI; the marks C, A, L, O of a name, as 1, 2, 4, 8 in one octet, so that an array
-// of fields has no gaps and is cleared at once.
+// A kind of field: the octets of an integer or an EUI; the marks C, A, L, O of a name, as 1, 2, 4, 8 in one octet, so that a form
+// is a number and one octet (`field_code`).
 pub enum Form {
     Int(u8),
     Rrtype,
