@@ -27,11 +27,7 @@ code-parts n p a e h i j k = rw (number, parameter, from, to)
     to : c / 4294967296 % 65536 ≡ e
     to = omega arith
 
--- the code 0 is the field of zeros
-pub no-code : fieldAt 0 ≡ noField
-unfolding formAt
-no-code = refl
-
+-- the field at a number; the code 0 is the field of zeros
 field-at : (cs : List ℕ) (k : ℕ) → getD (fieldsOf cs) k noField ≡ fieldAt (getD cs k 0)
 unfolding formAt
 field-at [] k = refl

@@ -19,7 +19,6 @@ use Rattle.format.specs.Grammar.{word, symbol, startsWithLetter, isName, ifQual
 use Rattle.format.specs.Types.{knownWord, hasWord}
 use Rattle.octets.specs.Octets.{partIn, frontEnd}
 use Rattle.octets.proofs.Slices.{next, none as nothing, front-on, front-end, front-rest, front-within, span-front, part}
-use Rattle.octets.proofs.Blocks.{all-length}
 use Rattle.octets.proofs.Lines.{cut-rest, cut-first}
 use Rattle.qualifiers.specs.Qualifiers.{piecesIn, wordsFor, holdsOf, anyIn, sameBy, nameIn, twiceIn}
 use Rattle.qualifiers.specs.declared.Test.{Test}
@@ -39,9 +38,6 @@ module _ (f : ℕ → Bool) where
       by : (b : Bool) → f x ≡ b → allOf f (span f xs .front) ≡ true → allOf f (spanning b x xs (span f xs) .front) ≡ true
       by true h ih = rw (h, ih)
       by false h ih = refl
-
-  not-passed : (s : List ℕ) (i e : ℕ) → i ≤ e → e ≤ length s → (frontEnd f s i e ≡ e → ⊥) → allOf f (slice i e s) ≡ false
-  not-passed s i e h l q = all-length f (slice i e s) ∙ ne-eqb (length (span f (slice i e s) .front)) (length (slice i e s)) (λ m. q (omega (arith, length-slice i e s l)))
 
   pub all-passes : (s : List ℕ) (i e : ℕ) → i ≤ e → e ≤ length s → allOf f (slice i (frontEnd f s i e) s) ≡ true
   all-passes s i e h l = rw (← front s i e h l) (all-front (slice i e s))
@@ -150,13 +146,6 @@ module _ (s : List ℕ) (a z n : ℕ) (h : a ≤ z) (l : z ≤ length s) (q : n 
 -- names
 pub begins-next : (s : List ℕ) (a e : ℕ) → a < e → e ≤ length s → begins (slice a e s) ≡ letter (getD s a 0) && leb (e - a) 63
 begins-next s a e h l = ap (λ n. startsWithLetter (slice a e s) && leb n 63) (length-slice a e s l) ∙ rw (next s a e h l)
-
-pub not-name : (s : List ℕ) (a e n : ℕ) → a ≤ e → e ≤ length s → n ≡ frontEnd nameOctet s a e → (n ≡ e → ⊥) → false ≡ isName (slice a e s)
-not-name s a e n h l q r = rw (not-passed nameOctet s a e h l (λ m. r (q ∙ m))) (by (startsWithLetter (slice a e s)) _)
-  where
-    by : (b c : Bool) → false ≡ b && false && c
-    by true c = refl
-    by false c = refl
 
 -- tests
 pub last-word : (b : Bool) → b ≡ b && true || false
