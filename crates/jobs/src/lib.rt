@@ -111,6 +111,7 @@ fn put_lines(out: &mut [u8], j: &[u8], job: Job, at: usize, rdata: &mut [u8; RDA
     let mut m = at;
     let mut n = 0;
     while m < j.len() {
+        // the longest line: `ok `, two digits for each of 65,535 octets, and the LF
         if out.len() - n < 131074 {
             return Turn {
                 taken: n,

@@ -17,7 +17,8 @@ use entry::Reply;
 use run::Checked;
 use types::Form;
 
-// Whether the text of so many octets fits the room whatever they are; measuring tells where this does not.
+// Whether the text of so many octets fits the room whatever they are: R[L] apart no octet prints as more than 4, beside 64 a
+// field. Measuring tells where this does not.
 fn surely_fits(codes: &[u64; 64], first: usize, many: usize, octets: usize, room: usize) -> bool
     requires { ⌜ (first + many ≤ 64) × (octets ≤ 65535) ⌝ }
     ensures { λ r. ⌜ (r ≡ true → (s xs : List ℕ) → Octets xs → length xs ≡ octets → Accepted s (fieldsOf (now (codes .entry))) first many xs → length (textOf (kindsFrom s (fieldsOf (now (codes .entry))) first many) xs) ≤ room) ⌝ }

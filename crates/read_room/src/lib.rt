@@ -38,6 +38,16 @@ fn read_again(
     }
 }
 
+// A refusal.
+fn refused(number: u32, place: u32) -> Reply
+    ensures { λ r. ⌜ (r .number ≡ number) × (r .place ≡ place) ⌝ }
+{
+    Reply {
+        number: number,
+        place: place,
+    }
+}
+
 // A text under a run of a judged stanza, by way of a short buffer: nothing lent changes before the result is known to be
 // whole. Of a result that is longer only the count is kept, and it is read again.
 fn read_through(
@@ -56,24 +66,15 @@ fn read_through(
 {
     let r = reading::read_run(short, codes, first, many, s, origin, t);
     match r {
-        Run::Refused(number, place) => Reply {
-            number: number,
-            place: place,
-        },
+        Run::Refused(number, place) => refused(number, place),
         Run::Done(m) => {
             if 65535 < m {
-                return Reply {
-                    number: 11,
-                    place: 0,
-                };
+                return refused(11, 0);
             }
             let n = out.len();
             let from = writing::least(at, n);
             if n - from < m {
-                return Reply {
-                    number: 12,
-                    place: m as u32,
-                };
+                return refused(12, m as u32);
             }
             if short.len() < m {
                 return read_again(s, codes, first, many, origin, t, out, at);
@@ -87,7 +88,8 @@ fn read_through(
     }
 }
 
-// The same by way of an array of its own: one that is soon cleared where the text is short, else one that every bitmap fits.
+// The same by way of an array of its own: one of 1,024 octets, soon cleared, where the text is short; else one of 12,288, which
+// every bitmap (8,704) fits.
 pub fn read_run(
     s: &[u8],
     codes: &[u64; 64],

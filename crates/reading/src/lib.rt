@@ -30,7 +30,7 @@ pub enum Field {
     Upto(usize, usize),
 }
 
-// What a run makes of a text: a refusal's number and place; or the count of its octets, or more than 65,535 where that is.
+// What a run makes of a text: a refusal's number and place; or the count of its octets, where 65,536 stands for any number over 65,535.
 pub enum Run {
     Refused(u32, u32),
     Done(usize),

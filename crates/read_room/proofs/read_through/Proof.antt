@@ -2,16 +2,16 @@ use mathlib.Core.Path.{refl}
 use Rattle.run.specs.Run.{kindsFrom}
 use Rattle.read_room.proofs.Octets.{refused-leaves, over-leaves, measured-leaves, reads-in, copied-leaves}
 use Rattle.field_code.specs.Code.{fieldsOf}
-use native.Mathlib.Omega.{arith}
-use borrow.Author.Needs.{needs}
-use Rattle.read_room.proofs.read_through.Statement.{statement}
-use Rattle.read_room.proofs.read_through.Tie as tie
 use Rattle.read_room.proofs.read_through.Reads as reads
 use Rattle.read_room.proofs.read_through.Lts as lts
 use Rattle.writing.proofs.least.Reads as least-reads
 use Rattle.read_room.proofs.read_again.Reads as read-again-reads
 use Rattle.reading.proofs.read_run.Reads as read-run-reads
 use Rattle.writing.proofs.put_all.Reads as put-all-reads
+use native.Mathlib.Omega.{arith}
+use borrow.Author.Needs.{needs}
+use Rattle.read_room.proofs.read_through.Statement.{statement}
+use Rattle.read_room.proofs.read_through.Tie as tie
 
 read-run-requires : tie.Need-read-run-requires
 read-run-requires c κs = search needs
@@ -19,14 +19,20 @@ read-run-requires c κs = search needs
 enum-known-r : tie.Need-enum-known-r
 enum-known-r c = search needs
 
+refused-requires : tie.Need-refused-requires
+refused-requires c κs = search needs
+
 enum-known-r-2 : tie.Need-enum-known-r-2
 enum-known-r-2 c = search needs
+
+refused-requires-2 : tie.Need-refused-requires-2
+refused-requires-2 c κs = search needs
 
 same-length : tie.Need-same-length
 same-length c = search needs
 
 returns : tie.Need-returns
-returns c = over-leaves (kindsFrom (c .before .before .before .before .before .before .before .before .before .before .before .before .before .args .s .now) (fieldsOf (c .before .before .before .before .before .before .before .before .before .before .before .before .before .args .codes .now)) (c .before .before .before .before .before .before .before .before .before .before .before .before .before .args .first) (c .before .before .before .before .before .before .before .before .before .before .before .before .before .args .many)) (c .before .before .before .before .before .before .before .before .before .before .before .before .before .args .origin .now) (c .before .before .before .before .before .before .before .before .before .before .before .before .before .args .t .now) (c .before .before .before .before .before .before .before .before .before .before .before .before .before .args .out .now) (c .before .before .before .before .before .before .before .before .before .before .before .before .before .args .at) _ _ _ (c .before .before .before .before .before .before .read-run .ensures) _ (c .before .before .r2 .given .1) _ (c .if1 .taken) refl refl
+returns c = over-leaves (kindsFrom (c .before .before .before .before .before .before .before .before .before .before .before .before .before .before .args .s .now) (fieldsOf (c .before .before .before .before .before .before .before .before .before .before .before .before .before .before .args .codes .now)) (c .before .before .before .before .before .before .before .before .before .before .before .before .before .before .args .first) (c .before .before .before .before .before .before .before .before .before .before .before .before .before .before .args .many)) (c .before .before .before .before .before .before .before .before .before .before .before .before .before .before .args .origin .now) (c .before .before .before .before .before .before .before .before .before .before .before .before .before .before .args .t .now) (c .before .before .before .before .before .before .before .before .before .before .before .before .before .before .args .out .now) (c .before .before .before .before .before .before .before .before .before .before .before .before .before .before .args .at) _ _ _ (c .before .before .before .before .before .before .before .read-run .ensures) _ (c .before .before .before .r2 .given .1) _ (c .before .if1 .taken) (c .refused2 .ensures .0) (c .refused2 .ensures .1)
 
 least-requires : tie.Need-least-requires
 least-requires c κs = search needs
@@ -34,14 +40,17 @@ least-requires c κs = search needs
 sub-if2 : tie.Need-sub-if2
 sub-if2 c = search needs
 
-cast-t22 : tie.Need-cast-t22
-cast-t22 c = search needs
+cast-refused : tie.Need-cast-refused
+cast-refused c = search needs
+
+refused-requires-3 : tie.Need-refused-requires-3
+refused-requires-3 c κs = search needs
 
 same-length-2 : tie.Need-same-length-2
 same-length-2 c = search needs
 
 returns-2 : tie.Need-returns-2
-returns-2 c = measured-leaves (kindsFrom (c .before .before .before .before .before .before .before .before .before .before .before .before .before .before .before .args .s .now) (fieldsOf (c .before .before .before .before .before .before .before .before .before .before .before .before .before .before .before .args .codes .now)) (c .before .before .before .before .before .before .before .before .before .before .before .before .before .before .before .args .first) (c .before .before .before .before .before .before .before .before .before .before .before .before .before .before .before .args .many)) (c .before .before .before .before .before .before .before .before .before .before .before .before .before .before .before .args .origin .now) (c .before .before .before .before .before .before .before .before .before .before .before .before .before .before .before .args .t .now) (c .before .before .before .before .before .before .before .before .before .before .before .before .before .before .before .args .out .now) (c .before .before .before .before .before .before .before .before .before .before .before .before .before .before .before .args .at) _ _ _ (c .before .before .before .before .before .before .before .before .read-run .ensures) _ (c .before .before .before .before .r2 .given .1) (omega (arith, c .before .before .if1 .left)) _ (omega (arith, c .if2 .taken, c .before .least .ensures)) refl refl
+returns-2 c = measured-leaves (kindsFrom (c .before .before .before .before .before .before .before .before .before .before .before .before .before .before .before .before .args .s .now) (fieldsOf (c .before .before .before .before .before .before .before .before .before .before .before .before .before .before .before .before .args .codes .now)) (c .before .before .before .before .before .before .before .before .before .before .before .before .before .before .before .before .args .first) (c .before .before .before .before .before .before .before .before .before .before .before .before .before .before .before .before .args .many)) (c .before .before .before .before .before .before .before .before .before .before .before .before .before .before .before .before .args .origin .now) (c .before .before .before .before .before .before .before .before .before .before .before .before .before .before .before .before .args .t .now) (c .before .before .before .before .before .before .before .before .before .before .before .before .before .before .before .before .args .out .now) (c .before .before .before .before .before .before .before .before .before .before .before .before .before .before .before .before .args .at) _ _ _ (c .before .before .before .before .before .before .before .before .before .read-run .ensures) _ (c .before .before .before .before .before .r2 .given .1) (omega (arith, c .before .before .before .if1 .left)) _ (omega (arith, c .before .if2 .taken, c .before .before .least .ensures)) (c .refused3 .ensures .0) (c .refused3 .ensures .1)
 
 read-again-requires : tie.Need-read-again-requires
 read-again-requires c κs = (c .before .before .before .before .before .before .before .before .before .before .before .before .before .before .before .before .before .pre .0, c .before .before .before .before .before .before .before .before .before .before .before .before .before .before .before .before .before .pre .1, c .before .before .before .before .before .before .before .before .before .before .before .before .before .before .before .before .before .pre .2, reads-in (kindsFrom (c .before .before .before .before .before .before .before .before .before .before .before .before .before .before .before .before .before .args .s .now) (fieldsOf (c .before .before .before .before .before .before .before .before .before .before .before .before .before .before .before .before .before .args .codes .now)) (c .before .before .before .before .before .before .before .before .before .before .before .before .before .before .before .before .before .args .first) (c .before .before .before .before .before .before .before .before .before .before .before .before .before .before .before .before .before .args .many)) (c .before .before .before .before .before .before .before .before .before .before .before .before .before .before .before .before .before .args .origin .now) (c .before .before .before .before .before .before .before .before .before .before .before .before .before .before .before .before .before .args .t .now) (c .before .before .before .before .before .before .before .before .before .before .before .before .before .before .before .before .before .args .out .now) (c .before .before .before .before .before .before .before .before .before .before .before .before .before .before .before .before .before .args .at) _ _ _ (c .before .before .before .before .before .before .before .before .before .before .read-run .ensures) _ (c .before .before .before .before .before .before .r2 .given .1) (omega (arith, c .before .before .before .before .if1 .left)) (omega (arith, c .before .before .if2 .left, c .before .before .before .least .ensures)))
@@ -83,7 +92,7 @@ same-length-5 : tie.Need-same-length-5
 same-length-5 c = search needs
 
 returns-4 : tie.Need-returns-4
-returns-4 c = refused-leaves (kindsFrom (c .before .before .before .before .before .before .before .before .before .before .before .before .args .s .now) (fieldsOf (c .before .before .before .before .before .before .before .before .before .before .before .before .args .codes .now)) (c .before .before .before .before .before .before .before .before .before .before .before .before .args .first) (c .before .before .before .before .before .before .before .before .before .before .before .before .args .many)) (c .before .before .before .before .before .before .before .before .before .before .before .before .args .origin .now) (c .before .before .before .before .before .before .before .before .before .before .before .before .args .t .now) (c .before .before .before .before .before .before .before .before .before .before .before .before .args .out .now) (c .before .before .before .before .before .before .before .before .before .before .before .before .args .at) _ _ _ (c .before .before .before .before .before .read-run .ensures) _ _ _ (c .before .r .given .1) refl refl
+returns-4 c = refused-leaves (kindsFrom (c .before .before .before .before .before .before .before .before .before .before .before .before .before .args .s .now) (fieldsOf (c .before .before .before .before .before .before .before .before .before .before .before .before .before .args .codes .now)) (c .before .before .before .before .before .before .before .before .before .before .before .before .before .args .first) (c .before .before .before .before .before .before .before .before .before .before .before .before .before .args .many)) (c .before .before .before .before .before .before .before .before .before .before .before .before .before .args .origin .now) (c .before .before .before .before .before .before .before .before .before .before .before .before .before .args .t .now) (c .before .before .before .before .before .before .before .before .before .before .before .before .before .args .out .now) (c .before .before .before .before .before .before .before .before .before .before .before .before .before .args .at) _ _ _ (c .before .before .before .before .before .before .read-run .ensures) _ _ _ (c .before .before .r .given .1) (c .refused .ensures .0) (c .refused .ensures .1)
 
 same-length-6 : tie.Need-same-length-6
 same-length-6 c = search needs
@@ -100,12 +109,15 @@ read-through-spec =
     (tie.spec
     read-run-requires
     enum-known-r
+    refused-requires
     enum-known-r-2
+    refused-requires-2
     same-length
     returns
     least-requires
     sub-if2
-    cast-t22
+    cast-refused
+    refused-requires-3
     same-length-2
     returns-2
     read-again-requires
