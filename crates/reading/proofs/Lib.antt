@@ -1,3 +1,1 @@
-mod Fields
-mod Texts
 mod Runs

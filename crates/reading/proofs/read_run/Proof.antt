@@ -18,7 +18,7 @@ use Rattle.reading.proofs.read_run.Reads as reads
 use Rattle.reading.proofs.read_run.Lts as lts
 use Rattle.field_code.proofs.field.Reads as field-reads
 use Rattle.reading.proofs.none_from.Reads as none-from-reads
-use Rattle.reading.proofs.read_field.Reads as read-field-reads
+use Rattle.read_field.proofs.read_field.Reads as read-field-reads
 use Rattle.writing.proofs.least.Reads as least-reads
 
 abbrev Inv-loop : tie.InvT-loop

@@ -23,7 +23,7 @@ use Rattle.read_base.specs.declared.rest.Got.the-variants.{Missing as NoToken, 
 use Rattle.read_base.specs.Rest.{Gets}
 use Rattle.values.specs.Values.{tokenValue}
 use Rattle.values.proofs.Forms.{except, Not}
-use Rattle.reading.specs.Reading.{takesOne, placedAt, gotAt, Gives, Onward}
+use Rattle.read_field.specs.Fields.{takesOne, placedAt, gotAt, Gives, Onward}
 
 -- a field that takes one token
 and-not : {A : Type 0} (b : Bool) (x y : A) → cond (b && false) x y ≡ y

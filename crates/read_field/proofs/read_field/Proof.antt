@@ -1,20 +1,20 @@
 use mathlib.Core.List.{List}
 use Prim.Native.Nat.{ℕ}
 use Rattle.format.specs.Run.{readField}
-use Rattle.reading.proofs.Fields.{gives-all, gives-rest, one-form}
+use Rattle.read_field.proofs.Fields.{gives-all, gives-rest, one-form}
 use native.Mathlib.Omega.{arith}
 use borrow.Author.Needs.{needs}
-use Rattle.reading.proofs.read_field.Statement.{statement}
-use Rattle.reading.proofs.read_field.Tie as tie
-use Rattle.reading.proofs.read_field.Reads as reads
-use Rattle.reading.proofs.read_field.Lts as lts
+use Rattle.read_field.proofs.read_field.Statement.{statement}
+use Rattle.read_field.proofs.read_field.Tie as tie
+use Rattle.read_field.proofs.read_field.Reads as reads
+use Rattle.read_field.proofs.read_field.Lts as lts
 use Rattle.read_bitmap.proofs.read.Reads as read-reads
 use Rattle.read_base.proofs.rest.base64_rest.Reads as base64-rest-reads
 use Rattle.read_base.proofs.rest.hex_rest.Reads as hex-rest-reads
-use Rattle.reading.proofs.all.Reads as all-reads
-use Rattle.reading.proofs.before.Reads as before-reads
-use Rattle.reading.proofs.one_token.Reads as one-token-reads
-use Rattle.reading.proofs.strings.Reads as strings-reads
+use Rattle.read_field.proofs.all.Reads as all-reads
+use Rattle.read_field.proofs.before.Reads as before-reads
+use Rattle.read_field.proofs.one_token.Reads as one-token-reads
+use Rattle.read_field.proofs.strings.Reads as strings-reads
 
 enum-told : tie.Need-enum-told
 enum-told c = search needs

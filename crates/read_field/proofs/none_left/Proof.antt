@@ -4,13 +4,13 @@ use mathlib.Core.Path.{sym, ap, _∙_}
 use mathlib.Core.Bool.{cond}
 use Rattle.format.specs.Run.{got, noToken}
 use Rattle.writing.proofs.Laws.{wrote-none}
-use Rattle.reading.proofs.Fields.{none-else, none-name}
+use Rattle.read_field.proofs.Fields.{none-else, none-name}
 use native.Mathlib.Omega.{arith}
 use borrow.Author.Needs.{needs}
-use Rattle.reading.proofs.none_left.Statement.{statement}
-use Rattle.reading.proofs.none_left.Tie as tie
-use Rattle.reading.proofs.none_left.Reads as reads
-use Rattle.reading.proofs.none_left.Lts as lts
+use Rattle.read_field.proofs.none_left.Statement.{statement}
+use Rattle.read_field.proofs.none_left.Tie as tie
+use Rattle.read_field.proofs.none_left.Reads as reads
+use Rattle.read_field.proofs.none_left.Lts as lts
 
 enum-known-f : tie.Need-enum-known-f
 enum-known-f c = search needs

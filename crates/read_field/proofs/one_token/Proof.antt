@@ -1,16 +1,16 @@
 use mathlib.Core.Path.{_≡_, sym, ap, subst, _∙_}
 use Rattle.format.specs.Run.{readField}
-use Rattle.reading.specs.Reading.{Gives}
+use Rattle.read_field.specs.Fields.{Gives}
 use Rattle.run.specs.Run.{kindFor}
-use Rattle.reading.proofs.Fields.{gives-token, bad-token}
+use Rattle.read_field.proofs.Fields.{gives-token, bad-token}
 use native.Mathlib.Omega.{arith}
 use borrow.Author.Needs.{needs}
-use Rattle.reading.proofs.one_token.Statement.{statement}
-use Rattle.reading.proofs.one_token.Tie as tie
-use Rattle.reading.proofs.one_token.Reads as reads
-use Rattle.reading.proofs.one_token.Lts as lts
-use Rattle.reading.proofs.before.Reads as before-reads
-use Rattle.reading.proofs.none_left.Reads as none-left-reads
+use Rattle.read_field.proofs.one_token.Statement.{statement}
+use Rattle.read_field.proofs.one_token.Tie as tie
+use Rattle.read_field.proofs.one_token.Reads as reads
+use Rattle.read_field.proofs.one_token.Lts as lts
+use Rattle.read_field.proofs.before.Reads as before-reads
+use Rattle.read_field.proofs.none_left.Reads as none-left-reads
 use Rattle.values.proofs.of_bare.Reads as of-bare-reads
 use Rattle.values.proofs.of_quoted.Reads as of-quoted-reads
 use Rattle.tokens.proofs.next_token.Reads as next-token-reads

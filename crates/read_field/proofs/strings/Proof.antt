@@ -2,14 +2,14 @@ use mathlib.Core.Path.{_≡_, sym, ap, subst, _∙_}
 use Prim.Native.Nat.{_+_, _*_, _-_, _≤_}
 use lib.ListN.{length, drop}
 use Rattle.format.specs.Token.{tokens}
-use Rattle.reading.proofs.Texts.{Before, before-start, before-next, next-string, strings-missing, strings-bad, strings-all}
+use Rattle.read_field.proofs.Texts.{Before, before-start, before-next, next-string, strings-missing, strings-bad, strings-all}
 use native.Mathlib.Omega.{arith}
 use borrow.Author.Needs.{needs}
-use Rattle.reading.proofs.strings.Statement.{statement}
-use Rattle.reading.proofs.strings.Tie as tie
-use Rattle.reading.proofs.strings.Reads as reads
-use Rattle.reading.proofs.strings.Lts as lts
-use Rattle.reading.proofs.string.Reads as string-reads
+use Rattle.read_field.proofs.strings.Statement.{statement}
+use Rattle.read_field.proofs.strings.Tie as tie
+use Rattle.read_field.proofs.strings.Reads as reads
+use Rattle.read_field.proofs.strings.Lts as lts
+use Rattle.read_field.proofs.string.Reads as string-reads
 
 abbrev Inv-loop : tie.InvT-loop
 Inv-loop out₀ n t i m₀ j₀ out m j = (n ≤ m) × (i ≤ j) × (j ≤ length t) × (m ≤ n + 256 * (j - i)) × Before out₀ out n m (tokens (drop i t)) (tokens (drop j t)) × (length out ≡ length out₀)

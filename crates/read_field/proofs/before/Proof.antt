@@ -1,9 +1,9 @@
 use native.Mathlib.Omega.{arith}
 use borrow.Author.Needs.{needs}
-use Rattle.reading.proofs.before.Statement.{statement}
-use Rattle.reading.proofs.before.Tie as tie
-use Rattle.reading.proofs.before.Reads as reads
-use Rattle.reading.proofs.before.Lts as lts
+use Rattle.read_field.proofs.before.Statement.{statement}
+use Rattle.read_field.proofs.before.Tie as tie
+use Rattle.read_field.proofs.before.Reads as reads
+use Rattle.read_field.proofs.before.Lts as lts
 
 enum-told : tie.Need-enum-told
 enum-told c = search needs

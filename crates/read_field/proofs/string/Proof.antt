@@ -1,15 +1,15 @@
 use mathlib.Core.Path.{_≡_, refl, sym, ap, subst, _∙_}
 use Rattle.format.specs.Run.{oneToken, gotOr}
 use Rattle.format.specs.Text.{readString}
-use Rattle.reading.proofs.Fields.{gives-string, onward}
+use Rattle.read_field.proofs.Fields.{gives-string, onward}
 use native.Mathlib.Omega.{arith}
 use borrow.Author.Needs.{needs}
-use Rattle.reading.proofs.string.Statement.{statement}
-use Rattle.reading.proofs.string.Tie as tie
-use Rattle.reading.proofs.string.Reads as reads
-use Rattle.reading.proofs.string.Lts as lts
+use Rattle.read_field.proofs.string.Statement.{statement}
+use Rattle.read_field.proofs.string.Tie as tie
+use Rattle.read_field.proofs.string.Reads as reads
+use Rattle.read_field.proofs.string.Lts as lts
 use Rattle.read_text.proofs.string.Reads as string-reads
-use Rattle.reading.proofs.before.Reads as before-reads
+use Rattle.read_field.proofs.before.Reads as before-reads
 use Rattle.tokens.proofs.next_token.Reads as next-token-reads
 
 next-token-requires : tie.Need-next-token-requires

@@ -1,9 +1,9 @@
 use native.Mathlib.Omega.{arith}
 use borrow.Author.Needs.{needs}
-use Rattle.reading.proofs.all.Statement.{statement}
-use Rattle.reading.proofs.all.Tie as tie
-use Rattle.reading.proofs.all.Reads as reads
-use Rattle.reading.proofs.all.Lts as lts
+use Rattle.read_field.proofs.all.Statement.{statement}
+use Rattle.read_field.proofs.all.Tie as tie
+use Rattle.read_field.proofs.all.Reads as reads
+use Rattle.read_field.proofs.all.Lts as lts
 
 enum-told : tie.Need-enum-told
 enum-told c = search needs
