@@ -1,3 +1,2 @@
-mod Answers
 pub mod Records
 pub mod Turns

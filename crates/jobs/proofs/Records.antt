@@ -6,11 +6,8 @@ use mathlib.Core.List.{List, [], _++_}
 use mathlib.Core.Option.{none}
 use lib.ListN.{length}
 use lib.Seq.{slice}
-use borrow.Author.Tests.{le-leb}
 use Rattle.format.specs.Lists.{flatMap}
-use Rattle.format.specs.Judge.{rejected, judged}
-use Rattle.format.specs.Entries.{refusal, maxText, reading}
-use Rattle.format.specs.Job.{Job, answerLine, recordLine, written, job}
+use Rattle.format.specs.Job.{recordLine, written, job}
 use Rattle.job_form.specs.Lines.{linesAt, NextLine}
 use Rattle.job_form.specs.declared.form.Form.the-variants.{Bad, Good}
 use Rattle.job_form.specs.declared.form.Places.{Places}
@@ -32,8 +29,3 @@ module _ (f : List ℕ → List ℕ) (j : List ℕ) (at : ℕ) where
 
   pub none-written : length j ≤ at → flatMap f (linesAt j at) ≡ []
   none-written h = ap (flatMap f) (no-lines j at h)
-
--- "a refused stanza is reported at each record"
-pub refused-line : (j : Job) (t : List ℕ) (n i : ℕ) → judged (j .stanza) ≡ rejected n i → length t ≤ maxText → recordLine j t ≡ answerLine (refusal n i)
-unfolding reading
-refused-line j t n i e h = rw (le-leb (length t) maxText h, e)

@@ -16,7 +16,7 @@ use Rattle.writing.specs.Writing.{Wrote}
 use Rattle.writing.proofs.Laws.{wrote-none, wrote-append, wrote-length}
 use Rattle.job_form.specs.Lines.{linesAt, NextLine}
 use Rattle.job_form.specs.Form.{jobAt, Forms, Formed}
-use Rattle.jobs.specs.Answer.{lineUnder}
+use Rattle.job_record.specs.Answer.{lineUnder}
 use Rattle.job_form.specs.declared.form.Places.{Places}
 use Rattle.job_form.specs.declared.form.Form.{Form}
 use Rattle.job_form.specs.declared.form.Form.the-variants.{Bad, Good}

@@ -1,19 +1,15 @@
 // A job, answered in turns: the stanza is judged once, and then each turn writes the lines of as many records as have room.
-ghost use Prim.Native.Nat.{_^_, _≤_, _<_};
+ghost use Prim.Native.Nat.{_≤_};
 ghost use mathlib.Core.Path.{_≡_};
 ghost use mathlib.Core.Bool.{true};
 ghost use lib.ListN.{length};
-ghost use Rattle.stanza.specs.Stanza.{Outlined};
-ghost use Rattle.writing.specs.Writing.{Wrote};
-ghost use Rattle.jobs.specs.Answer.{lineUnder};
 ghost use Rattle.jobs.specs.Job.{Begins, Turns};
 use job_form::form::Form;
 use job_form::form::Places;
 use job_form::form::read_form;
 use job_form::lines::line_end;
 use job_line::put_bad_job;
-use job_line::put_no;
-use job_line::put_ok;
+use job_record::put_record;
 use stanza::Outline;
 
 // The longest RDATA.
@@ -71,30 +67,6 @@ pub fn begin(j: &[u8]) -> Job
             }
         }
     }
-}
-
-// The line that answers a record under a judged stanza. Its RDATA is read into a buffer that has room for any.
-pub fn put_record(
-    out: &mut [u8],
-    n: usize,
-    s: &[u8],
-    o: Outline,
-    codes: &[u64; 64],
-    origin: &[u8],
-    t: &[u8],
-    rdata: &mut [u8],
-) -> usize
-    requires { ⌜ (n < 2 ^ 31) × Outlined (now s) (now codes) o × (length (now t) ≤ 1048576) × (65535 ≤ length (now rdata)) ⌝ }
-    ensures { λ r. ⌜ Wrote (now (out .entry)) (now (out .exit)) n r (lineUnder (now (s .entry)) (now (origin .entry)) (now (t .entry))) ⌝ }
-{
-    let r = read_entry::read_judged(s, o, codes, 1, o.count, origin, t, rdata, 0);
-    let number = r.number;
-    let place = r.place;
-    if number == 0 {
-        let m = place as usize;
-        return put_ok(out, n, &rdata[0..m]);
-    }
-    put_no(out, n, number, place)
 }
 
 // The lines of the records from a place on, while there is room for the longest.

@@ -3,7 +3,7 @@ use mathlib.Core.Path.{_≡_}
 use lib.ListN.{length, take}
 use lib.Seq.{slice}
 use Rattle.writing.proofs.Laws.{wrote-length, wrote-text}
-use Rattle.jobs.specs.Answer.{lineUnder}
+use Rattle.job_record.specs.Answer.{lineUnder}
 use Rattle.jobs.proofs.Turns.{Reached, reached-none, reached-next, formed, outlined-lent, line-lent, turn-last, turn-full}
 use native.Mathlib.Omega.{arith}
 use borrow.Author.Needs.{needs}
@@ -12,7 +12,7 @@ use Rattle.jobs.proofs.put_lines.Tie as tie
 use Rattle.jobs.proofs.put_lines.Reads as reads
 use Rattle.jobs.proofs.put_lines.Lts as lts
 use Rattle.job_form.proofs.lines.line_end.Reads as line-end-reads
-use Rattle.jobs.proofs.put_record.Reads as put-record-reads
+use Rattle.job_record.proofs.put_record.Reads as put-record-reads
 
 abbrev Inv-loop : tie.InvT-loop
 Inv-loop out₀ j at rdata₀ origin codes outline from to end m₀ n₀ out rdata m n = Reached (lineUnder (slice from to j) (take end origin)) j at out₀ out m n

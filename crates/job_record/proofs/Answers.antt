@@ -19,7 +19,7 @@ use Rattle.entry.specs.declared.Reply.{Reply}
 use Rattle.entry.specs.Entries.{Leaves}
 use Rattle.read_entry.proofs.Readings.{read-rejected}
 use Rattle.entry.proofs.Numbers.{read-told, zero-done}
-use Rattle.jobs.specs.Answer.{lineUnder}
+use Rattle.job_record.specs.Answer.{lineUnder}
 
 -- What reading left in a buffer with room for any RDATA is its answer.
 module _ (a : Answer) (h : Short a) (out : List ℕ) (big : 65535 ≤ length out) where

@@ -1,9 +1,9 @@
 use Rattle.writing.proofs.Laws.{wrote-text}
-use Rattle.jobs.proofs.Answers.{record-place, record-done, record-refused}
+use Rattle.job_record.proofs.Answers.{record-place, record-done, record-refused}
 use native.Mathlib.Omega.{arith}
 use borrow.Author.Needs.{needs}
-use Rattle.jobs.proofs.put_record.Statement.{statement}
-use Rattle.jobs.proofs.put_record.Tie as tie
+use Rattle.job_record.proofs.put_record.Statement.{statement}
+use Rattle.job_record.proofs.put_record.Tie as tie
 
 read-judged-requires : tie.Need-read-judged-requires
 read-judged-requires c κs = search needs

@@ -1,0 +1,33 @@
+// The line that answers a record of a job, whose stanza is judged once for all its records.
+ghost use Prim.Native.Nat.{_^_, _≤_, _<_};
+ghost use lib.ListN.{length};
+ghost use Rattle.stanza.specs.Stanza.{Outlined};
+ghost use Rattle.writing.specs.Writing.{Wrote};
+ghost use Rattle.job_record.specs.Answer.{lineUnder};
+use job_line::put_no;
+use job_line::put_ok;
+use stanza::Outline;
+
+// The line that answers a record under a judged stanza. Its RDATA is read into a buffer that has room for any.
+pub fn put_record(
+    out: &mut [u8],
+    n: usize,
+    s: &[u8],
+    o: Outline,
+    codes: &[u64; 64],
+    origin: &[u8],
+    t: &[u8],
+    rdata: &mut [u8],
+) -> usize
+    requires { ⌜ (n < 2 ^ 31) × Outlined (now s) (now codes) o × (length (now t) ≤ 1048576) × (65535 ≤ length (now rdata)) ⌝ }
+    ensures { λ r. ⌜ Wrote (now (out .entry)) (now (out .exit)) n r (lineUnder (now (s .entry)) (now (origin .entry)) (now (t .entry))) ⌝ }
+{
+    let r = read_entry::read_judged(s, o, codes, 1, o.count, origin, t, rdata, 0);
+    let number = r.number;
+    let place = r.place;
+    if number == 0 {
+        let m = place as usize;
+        return put_ok(out, n, &rdata[0..m]);
+    }
+    put_no(out, n, number, place)
+}
