@@ -15,7 +15,7 @@ use Rattle.format.specs.Entries.{run}
 use Rattle.format.specs.Demands.{tailsLast, soundKind, Sound}
 use Rattle.format.proofs.Lists.{and-left, and-right}
 use Rattle.format.proofs.Judge.{judges}
-use Rattle.format.proofs.Demands.{Fit, run-fit}
+use Rattle.format.proofs.Demands.{run-fit}
 use Rattle.types.specs.declared.FieldDesc.{FieldDesc}
 use Rattle.stanza.specs.declared.Outline.{Outline}
 use Rattle.types.specs.Fields.{noField}

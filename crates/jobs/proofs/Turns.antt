@@ -2,20 +2,20 @@
 use Prim.Native.Nat.{ℕ, suc, _+_, _-_, _*_, _≤_, _<_}
 use mathlib.Core.Path.{_≡_, refl, sym, ap, _∙_}
 use mathlib.Core.Bool.{Bool, true, false, cond, true≢false}
-use mathlib.Core.List.{List, [], _∷_, _++_, append-assoc, append-nil}
+use mathlib.Core.List.{List, [], _++_, append-assoc}
 use mathlib.Core.Option.{none}
 use native.Mathlib.Omega.{arith}
 use lib.ListN.{length, take, drop}
 use lib.Seq.{slice, sets-eq, take-at}
 use Rattle.format.specs.Lists.{flatMap, flat}
-use Rattle.format.specs.Job.{recordLine, written, job}
+use Rattle.format.specs.Job.{written, job}
 use Rattle.octets.proofs.Slices.{lent}
 use Rattle.stanza.specs.declared.Outline.{Outline}
 use Rattle.stanza.specs.Stanza.{Outlined}
 use Rattle.writing.specs.Writing.{Wrote}
 use Rattle.writing.proofs.Laws.{wrote-none, wrote-append, wrote-length}
 use Rattle.job_form.specs.Lines.{linesAt, NextLine}
-use Rattle.job_form.specs.Form.{jobAt, Forms, Formed}
+use Rattle.job_form.specs.Form.{Forms, Formed}
 use Rattle.job_record.specs.Answer.{lineUnder}
 use Rattle.job_form.specs.declared.form.Places.{Places}
 use Rattle.job_form.specs.declared.form.Form.{Form}
@@ -23,7 +23,6 @@ use Rattle.job_form.specs.declared.form.Form.the-variants.{Bad, Good}
 use Rattle.jobs.specs.declared.Job.{Job}
 use Rattle.jobs.specs.declared.Turn.{Turn}
 use Rattle.jobs.specs.Job.{formOf, Begins, leftAt, Turns, AllTurns, last, before-others}
-use Rattle.job_form.proofs.Places.{no-lines}
 use Rattle.job_line.proofs.Answers.{record-most}
 use Rattle.jobs.proofs.Records.{bad-written, good-written, next-written, none-written}
 

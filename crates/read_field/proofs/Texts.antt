@@ -2,19 +2,19 @@
 use Prim.Native.Nat.{ℕ, suc, _≤_, _<_}
 use mathlib.Core.Path.{_≡_, refl, sym, ap, subst, _∙_}
 use mathlib.Core.Bool.{false, cond}
-use mathlib.Core.List.{List, [], _∷_, _++_}
+use mathlib.Core.List.{List, [], _∷_}
 use mathlib.Core.Option.{Option, none, some}
 use native.Mathlib.Omega.{arith}
 use native.Mathlib.Decide.{decLe}
 use lib.ListN.{length}
 use lib.Dec.{leb}
 use borrow.Author.Tests.{leb-true}
-use Rattle.format.specs.Lists.{_>>=_, provided, consBoth, eachOf, null, flat}
+use Rattle.format.specs.Lists.{_>>=_, consBoth, eachOf, null, flat}
 use Rattle.format.specs.Octets.{inRange}
 use Rattle.format.specs.Field.{strs}
 use Rattle.format.specs.Token.{Token}
 use Rattle.format.specs.Text.{withCount, counted, stringValue, readString}
-use Rattle.format.specs.Run.{Got, noToken, badToken, got, gotOr, oneToken, readField}
+use Rattle.format.specs.Run.{noToken, badToken, got, gotOr, oneToken, readField}
 use Rattle.format.proofs.Lists.{bind-some, provided-some, and-right}
 use Rattle.writing.specs.Writing.{Wrote}
 use Rattle.writing.proofs.Values.{after, Begun, begun-none, begun-piece, begun-fault, begun-all}

@@ -10,7 +10,7 @@ use borrow.Author.Tests.{le-leb, lt-leb}
 use Rattle.format.specs.Lists.{flat}
 use Rattle.format.specs.Field.{Kind}
 use Rattle.format.specs.Run.{Parts, refused, parts, maxRdata}
-use Rattle.format.specs.Entries.{done, refusal}
+use Rattle.format.specs.Entries.{done}
 use Rattle.writing.specs.Writing.{Wrote}
 use Rattle.writing.proofs.Laws.{wrote-length, wrote-text}
 use Rattle.reading.specs.declared.Run.{Run}

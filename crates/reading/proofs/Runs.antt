@@ -1,7 +1,7 @@
 -- What the fields after the first few of a run make of the tokens that are left.
 use Prim.Native.Nat.{ℕ, suc, min, _+_, _≤_, _<_}
 use mathlib.Core.Path.{_≡_, refl, sym, ap, subst, _∙_}
-use mathlib.Core.Bool.{Bool, true, false, true≢false}
+use mathlib.Core.Bool.{true, false, true≢false}
 use mathlib.Core.List.{List, [], _∷_, _++_, append-assoc, append-nil}
 use native.Mathlib.Omega.{arith}
 use native.Mathlib.Decide.{decLe}
@@ -9,7 +9,7 @@ use lib.ListN.{length, length-append}
 use Rattle.format.specs.Lists.{null, flat}
 use Rattle.format.specs.Field.{Kind}
 use Rattle.format.specs.Token.{Token}
-use Rattle.format.specs.Run.{Got, noToken, badToken, got, refused, parts, withFirst, maxRdata, afterReading, readRun}
+use Rattle.format.specs.Run.{Got, noToken, badToken, got, refused, parts, withFirst, maxRdata, readRun}
 use Rattle.writing.specs.Writing.{Wrote}
 use Rattle.writing.proofs.Laws.{wrote-none, wrote-append}
 use Rattle.reading.specs.Reading.{Stands}

@@ -3,12 +3,11 @@ use Prim.Native.Nat.{ℕ, zero, suc, _+_, _-_, _≤_, _<_}
 use mathlib.Core.Path.{_≡_, refl, sym, ap, _∙_, subst}
 use mathlib.Core.List.{List, [], _∷_}
 use native.Mathlib.Omega.{arith}
-use native.Mathlib.Numerals.{add-one}
 use lib.ListN.{length, take, drop, getD, length-drop}
-use lib.Seq.{slice, drop-cons, drop-drop, take-length}
-use Rattle.format.specs.Wire.{Taken, short, bad, took, taken}
+use lib.Seq.{slice, drop-drop, take-length}
+use Rattle.format.specs.Wire.{short, bad, took, taken}
 use Rattle.format.specs.Field.{Symbol, Kind, start, kinds}
-use Rattle.format.specs.Run.{Parts, refused, parts, withFirst, partsOf, shown, joined, textOfParts, textOf}
+use Rattle.format.specs.Run.{refused, parts, withFirst, partsOf}
 use Rattle.format.proofs.Wire.{fits}
 use Rattle.format.proofs.Run.{more}
 use Rattle.types.specs.declared.FieldDesc.{FieldDesc}
@@ -17,7 +16,7 @@ use Rattle.types.specs.Types.{kindOf, intWidth, symbolsIn, orNone}
 use Rattle.wire.specs.declared.Take.{Take}
 use Rattle.wire.specs.declared.Take.the-variants.{Short, Bad, Took}
 use Rattle.wire.specs.Wire.{takenIn}
-use Rattle.run.specs.Run.{kindFor, kindsFrom, Checks}
+use Rattle.run.specs.Run.{kindFor, kindsFrom}
 
 -- the kinds of a stanza's fields, and of a run of them
 module _ (s : List ℕ) (fs : List FieldDesc) where

@@ -1,5 +1,5 @@
 -- What a type with its qualifiers means, by what is asked of the qualifiers.
-use Prim.Native.Nat.{ℕ, zero, suc, _+_, _≤_, _<_, _^_}
+use Prim.Native.Nat.{ℕ, _<_, _^_}
 use mathlib.Core.Path.{_≡_, refl, sym, ap, _∙_}
 use mathlib.Core.Bool.{Bool, true, false, not, cond, _&&_, true≢false}
 use mathlib.Core.List.{List, [], _∷_}
@@ -9,16 +9,16 @@ use lib.Dec.{eqb}
 use borrow.Author.Tests.{eq-eqb, ne-eqb}
 use lib.Seq.{slice}
 use Rattle.format.specs.Lists.{_>>=_, consBoth, eachOf, anyOf, allOf, twice, provided, null}
-use Rattle.format.specs.Octets.{ascii, sameOctets, splitOn}
+use Rattle.format.specs.Octets.{sameOctets, splitOn}
 use Rattle.format.specs.Field.{Part, Kind, Symbol, name, rrtype, bitmap, str, strs, raw, hex, hexc}
 use Rattle.format.specs.Grammar.{Qualifier, qualifier}
-use Rattle.format.specs.Types.{Takes, symbols, words, noWords, hasWord, nameKind, stringKind, unknownWord, symbolOf, wordOf, sameSymbol, allowed, Meaning, unknown, forbidden, means, orForbidden, meaningOf, typeRows, takesOf}
+use Rattle.format.specs.Types.{Takes, symbols, words, noWords, hasWord, nameKind, stringKind, unknownWord, wordOf, allowed, unknown, forbidden, means, orForbidden, meaningOf, typeRows, takesOf}
 use Rattle.format.proofs.Lists.{split-some, placed-some}
 use Rattle.qualifiers.specs.Qualifiers.{piecesIn, qualifiersIn, anyIn, twiceIn, wordsFor}
 use Rattle.qualifiers.specs.declared.Words.{Words}
 use Rattle.qualifiers.specs.declared.Words.the-variants.{Nothing, OnR, OnN, OnS, OnX}
 use Rattle.qualifiers.specs.declared.Test.the-variants.{Malformed, Unknown, NotSymbol, NotWord, IsWord}
-use Rattle.qualifiers.proofs.Given.{ill-formed, well-formed, not-known, symbols-refused, words-refused, Symbols, symbols-given, Listed, words-given}
+use Rattle.qualifiers.proofs.Given.{ill-formed, well-formed, not-known, symbols-refused, words-refused, symbols-given, words-given}
 use Rattle.types.specs.declared.Form.{Form}
 use Rattle.types.specs.declared.Form.the-variants.{Int, Rrtype, Bitmap, Dotted, Aa, Aaaa, Name, Str, Strs, Raw, Base32, Base64, Hex, Hexc, Eui, Time}
 use Rattle.types.specs.declared.Meant.{Meant}

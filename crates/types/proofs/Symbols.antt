@@ -7,12 +7,12 @@ use mathlib.Core.Option.{Option, none, some}
 use native.Mathlib.Omega.{arith}
 use Rattle.format.specs.Lists.{_>>=_, provided, eachOf, null, anyOf, allOf, twice}
 use Rattle.format.specs.Octets.{ascii, sameOctets}
-use Rattle.format.specs.Field.{Symbol, NameMarks, Kind, int, rrtype, bitmap, a4, aa, aaaa, name, str, strs, raw, b32, b64, hex, hexc, eui, time}
+use Rattle.format.specs.Field.{Symbol, Kind, int, rrtype, bitmap, a4, aa, aaaa, name, str, strs, raw, b32, b64, hex, hexc, eui, time}
 use Rattle.format.specs.Grammar.{Qualifier}
-use Rattle.format.specs.Types.{Takes, symbols, words, TypeRow, hasWord, nameKind, stringKind, typeRows, takesOf, unknownWord, symbolOf, wordOf, sameSymbol, allowed, Meaning, unknown, forbidden, means, orForbidden, meaningOf, meaning}
+use Rattle.format.specs.Types.{Takes, symbols, words, TypeRow, hasWord, nameKind, stringKind, typeRows, takesOf, unknownWord, symbolOf, wordOf, sameSymbol, allowed, unknown, means, orForbidden, meaningOf, meaning}
 use Rattle.format.proofs.Lists.{bind-some, provided-some}
 use Rattle.qualifiers.specs.Qualifiers.{qualifiersIn}
-use Rattle.types.specs.Types.{symbolsIn, kindIn, meaningIn}
+use Rattle.types.specs.Types.{symbolsIn, meaningIn}
 
 abbrev isInteger : Kind → Bool
 isInteger (int w l) = true

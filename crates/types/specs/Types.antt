@@ -1,7 +1,7 @@
 -- The kinds of fields and the types in code, and what they mean by the definitions of document 01.
 use Prim.Native.Nat.{ℕ, _/_, _%_}
 use mathlib.Core.Path.{_≡_}
-use mathlib.Core.Bool.{Bool, true, false, cond}
+use mathlib.Core.Bool.{Bool, cond}
 use mathlib.Core.List.{List, [], _∷_}
 use mathlib.Core.Option.{Option, none, some}
 use lib.ListN.{length}
@@ -10,7 +10,7 @@ use lib.Dec.{eqb, leb}
 use lib.Bits.{bitOr}
 use Rattle.format.specs.Lists.{_>>=_, eachOf, anyOf, null}
 use Rattle.format.specs.Octets.{ascii}
-use Rattle.format.specs.Field.{Symbol, NameMarks, Kind, int, rrtype, bitmap, a4, aa, aaaa, name, str, strs, raw, b32, b64, hex, hexc, eui, time}
+use Rattle.format.specs.Field.{Symbol, Kind, int, rrtype, bitmap, a4, aa, aaaa, name, str, strs, raw, b32, b64, hex, hexc, eui, time}
 use Rattle.format.specs.Grammar.{Qualifier, qualifier}
 use Rattle.format.specs.Types.{TypeRow, Takes, symbols, words, noWords, nameKind, stringKind, unknownWord, symbolOf, allowed, Meaning, unknown, forbidden, means, orForbidden, meaningOf, meaning}
 use Rattle.qualifiers.specs.Qualifiers.{piecesIn, qualifiersIn, anyIn}
