@@ -3,9 +3,8 @@ ghost use Prim.Native.Nat.{_≤_, _<_};
 ghost use lib.ListN.{length};
 ghost use lib.Seq.{slice};
 ghost use mathlib.Core.Path.{_≡_};
-ghost use mathlib.Core.Bool.{true, false, cond};
+ghost use mathlib.Core.Bool.{true, false};
 ghost use Rattle.format.specs.Lists.{anyOf};
-ghost use Rattle.format.specs.Octets.{lowered};
 ghost use Rattle.octets.specs.Octets.{partIn};
 ghost use Rattle.qualifiers.specs.Qualifiers.{anyIn, sameBy, twiceIn, piecesIn, nameIn};
 ghost use Rattle.distinct.specs.Distinct.{bucketOf, commaAt, NumberAt, SymbolAt};
@@ -16,36 +15,6 @@ use qualifiers::begins_name;
 pub enum Piece {
     Other,
     Symbol(usize, usize, u64),
-}
-
-// An octet without the case of letters, or as it is.
-fn fold(ignoring: bool, b: u8) -> u8
-    ensures { λ r. ⌜ r ≡ cond ignoring (lowered b) b ⌝ }
-{
-    if ignoring {
-        return octets::lower(b);
-    }
-    b
-}
-
-// Whether the texts from a to e and from b to f are the same, ignoring the case of letters or not.
-pub fn same(ignoring: bool, s: &[u8], a: usize, e: usize, b: usize, f: usize) -> bool
-    requires { ⌜ (a ≤ e) × (e ≤ length (now s)) × (b ≤ f) × (f ≤ length (now s)) ⌝ }
-    ensures { λ r. ⌜ r ≡ sameBy ignoring (slice a e (now (s .entry))) (slice b f (now (s .entry))) ⌝ }
-{
-    if e - a != f - b {
-        return false;
-    }
-    let mut i = a;
-    let mut j = b;
-    while i < e {
-        if fold(ignoring, s[i]) != fold(ignoring, s[j]) {
-            return false;
-        }
-        i = i + 1;
-        j = j + 1;
-    }
-    true
 }
 
 // Whether the name from a to n and the qualifier from i to z start with other octets.
@@ -59,7 +28,7 @@ fn starts_other(ignoring: bool, s: &[u8], a: usize, n: usize, i: usize, z: usize
     if z <= i {
         return false;
     }
-    fold(ignoring, s[a]) != fold(ignoring, s[i])
+    qualifiers::fold(ignoring, s[a]) != qualifiers::fold(ignoring, s[i])
 }
 
 // Whether the name from a to n is the name of the qualifier from i to z. Most start otherwise, and are not gone through.
@@ -71,7 +40,7 @@ fn names(ignoring: bool, s: &[u8], a: usize, n: usize, i: usize, z: usize) -> bo
         return false;
     }
     let m = octets::skip(s, i, z, octets::Class::NameOctet);
-    same(ignoring, s, a, n, i, m)
+    qualifiers::same(ignoring, s, a, n, s, i, m)
 }
 
 // Whether the name from a to n is the name of some qualifier between h and b.
@@ -98,8 +67,8 @@ fn bucket(ignoring: bool, s: &[u8], a: usize, n: usize) -> usize
     ensures { λ r. ⌜ r ≡ bucketOf ignoring (slice a n (now (s .entry))) ⌝ }
 {
     if a < n {
-        let x = fold(ignoring, s[a]) as usize;
-        let y = fold(ignoring, s[n - 1]) as usize;
+        let x = qualifiers::fold(ignoring, s[a]) as usize;
+        let y = qualifiers::fold(ignoring, s[n - 1]) as usize;
         return (((n - a) % 32 + x) * 8 + y) % 256;
     }
     0

@@ -65,15 +65,15 @@ same-length g (x ∷ xs) (y ∷ ys) h =
     by false e = refl
 
 -- one octet of each, and the rest
-module _ (g : Bool) (s : List ℕ) (i e j f x y : ℕ) (h : i < e) (l : e ≤ length s) (k : j < f) (m : f ≤ length s)
-    (p : x ≡ cond g (lowered (getD s i 0)) (getD s i 0)) (q : y ≡ cond g (lowered (getD s j 0)) (getD s j 0)) where
-  same-one : sameBy g (slice i e s) (slice j f s) ≡ eqb x y && sameBy g (slice (i + 1) e s) (slice (j + 1) f s)
-  same-one = rw (next s i e h l, next s j f k m, p, q) (same-next g (getD s i 0) (getD s j 0) (slice (i + 1) e s) (slice (j + 1) f s))
+module _ (g : Bool) (s t : List ℕ) (i e j f x y : ℕ) (h : i < e) (l : e ≤ length s) (k : j < f) (m : f ≤ length t)
+    (p : x ≡ cond g (lowered (getD s i 0)) (getD s i 0)) (q : y ≡ cond g (lowered (getD t j 0)) (getD t j 0)) where
+  same-one : sameBy g (slice i e s) (slice j f t) ≡ eqb x y && sameBy g (slice (i + 1) e s) (slice (j + 1) f t)
+  same-one = rw (next s i e h l, next t j f k m, p, q) (same-next g (getD s i 0) (getD t j 0) (slice (i + 1) e s) (slice (j + 1) f t))
 
-  pub same-on : x ≡ y → sameBy g (slice (i + 1) e s) (slice (j + 1) f s) ≡ sameBy g (slice i e s) (slice j f s)
+  pub same-on : x ≡ y → sameBy g (slice (i + 1) e s) (slice (j + 1) f t) ≡ sameBy g (slice i e s) (slice j f t)
   same-on r = rw (same-one, eq-eqb x y r)
 
-  pub same-off : (x ≡ y → ⊥) → false ≡ sameBy g (slice i e s) (slice j f s)
+  pub same-off : (x ≡ y → ⊥) → false ≡ sameBy g (slice i e s) (slice j f t)
   same-off r = rw (same-one, ne-eqb x y r)
 
 -- a name and a qualifier that start with other octets
@@ -89,12 +89,12 @@ first-other g s a n i z x y h l k m p q r = rw (next s a n h l, next s i z k m) 
     by true = rw (same-next g (getD s a 0) (getD s i 0) (slice (a + 1) n s) (span nameOctet (slice (i + 1) z s) .front), ← p, ← q, ne-eqb x y r)
     by false = no-octet g (getD s a 0) (slice (a + 1) n s)
 
-pub same-end : (g : Bool) (s : List ℕ) (i e j f : ℕ) → e ≤ i → f ≤ j → true ≡ sameBy g (slice i e s) (slice j f s)
-same-end g s i e j f h k = rw (nothing s i e h, nothing s j f k, same-none g)
+pub same-end : (g : Bool) (s t : List ℕ) (i e j f : ℕ) → e ≤ i → f ≤ j → true ≡ sameBy g (slice i e s) (slice j f t)
+same-end g s t i e j f h k = rw (nothing s i e h, nothing t j f k, same-none g)
 
-pub same-lengths : (g : Bool) (s : List ℕ) (a e b f : ℕ) → e ≤ length s → f ≤ length s → (e - a ≡ f - b → ⊥) → false ≡ sameBy g (slice a e s) (slice b f s)
-same-lengths g s a e b f l m h =
-    sym (same-length g (slice a e s) (slice b f s) (λ q. h (omega (arith, length-slice a e s l, length-slice b f s m))))
+pub same-lengths : (g : Bool) (s t : List ℕ) (a e b f : ℕ) → e ≤ length s → f ≤ length t → (e - a ≡ f - b → ⊥) → false ≡ sameBy g (slice a e s) (slice b f t)
+same-lengths g s t a e b f l m h =
+    sym (same-length g (slice a e s) (slice b f t) (λ q. h (omega (arith, length-slice a e s l, length-slice b f t m))))
 
 -- the qualifier of a part that begins with a name, and of one that does not
 abbrev pub begins : List ℕ → Bool

@@ -4,13 +4,14 @@ ghost use lib.ListN.{length};
 ghost use lib.Dec.{leb};
 ghost use lib.Seq.{slice};
 ghost use mathlib.Core.Path.{_≡_};
-ghost use mathlib.Core.Bool.{_&&_};
+ghost use mathlib.Core.Bool.{_&&_, cond};
 ghost use mathlib.Core.List.{[], _∷_};
 ghost use mathlib.Core.Option.{none, some};
+ghost use Rattle.format.specs.Octets.{lowered};
 ghost use Rattle.format.specs.Grammar.{word, symbol, startsWithLetter, qualifier};
 ghost use Rattle.format.specs.Types.{knownWord, hasWord};
 ghost use Rattle.octets.specs.Octets.{partIn};
-ghost use Rattle.qualifiers.specs.Qualifiers.{foundIn, wordsFor, holdsOf, anyIn};
+ghost use Rattle.qualifiers.specs.Qualifiers.{foundIn, wordsFor, holdsOf, anyIn, sameBy};
 
 // A qualifier: none by the grammar; a word; or a symbol, with the end of its name and its number.
 pub enum Found {
@@ -35,6 +36,36 @@ pub enum Test {
     NotSymbol(u64),
     NotWord(Words),
     IsWord(u8),
+}
+
+// An octet without the case of letters, or as it is.
+pub fn fold(ignoring: bool, b: u8) -> u8
+    ensures { λ r. ⌜ r ≡ cond ignoring (lowered b) b ⌝ }
+{
+    if ignoring {
+        return octets::lower(b);
+    }
+    b
+}
+
+// Whether the text of s from a to e and that of t from b to f are the same, ignoring the case of letters or not.
+pub fn same(ignoring: bool, s: &[u8], a: usize, e: usize, t: &[u8], b: usize, f: usize) -> bool
+    requires { ⌜ (a ≤ e) × (e ≤ length (now s)) × (b ≤ f) × (f ≤ length (now t)) ⌝ }
+    ensures { λ r. ⌜ r ≡ sameBy ignoring (slice a e (now (s .entry))) (slice b f (now (t .entry))) ⌝ }
+{
+    if e - a != f - b {
+        return false;
+    }
+    let mut i = a;
+    let mut j = b;
+    while i < e {
+        if fold(ignoring, s[i]) != fold(ignoring, t[j]) {
+            return false;
+        }
+        i = i + 1;
+        j = j + 1;
+    }
+    true
 }
 
 // A letter first, and 63 octets at most.

@@ -1,25 +1,25 @@
 -- Laws of the first symbol that passes, among the pieces between commas.
-use Prim.Native.Nat.{ℕ, _+_, _-_, _^_, _≤_, _<_}
+use Prim.Native.Nat.{ℕ, _+_, _^_, _≤_}
 use Prim.Native.Char.{code}
 use mathlib.Core.Path.{_≡_, refl, sym, ap, _∙_}
-use mathlib.Core.Bool.{Bool, true, false, cond, _&&_}
+use mathlib.Core.Bool.{Bool, true, false, cond}
 use mathlib.Core.List.{List, [], _∷_}
 use mathlib.Core.Option.{Option, none, some}
 use native.Mathlib.Omega.{arith}
-use lib.ListN.{length, take, getD, length-take, length-drop}
+use lib.ListN.{length, take, length-take, length-drop}
 use lib.Seq.{slice, length-slice}
 use lib.Dec.{eqb, ltb}
 use borrow.Author.Tests.{ne-eqb, eq-eqb, eqb-true, eqb-false}
 use Rattle.format.specs.Lists.{_>>=_, provided, orElse, consBoth, eachOf, null, Spanned}
-use Rattle.format.specs.Octets.{nameOctet, lowered, sameWord}
+use Rattle.format.specs.Octets.{nameOctet, sameWord}
 use Rattle.format.specs.Number.{decimal, decimalOf, symbolOrDecimal, symbolValue}
 use Rattle.format.specs.Field.{Part, Symbol}
 use Rattle.format.specs.Grammar.{Qualifier, word, symbol, after, ifQualifier, qualifier}
 use Rattle.format.specs.Types.{symbolOf}
 use Rattle.octets.specs.Octets.{partIn, frontEnd}
-use Rattle.octets.proofs.Slices.{next, none as nothing, front-within}
+use Rattle.octets.proofs.Slices.{front-within}
 use Rattle.qualifiers.specs.Qualifiers.{piecesIn}
-use Rattle.qualifiers.proofs.Laws.{same-length, begins, named, notComma, last-piece, next-piece}
+use Rattle.qualifiers.proofs.Laws.{begins, named, notComma, last-piece, next-piece}
 use Rattle.types.specs.Types.{symbolsIn}
 use Rattle.symbols.specs.Symbols.{firstOf, firstIn, ifSymbol, nameFor, valueFor}
 
@@ -139,21 +139,3 @@ module _ (s : List ℕ) (a b w : ℕ) (l : List Symbol) (e : symbolsIn w s a b �
 
   pub found-value : (a ≡ b → ⊥) → firstIn (valueFor t) s a b ≡ symbolValue l t
   found-value q = among-symbols s a b w l e (valueFor t) q ∙ first-value t l
-
--- words of two texts, octet by octet
-module _ (s t : List ℕ) (i e j f x y : ℕ) (h : i < e) (l : e ≤ length s) (k : j < f) (m : f ≤ length t) (p : x ≡ lowered (getD s i 0)) (q : y ≡ lowered (getD t j 0)) where
-  word-one : sameWord (slice i e s) (slice j f t) ≡ eqb x y && sameWord (slice (i + 1) e s) (slice (j + 1) f t)
-  word-one = rw (next s i e h l, next t j f k m, p, q)
-
-  pub word-on : x ≡ y → sameWord (slice (i + 1) e s) (slice (j + 1) f t) ≡ sameWord (slice i e s) (slice j f t)
-  word-on r = rw (word-one, eq-eqb x y r)
-
-  pub word-off : (x ≡ y → ⊥) → false ≡ sameWord (slice i e s) (slice j f t)
-  word-off r = rw (word-one, ne-eqb x y r)
-
-pub word-end : (s t : List ℕ) (i e j f : ℕ) → e ≤ i → f ≤ j → true ≡ sameWord (slice i e s) (slice j f t)
-word-end s t i e j f h k = rw (nothing s i e h, nothing t j f k)
-
-pub word-lengths : (s t : List ℕ) (a e b f : ℕ) → e ≤ length s → f ≤ length t → (e - a ≡ f - b → ⊥) → false ≡ sameWord (slice a e s) (slice b f t)
-word-lengths s t a e b f l m h =
-    sym (same-length true (slice a e s) (slice b f t) (λ q. h (omega (arith, length-slice a e s l, length-slice b f t m))))

@@ -5,7 +5,6 @@ ghost use mathlib.Core.List.{List};
 ghost use mathlib.Core.Option.{some};
 ghost use lib.ListN.{length};
 ghost use lib.Seq.{slice};
-ghost use Rattle.format.specs.Octets.{sameWord};
 ghost use Rattle.format.specs.Field.{Symbol};
 ghost use Rattle.format.specs.Grammar.{qualifier};
 ghost use Rattle.format.specs.Number.{symbolOrDecimal, symbolValue};
@@ -78,26 +77,6 @@ pub fn put_number(out: &mut [u8], n: usize, s: &[u8], a: usize, b: usize, v: u64
     }
 }
 
-// Whether the text of s from a to e and that of t from i to f are the same, letters' case ignored.
-fn same_word(s: &[u8], a: usize, e: usize, t: &[u8], i: usize, f: usize) -> bool
-    requires { ⌜ (a ≤ e) × (e ≤ length (now s)) × (i ≤ f) × (f ≤ length (now t)) ⌝ }
-    ensures { λ r. ⌜ r ≡ sameWord (slice a e (now (s .entry))) (slice i f (now (t .entry))) ⌝ }
-{
-    if e - a != f - i {
-        return false;
-    }
-    let mut j = a;
-    let mut k = i;
-    while j < e {
-        if octets::lower(s[j]) != octets::lower(t[k]) {
-            return false;
-        }
-        j = j + 1;
-        k = k + 1;
-    }
-    true
-}
-
 // The number of the qualifier from a to z, where that is a symbol whose name is the text of t from i to e.
 fn value_for(s: &[u8], a: usize, z: usize, t: &[u8], i: usize, e: usize) -> Number
     requires { ⌜ (a ≤ z) × (z ≤ length (now s)) × (i ≤ e) × (e ≤ length (now t)) ⌝ }
@@ -108,7 +87,7 @@ fn value_for(s: &[u8], a: usize, z: usize, t: &[u8], i: usize, e: usize) -> Numb
         Found::Bad => Number::Fault,
         Found::Word => Number::Fault,
         Found::Numbered(n, v) => {
-            if same_word(s, a, n, t, i, e) {
+            if qualifiers::same(true, s, a, n, t, i, e) {
                 return Number::Value(v);
             }
             Number::Fault

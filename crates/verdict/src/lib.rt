@@ -190,7 +190,7 @@ fn same_name(s: &[u8], x: u16, y: u16, a: usize, e: usize) -> bool
     let b = x as usize;
     let f = writing::least(y as usize, s.len());
     if b < f {
-        return distinct::same(true, s, b, f, a, e);
+        return qualifiers::same(true, s, b, f, s, a, e);
     }
     false
 }

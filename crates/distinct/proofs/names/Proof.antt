@@ -7,7 +7,6 @@ use Rattle.distinct.proofs.names.Tie as tie
 use Rattle.distinct.proofs.names.Reads as reads
 use Rattle.distinct.proofs.names.Lts as lts
 use Rattle.octets.proofs.skip.Reads as skip-reads
-use Rattle.distinct.proofs.same.Reads as same-reads
 use Rattle.distinct.proofs.starts_other.Reads as starts-other-reads
 
 starts-other-requires : tie.Need-starts-other-requires

@@ -7,7 +7,6 @@ use Rattle.distinct.proofs.starts_other.Statement.{statement}
 use Rattle.distinct.proofs.starts_other.Tie as tie
 use Rattle.distinct.proofs.starts_other.Reads as reads
 use Rattle.distinct.proofs.starts_other.Lts as lts
-use Rattle.distinct.proofs.fold.Reads as fold-reads
 
 returns : tie.Need-returns
 returns c = λ e. absurd (true≢false (sym e))

@@ -4,7 +4,6 @@ use Rattle.verdict.proofs.same_name.Statement.{statement}
 use Rattle.verdict.proofs.same_name.Tie as tie
 use Rattle.verdict.proofs.same_name.Reads as reads
 use Rattle.verdict.proofs.same_name.Lts as lts
-use Rattle.distinct.proofs.same.Reads as same-reads
 use Rattle.writing.proofs.least.Reads as least-reads
 
 least-requires : tie.Need-least-requires

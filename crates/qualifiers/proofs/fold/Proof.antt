@@ -1,6 +1,6 @@
 use borrow.Author.Needs.{needs}
-use Rattle.distinct.proofs.fold.Statement.{statement}
-use Rattle.distinct.proofs.fold.Tie as tie
+use Rattle.qualifiers.proofs.fold.Statement.{statement}
+use Rattle.qualifiers.proofs.fold.Tie as tie
 
 lower-requires : tie.Need-lower-requires
 lower-requires c κs = search needs
