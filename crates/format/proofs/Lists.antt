@@ -1,13 +1,13 @@
 -- Laws of tests, options and lists.
 use Prim.Native.Nat.{ℕ, zero, suc, _+_, _≤_, _<_}
-use mathlib.Core.Path.{_≡_, refl, sym}
+use mathlib.Core.Path.{_≡_, refl, sym, ap}
 use mathlib.Core.Bool.{Bool, true, false, not, _&&_, _||_}
 use mathlib.Core.List.{List, [], _∷_, _++_, map}
 use mathlib.Core.Option.{Option, none, some}
 use native.Mathlib.Omega.{arith}
 use native.Mathlib.Numerals.{add-one}
 use lib.ListN.{take, drop, length, getD, drop-of-length-le}
-use lib.Seq.{drop-cons}
+use lib.Seq.{slice, drop-cons, take-length}
 use lib.Dec.{eqb}
 use borrow.Author.Tests.{eq-eqb, eqb-true}
 use Rattle.format.specs.Lists.{_>>=_, provided, consBoth, eachOf, null, anyOf, allOf, twice, consFirst, parting, split}
@@ -95,6 +95,15 @@ twice-snoc same (x ∷ xs) y h k =
       any-snoc (same x) xs y (or-left (anyOf (same x) xs) (twice same xs) h) (or-left (same x y) (anyOf (λ x. same x y) xs) k),
       twice-snoc same xs y (or-right (anyOf (same x) xs) (twice same xs) h) (or-right (same x y) (anyOf (λ x. same x y) xs) k),
     )
+
+-- the part from a place to the end
+pub to-end : (s : List ℕ) (i : ℕ) → slice i (length s) s ≡ drop i s
+to-end s i = ap (drop i) (take-length s)
+
+-- every number of a list is below the bound, where each place's is
+pub below-each : (m : ℕ) (xs : List ℕ) → ((k : ℕ) → getD xs k 0 < m) → Below m xs
+below-each m [] h = tt
+below-each m (x ∷ xs) h = (h 0, below-each m xs (λ k. h (suc k)))
 
 -- every number of a part is below the bound
 pub below-append : (b : ℕ) (ds es : List ℕ) → Below b ds → Below b es → Below b (ds ++ es)

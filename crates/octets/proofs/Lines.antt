@@ -12,7 +12,8 @@ use Rattle.format.specs.Octets.{splitOn}
 use Rattle.format.specs.Field.{Part}
 use Rattle.format.specs.Lines.{placed, withoutEmptyLast, linesOf}
 use Rattle.octets.specs.Octets.{lineEnd, partIn}
-use Rattle.octets.proofs.Slices.{span-rest, span-front, take-drop, to-end}
+use Rattle.format.proofs.Lists.{to-end}
+use Rattle.octets.proofs.Slices.{span-rest, span-front, take-drop}
 
 -- what follows the first separator, cut again
 abbrev pub cut-rest : ℕ → List ℕ → List (List ℕ)

@@ -6,7 +6,7 @@ use mathlib.Core.List.{List, [], _∷_, _++_}
 use native.Mathlib.Omega.{arith}
 use native.Mathlib.Numerals.{add-one}
 use lib.ListN.{length, take, drop, getD, length-take, drop-of-length-le, take-append-drop}
-use lib.Seq.{slice, slice-cons, drop-drop, length-slice, take-nil, take-take, take-length, drop-append-le, length-take-le}
+use lib.Seq.{slice, slice-cons, drop-drop, length-slice, take-nil, take-take, drop-append-le, length-take-le}
 use Rattle.format.specs.Lists.{spanning, span}
 use Rattle.octets.specs.Octets.{frontEnd}
 
@@ -33,9 +33,6 @@ lent s i e h = let q : i + (e - i) ≡ e = omega arith in take-drop (e - i) i s 
 -- a part of a part, and a part and the rest of the list
 pub part : (s : List ℕ) (i k e : ℕ) → i + k ≤ e → take k (slice i e s) ≡ slice i (i + k) s
 part s i k e h = take-drop k i (take e s) ∙ ap (drop i) (take-take (i + k) e s h)
-
-pub to-end : (s : List ℕ) (i : ℕ) → slice i (length s) s ≡ drop i s
-to-end s i = ap (drop i) (take-length s)
 
 pub rest-parts : (s : List ℕ) (i j : ℕ) → i ≤ j → j ≤ length s → drop i s ≡ slice i j s ++ drop j s
 rest-parts s i j h k = ap (drop i) (sym (take-append-drop j s)) ∙ drop-append-le i (take j s) (drop j s) (omega (arith, length-take-le j s k))

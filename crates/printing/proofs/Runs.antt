@@ -5,11 +5,10 @@ use mathlib.Core.List.{List, [], _∷_, _++_, append-nil}
 use native.Mathlib.Omega.{arith}
 use lib.ListN.{length, take, drop, getD, set, length-drop}
 use lib.Seq.{slice, length-slice, drop-drop}
-use Rattle.format.specs.Octets.{Octets}
 use Rattle.format.specs.Wire.{took, taken}
 use Rattle.format.specs.Field.{Symbol, Kind, start}
 use Rattle.format.specs.Run.{shown, parts, partsOf, joined, textOfParts, textOf}
-use Rattle.format.proofs.Lists.{below-take, below-drop}
+use Rattle.format.proofs.Lists.{below-take, below-drop, below-each, to-end}
 use Rattle.format.proofs.Wire.{fits, alone}
 use Rattle.format.proofs.Fields.{field-laws}
 use Rattle.format.proofs.Bound.{cap-most}
@@ -20,7 +19,7 @@ use Rattle.types.specs.Fields.{noField}
 use Rattle.writing.specs.Writing.{Wrote}
 use Rattle.writing.proofs.Laws.{Left, left-piece, wrote-before}
 use Rattle.run.specs.Run.{kindFor, kindsFrom, Usable}
-use Rattle.run.proofs.Laws.{next-kind, no-kind, to-end}
+use Rattle.run.proofs.Laws.{next-kind, no-kind}
 use Rattle.printing.specs.Printing.{lead}
 use Rattle.format.proofs.Run.{First, took-first, first, more}
 
@@ -54,11 +53,6 @@ pub text-none : (xs : List ℕ) (ps : List (List ℕ)) → partsOf [] xs ≡ par
 unfolding textOf textOfParts
 text-none xs ps e = rw e
 
--- octets, by their bound at each place
-pub octets-all : (xs : List ℕ) → ((i : ℕ) → getD xs i 0 < 256) → Octets xs
-octets-all [] h = tt
-octets-all (x ∷ xs) h = (h 0, octets-all xs (λ i. h (suc i)))
-
 -- a field's text after others: nothing is written of an empty one, and a space before any other
 pub lead-none : {xs ys t : List ℕ} {at w : ℕ} → (at ≡ 0 → ⊥) → w ≡ 0 → Wrote xs ys (at + 1) (at + 1 + w) t → Wrote xs ys at at (lead at t)
 lead-none {xs} {ys} {t} {at} {w} h z v = by at t h v
@@ -86,7 +80,7 @@ pub field-short : (s : List ℕ) (d : FieldDesc) → Usable s d → (p : List �
     → taken (start (kindFor s d)) (slice i e p) ≡ took (e - i) → length (shown (kindFor s d) (slice i e p)) ≤ 4 * (e - i) + 655423
 field-short s d u p i e b l t =
     let n = length-slice i e p l in
-    omega (arith, field-laws (kindFor s d) (u .sound) .bound (slice i e p) (below-drop 256 i (take e p) (below-take 256 e p (octets-all p b))) (t ∙ ap took (sym n)), n, cap-most (kindFor s d))
+    omega (arith, field-laws (kindFor s d) (u .sound) .bound (slice i e p) (below-drop 256 i (take e p) (below-take 256 e p (below-each 256 p b))) (t ∙ ap took (sym n)), n, cap-most (kindFor s d))
 
 -- A turn of the loop over a run: k fields are gone, the octets from i on are left, and the next field, d, takes w of them.
 pub record Turn (s : List ℕ) (fs : List FieldDesc) (first many : ℕ) (p : List ℕ) (k i w : ℕ) (d : FieldDesc) : Type 0 where

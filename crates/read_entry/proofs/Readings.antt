@@ -15,7 +15,7 @@ use Rattle.field_code.specs.Code.{fieldsOf}
 use Rattle.stanza.specs.declared.Outline.{Outline}
 use Rattle.stanza.specs.Stanza.{Outlined}
 use Rattle.run.specs.Run.{kindsFrom}
-use Rattle.run.proofs.Laws.{to-end}
+use Rattle.format.proofs.Lists.{to-end}
 use Rattle.wire.specs.declared.Take.{Take}
 use Rattle.wire.specs.Wire.{takenIn}
 use Rattle.entry.specs.Entries.{runOctets}

@@ -1,5 +1,5 @@
 -- The alphabet of digits and letters against the definitions, and a count before octets.
-use Prim.Native.Nat.{ℕ, suc, _+_, _-_, _%_, _≤_, _<_}
+use Prim.Native.Nat.{ℕ, _+_, _-_, _%_, _≤_, _<_}
 use mathlib.Core.Path.{_≡_, refl, sym, ap, subst, _∙_}
 use mathlib.Core.Bool.{Bool, true, false, not, cond}
 use mathlib.Core.List.{List, [], _∷_}
@@ -16,7 +16,7 @@ use Rattle.format.specs.Text.{counted}
 use Rattle.format.specs.Base.{fromDigits}
 use Rattle.format.specs.Hex.{hexPair, fromHex, readCountedHex}
 use Rattle.format.specs.Base.{readBase32}
-use Rattle.format.proofs.Lists.{below-take, below-drop, not-true}
+use Rattle.format.proofs.Lists.{below-each, below-take, below-drop, not-true}
 use Rattle.format.proofs.Finite.{allBelow, at-each}
 use Rattle.writing.specs.Writing.{Values, after}
 use Rattle.writing.specs.declared.Value.the-variants.{Upto}
@@ -24,13 +24,9 @@ use Rattle.writing.proofs.Laws.{wrote-before}
 use Rattle.read_group.specs.Group.{charValue, leftOut, without, octetsBy, letters, countedBy}
 use Rattle.read_group.proofs.Bits.{group-octets}
 
--- a list whose numbers are octets at each place
-octets-each : (s : List ℕ) → ((k : ℕ) → getD s k 0 < 256) → Octets s
-octets-each [] h = tt
-octets-each (x ∷ s) h = (h 0, octets-each s (λ k. h (suc k)))
-
+-- octets at each place make octets of a part
 pub octets-part : (t : List ℕ) (i e : ℕ) → ((k : ℕ) → getD t k 0 < 256) → Octets (slice i e t)
-octets-part t i e h = below-drop 256 i (take e t) (below-take 256 e t (octets-each t h))
+octets-part t i e h = below-drop 256 i (take e t) (below-take 256 e t (below-each 256 t h))
 
 abbrev same : Option ℕ → Option ℕ → Bool
 same none none = true

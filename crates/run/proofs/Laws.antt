@@ -4,10 +4,11 @@ use mathlib.Core.Path.{_≡_, refl, sym, ap, _∙_, subst}
 use mathlib.Core.List.{List, [], _∷_}
 use native.Mathlib.Omega.{arith}
 use lib.ListN.{length, take, drop, getD, length-drop}
-use lib.Seq.{slice, drop-drop, take-length}
+use lib.Seq.{slice, drop-drop}
 use Rattle.format.specs.Wire.{short, bad, took, taken}
 use Rattle.format.specs.Field.{Symbol, Kind, start, kinds}
 use Rattle.format.specs.Run.{refused, parts, withFirst, partsOf}
+use Rattle.format.proofs.Lists.{to-end}
 use Rattle.format.proofs.Wire.{fits}
 use Rattle.format.proofs.Run.{more}
 use Rattle.types.specs.declared.FieldDesc.{FieldDesc}
@@ -58,10 +59,6 @@ module _ (s : List ℕ) (fs : List FieldDesc) where
 
   pub all-kinds : (first many : ℕ) → kindsFrom s fs (first + 0) (many - 0) ≡ kindsFrom s fs first many
   all-kinds first many = let p : many - 0 ≡ many = omega arith in let q : first + 0 ≡ first = omega arith in rw (p, q)
-
--- the octets from a place on
-pub to-end : (xs : List ℕ) (at : ℕ) → slice at (length xs) xs ≡ drop at xs
-to-end xs at = ap (drop at) (take-length xs)
 
 -- Of a run ks and its octets xs k fields are gone: what the others, ls, make of the octets that are left, ys, comes to what the run makes.
 pub record Ahead (ks : List Kind) (xs : List ℕ) (ls : List Kind) (ys : List ℕ) (k : ℕ) : Type 0 where

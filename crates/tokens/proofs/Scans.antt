@@ -12,9 +12,9 @@ use borrow.Author.Tests.{eqb-true, ne-eqb, ltb-true, ltb-false}
 use Rattle.format.specs.Lists.{Spanned, spanning, span}
 use Rattle.format.specs.Octets.{blank}
 use Rattle.format.specs.Token.{textOctet, quoteMark, guarded, Token, bare, quoted, broken, Scan, between, inBare, inQuotes, closed, skip, keep, breaks, scanStep, intoFirst, afterScan, scanned, tokens}
-use Rattle.format.proofs.Lists.{and-left, and-right, not-true, drop-next as next, drop-none as none}
+use Rattle.format.proofs.Lists.{and-left, and-right, not-true, drop-next as next, drop-none as none, to-end}
 use Rattle.format.proofs.Token.{in-bare, ontoAll, onto-bare, onto-quote}
-use Rattle.octets.proofs.Slices.{span-front, span-rest, span-length, lent, to-end}
+use Rattle.octets.proofs.Slices.{span-front, span-rest, span-length, lent}
 use Rattle.octets.proofs.Blocks.{slice-append}
 use Rattle.tokens.specs.declared.Next.{Next}
 use Rattle.tokens.specs.declared.Next.the-variants.{End, Bare, Quoted, Broken}

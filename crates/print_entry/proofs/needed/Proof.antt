@@ -1,5 +1,5 @@
 use Rattle.print_entry.proofs.Printings.{fitting-needs, measured-needs, text-short}
-use Rattle.printing.proofs.Runs.{octets-all}
+use Rattle.format.proofs.Lists.{below-each}
 use Rattle.writing.proofs.Laws.{measured}
 use mathlib.Core.Path.{refl}
 use Rattle.field_code.specs.Code.{fieldsOf}
@@ -16,7 +16,7 @@ surely-fits-requires : tie.Need-surely-fits-requires
 surely-fits-requires c κs = search needs
 
 returns : tie.Need-returns
-returns c = (refl, fitting-needs _ _ (c .before .surely-fits .ensures (c .if1 .taken) (c .before .before .before .before .before .args .s .now) (c .before .before .before .before .before .args .p .now) (octets-all (c .before .before .before .before .before .args .p .now) (λ j. omega (arith, c .before .before .before .shared-slice-known2 .given j))) refl (c .before .before .before .before .before .pre)) (text-short (c .before .before .before .before .before .args .s .now) (fieldsOf (c .before .before .before .before .before .args .codes .now)) (c .before .before .before .before .before .args .first) (c .before .before .before .before .before .args .many) (c .before .before .before .before .before .args .p .now) (octets-all (c .before .before .before .before .before .args .p .now) (λ j. omega (arith, c .before .before .before .shared-slice-known2 .given j))) (c .before .before .before .before .before .pre)))
+returns c = (refl, fitting-needs _ _ (c .before .surely-fits .ensures (c .if1 .taken) (c .before .before .before .before .before .args .s .now) (c .before .before .before .before .before .args .p .now) (below-each 256 (c .before .before .before .before .before .args .p .now) (λ j. omega (arith, c .before .before .before .shared-slice-known2 .given j))) refl (c .before .before .before .before .before .pre)) (text-short (c .before .before .before .before .before .args .s .now) (fieldsOf (c .before .before .before .before .before .args .codes .now)) (c .before .before .before .before .before .args .first) (c .before .before .before .before .before .args .many) (c .before .before .before .before .before .args .p .now) (below-each 256 (c .before .before .before .before .before .args .p .now) (λ j. omega (arith, c .before .before .before .shared-slice-known2 .given j))) (c .before .before .before .before .before .pre)))
 
 sub-put-run : tie.Need-sub-put-run
 sub-put-run c = search needs
@@ -34,7 +34,7 @@ same-length : tie.Need-same-length
 same-length c = search needs
 
 returns-2 : tie.Need-returns-2
-returns-2 c = (measured _ _ _ _ (c .before .before .put-run .ensures), measured-needs _ _ _ (c .before .before .put-run .ensures .count) (text-short (c .before .before .before .before .before .before .before .before .before .args .s .now) (fieldsOf (c .before .before .before .before .before .before .before .before .before .args .codes .now)) (c .before .before .before .before .before .before .before .before .before .args .first) (c .before .before .before .before .before .before .before .before .before .args .many) (c .before .before .before .before .before .before .before .before .before .args .p .now) (octets-all (c .before .before .before .before .before .before .before .before .before .args .p .now) (λ j. omega (arith, c .before .before .before .before .before .before .before .shared-slice-known2 .given j))) (c .before .before .before .before .before .before .before .before .before .pre)))
+returns-2 c = (measured _ _ _ _ (c .before .before .put-run .ensures), measured-needs _ _ _ (c .before .before .put-run .ensures .count) (text-short (c .before .before .before .before .before .before .before .before .before .args .s .now) (fieldsOf (c .before .before .before .before .before .before .before .before .before .args .codes .now)) (c .before .before .before .before .before .before .before .before .before .args .first) (c .before .before .before .before .before .before .before .before .before .args .many) (c .before .before .before .before .before .before .before .before .before .args .p .now) (below-each 256 (c .before .before .before .before .before .before .before .before .before .args .p .now) (λ j. omega (arith, c .before .before .before .before .before .before .before .shared-slice-known2 .given j))) (c .before .before .before .before .before .before .before .before .before .pre)))
 
 pub needed-spec : {M : Type 1} → statement M
 needed-spec =
