@@ -120,29 +120,29 @@ pub fn skip(s: &[u8], i: usize, e: usize, c: Class) -> usize
     j
 }
 
-// Whether n octets from i on are no LF: no way out of the loop, and n is 8 or 16 at each call, so that they are tested at once.
-fn in_line(s: &[u8], i: usize, n: usize) -> bool
+// Whether n octets from i on are of a class: no way out of the loop, and n is 8 or 16 at each call, so that they are tested at once.
+fn all_in(s: &[u8], i: usize, n: usize, c: Class) -> bool
     requires { ⌜ i + n ≤ length (now s) ⌝ }
-    ensures { λ r. ⌜ r ≡ allOf (inClass NotNewline) (slice i (i + n) (now (s .entry))) ⌝ }
+    ensures { λ r. ⌜ r ≡ allOf (inClass c) (slice i (i + n) (now (s .entry))) ⌝ }
 {
     let mut all = true;
     let mut k = 0;
     while k < n {
-        all = all & is_in(Class::NotNewline, s[i + k]);
+        all = all & is_in(c, s[i + k]);
         k = k + 1;
     }
     all
 }
 
-// Whether 16 octets are left from i on, and none is a LF.
-fn line_goes_on(s: &[u8], i: usize) -> bool
-    requires { ⌜ i ≤ length (now s) ⌝ }
-    ensures { λ r. ⌜ r ≡ leb 16 (length (now (s .entry)) - i) && allOf (inClass NotNewline) (slice i (i + 16) (now (s .entry))) ⌝ }
+// Whether 16 octets are left from i to e, all of a class.
+fn goes_on(s: &[u8], i: usize, e: usize, c: Class) -> bool
+    requires { ⌜ (i ≤ e) × (e ≤ length (now s)) ⌝ }
+    ensures { λ r. ⌜ r ≡ leb 16 (e - i) && allOf (inClass c) (slice i (i + 16) (now (s .entry))) ⌝ }
 {
-    if s.len() - i < 16 {
+    if e - i < 16 {
         return false;
     }
-    in_line(s, i, 16)
+    all_in(s, i, 16, c)
 }
 
 // A place in the same line: 8 octets on, where no LF is among them.
@@ -153,7 +153,7 @@ fn eight_on(s: &[u8], i: usize) -> usize
     if s.len() - i < 8 {
         return i;
     }
-    if in_line(s, i, 8) {
+    if all_in(s, i, 8, Class::NotNewline) {
         return i + 8;
     }
     i
@@ -165,36 +165,11 @@ pub fn line_end(s: &[u8], i: usize) -> usize
     ensures { λ r. ⌜ r ≡ lineEnd (now (s .entry)) i ⌝ }
 {
     let mut j = i;
-    while line_goes_on(s, j) {
+    while goes_on(s, j, s.len(), Class::NotNewline) {
         j = j + 16;
     }
     let k = eight_on(s, j);
     skip(s, k, s.len(), Class::NotNewline)
-}
-
-// Whether n octets from i on are of free text.
-fn free(s: &[u8], i: usize, n: usize) -> bool
-    requires { ⌜ i + n ≤ length (now s) ⌝ }
-    ensures { λ r. ⌜ r ≡ allOf (inClass FreeText) (slice i (i + n) (now (s .entry))) ⌝ }
-{
-    let mut all = true;
-    let mut k = 0;
-    while k < n {
-        all = all & is_in(Class::FreeText, s[i + k]);
-        k = k + 1;
-    }
-    all
-}
-
-// Whether 16 octets are left from i to e, and are of free text.
-fn text_goes_on(s: &[u8], i: usize, e: usize) -> bool
-    requires { ⌜ (i ≤ e) × (e ≤ length (now s)) ⌝ }
-    ensures { λ r. ⌜ r ≡ leb 16 (e - i) && allOf (inClass FreeText) (slice i (i + 16) (now (s .entry))) ⌝ }
-{
-    if e - i < 16 {
-        return false;
-    }
-    free(s, i, 16)
 }
 
 // Whether 16 octets or more, from i to e, are of free text. The last 16 are tested at once, though some were before.
@@ -203,11 +178,11 @@ fn long_free(s: &[u8], i: usize, e: usize) -> bool
     ensures { λ r. ⌜ r ≡ allOf (inClass FreeText) (slice i e (now (s .entry))) ⌝ }
 {
     let mut j = i;
-    while text_goes_on(s, j, e) {
+    while goes_on(s, j, e, Class::FreeText) {
         j = j + 16;
     }
     if e - j < 16 {
-        return free(s, e - 16, 16);
+        return all_in(s, e - 16, 16, Class::FreeText);
     }
     false
 }
@@ -221,8 +196,8 @@ pub fn all_free(s: &[u8], i: usize, e: usize) -> bool
         return long_free(s, i, e);
     }
     if 8 <= e - i {
-        if free(s, i, 8) {
-            return free(s, e - 8, 8);
+        if all_in(s, i, 8, Class::FreeText) {
+            return all_in(s, e - 8, 8, Class::FreeText);
         }
         return false;
     }

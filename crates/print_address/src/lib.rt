@@ -11,9 +11,9 @@ ghost use Rattle.format.specs.Address.{dottedText, groupText, colons, zerosAt, 
 ghost use Rattle.writing.specs.Writing.{Wrote};
 ghost use Rattle.print_address.specs.Zeros.{Longest};
 use print::integer::two;
-use put_digits::lower_digit;
+use put_digits::hex_digit;
 use put_digits::put_decimal;
-use put_digits::put_hex_lower_octet;
+use put_digits::put_hex_octet;
 use writing::put_octet;
 
 // Octets in decimal, with dots between.
@@ -40,17 +40,17 @@ fn group(out: &mut [u8], n: usize, v: u64) -> usize
     ensures { λ r. ⌜ Wrote (now (out .entry)) (now (out .exit)) n r (groupText v) ⌝ }
 {
     if v < 16 {
-        return put_octet(out, n, lower_digit(v as u8));
+        return put_octet(out, n, hex_digit(v as u8, b'a'));
     }
     if v < 256 {
-        return put_hex_lower_octet(out, n, v as u8);
+        return put_hex_octet(out, n, v as u8, b'a');
     }
     if v < 4096 {
-        let m = put_octet(out, n, lower_digit((v / 256) as u8));
-        return put_hex_lower_octet(out, m, (v % 256) as u8);
+        let m = put_octet(out, n, hex_digit((v / 256) as u8, b'a'));
+        return put_hex_octet(out, m, (v % 256) as u8, b'a');
     }
-    let m = put_hex_lower_octet(out, n, (v / 256) as u8);
-    put_hex_lower_octet(out, m, (v % 256) as u8)
+    let m = put_hex_octet(out, n, (v / 256) as u8, b'a');
+    put_hex_octet(out, m, (v % 256) as u8, b'a')
 }
 
 // Groups in hex, with colons between.

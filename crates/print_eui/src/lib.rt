@@ -4,7 +4,7 @@ ghost use lib.ListN.{length};
 ghost use lib.Seq.{slice};
 ghost use Rattle.format.specs.Eui.{euiText};
 ghost use Rattle.writing.specs.Writing.{Wrote};
-use put_digits::put_hex_lower_octet;
+use put_digits::put_hex_octet;
 use writing::put_octet;
 
 // Two lower-case digits an octet, with hyphens between.
@@ -15,11 +15,11 @@ pub fn field(out: &mut [u8], n: usize, p: &[u8], i: usize, e: usize) -> usize
     if e <= i {
         return n;
     }
-    let mut m = put_hex_lower_octet(out, n, p[i]);
+    let mut m = put_hex_octet(out, n, p[i], b'a');
     let mut j = i + 1;
     while j < e {
         m = put_octet(out, m, b'-');
-        m = put_hex_lower_octet(out, m, p[j]);
+        m = put_hex_octet(out, m, p[j], b'a');
         j = j + 1;
     }
     m

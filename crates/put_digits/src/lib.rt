@@ -3,10 +3,11 @@ ghost use mathlib.Core.Path.{_≡_};
 ghost use mathlib.Core.List.{map};
 ghost use Prim.Native.Nat.{_*_, _-_, _^_, _<_, _≤_};
 ghost use lib.ListN.{length};
-ghost use Rattle.format.specs.Digits.{digits, upperDigit, lowerDigit};
+ghost use Rattle.format.specs.Digits.{digits};
 ghost use Rattle.format.specs.Number.{decimal, fixedDecimal};
 ghost use Rattle.format.specs.Hex.{hexText};
 ghost use Rattle.writing.specs.Writing.{Wrote};
+ghost use Rattle.put_digits.specs.Hex.{digitFrom};
 use writing::fitting;
 use writing::put;
 
@@ -40,39 +41,21 @@ pub fn put_octets(out: &mut [u8], n: usize, w: usize, v: u64) -> usize
     n + w
 }
 
-// A hex digit, its letter upper case.
-fn upper_digit(d: u8) -> u8
-    requires { ⌜ d < 16 ⌝ }
-    ensures { λ r. ⌜ r ≡ upperDigit d ⌝ }
+// A hex digit, whose letters begin with the octet ten.
+pub fn hex_digit(d: u8, ten: u8) -> u8
+    requires { ⌜ (d < 16) × (ten ≤ 97) ⌝ }
+    ensures { λ r. ⌜ r ≡ digitFrom ten d ⌝ }
 {
-    if d < 10 { b'0' + d } else { b'A' + (d - 10) }
+    if d < 10 { b'0' + d } else { ten + (d - 10) }
 }
 
-// A hex digit, its letter lower case.
-pub fn lower_digit(d: u8) -> u8
-    requires { ⌜ d < 16 ⌝ }
-    ensures { λ r. ⌜ r ≡ lowerDigit d ⌝ }
+// The two hex digits of an octet.
+pub fn put_hex_octet(out: &mut [u8], n: usize, b: u8, ten: u8) -> usize
+    requires { ⌜ (n < 2 ^ 34) × (ten ≤ 97) ⌝ }
+    ensures { λ r. ⌜ Wrote (now (out .entry)) (now (out .exit)) n r (map (digitFrom ten) (digits 16 2 b)) ⌝ }
 {
-    if d < 10 { b'0' + d } else { b'a' + (d - 10) }
-}
-
-// The two digits of an octet, upper case.
-fn put_hex_upper_octet(out: &mut [u8], n: usize, b: u8) -> usize
-    requires { ⌜ n < 2 ^ 34 ⌝ }
-    ensures { λ r. ⌜ Wrote (now (out .entry)) (now (out .exit)) n r (map upperDigit (digits 16 2 b)) ⌝ }
-{
-    put(out, n, upper_digit(b / 16 % 16));
-    put(out, n + 1, upper_digit(b % 16));
-    n + 2
-}
-
-// The two digits of an octet, lower case.
-pub fn put_hex_lower_octet(out: &mut [u8], n: usize, b: u8) -> usize
-    requires { ⌜ n < 2 ^ 32 ⌝ }
-    ensures { λ r. ⌜ Wrote (now (out .entry)) (now (out .exit)) n r (map lowerDigit (digits 16 2 b)) ⌝ }
-{
-    put(out, n, lower_digit(b / 16 % 16));
-    put(out, n + 1, lower_digit(b % 16));
+    put(out, n, hex_digit(b / 16 % 16, ten));
+    put(out, n + 1, hex_digit(b % 16, ten));
     n + 2
 }
 
@@ -85,8 +68,8 @@ fn hex_pairs(out: &mut [u8], n: usize, s: &[u8]) -> usize
     let mut i = 0;
     while i < s.len() {
         let b = s[i];
-        out[m] = upper_digit(b / 16 % 16);
-        out[m + 1] = upper_digit(b % 16);
+        out[m] = hex_digit(b / 16 % 16, b'A');
+        out[m + 1] = hex_digit(b % 16, b'A');
         m = m + 2;
         i = i + 1;
     }
@@ -103,7 +86,7 @@ pub fn put_hex_upper(out: &mut [u8], n: usize, s: &[u8]) -> usize
     if s.len() <= c {
         return m;
     }
-    put_hex_upper_octet(out, m, s[c]);
+    put_hex_octet(out, m, s[c], b'A');
     n + 2 * s.len()
 }
 

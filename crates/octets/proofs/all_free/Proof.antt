@@ -20,20 +20,20 @@ returns c = search needs
 sub-if2 : tie.Need-sub-if2
 sub-if2 c = search needs
 
-free-requires : tie.Need-free-requires
-free-requires c κs = search needs
+all-in-requires : tie.Need-all-in-requires
+all-in-requires c κs = search needs
 
-sub-free : tie.Need-sub-free
-sub-free c = search needs
+sub-all-in : tie.Need-sub-all-in
+sub-all-in c = search needs
 
-free-requires-2 : tie.Need-free-requires-2
-free-requires-2 c κs = search needs
+all-in-requires-2 : tie.Need-all-in-requires-2
+all-in-requires-2 c κs = search needs
 
 returns-2 : tie.Need-returns-2
-returns-2 c = let z : c .before .before .before .before .before .before .args .e - 8 + 8 ≡ c .before .before .before .before .before .before .args .e = omega arith in rw z at (c .free2 .ensures) ∙ all-over (inClass FreeText) (c .before .before .before .before .before .before .args .s .now) (c .before .before .before .before .before .before .args .i) (c .before .before .before .before .before .before .args .i + 8) (c .before .before .before .before .before .before .args .e - 8) (c .before .before .before .before .before .before .args .e) (omega arith) (omega arith) (omega arith) (c .before .before .before .before .before .before .pre .1) (sym (c .before .before .free .ensures) ∙ c .before .if3 .taken)
+returns-2 c = let z : c .before .before .before .before .before .before .args .e - 8 + 8 ≡ c .before .before .before .before .before .before .args .e = omega arith in rw z at (c .all-in2 .ensures) ∙ all-over (inClass FreeText) (c .before .before .before .before .before .before .args .s .now) (c .before .before .before .before .before .before .args .i) (c .before .before .before .before .before .before .args .i + 8) (c .before .before .before .before .before .before .args .e - 8) (c .before .before .before .before .before .before .args .e) (omega arith) (omega arith) (omega arith) (c .before .before .before .before .before .before .pre .1) (sym (c .before .before .all-in .ensures) ∙ c .before .if3 .taken)
 
 returns-3 : tie.Need-returns-3
-returns-3 c = all-off (inClass FreeText) (c .before .before .before .before .before .args .s .now) (c .before .before .before .before .before .args .i) (c .before .before .before .before .before .args .i) (c .before .before .before .before .before .args .i + 8) (c .before .before .before .before .before .args .e) (omega arith) (omega arith) (omega arith) (c .before .before .before .before .before .pre .1) (sym (c .before .free .ensures) ∙ c .if3 .left)
+returns-3 c = all-off (inClass FreeText) (c .before .before .before .before .before .args .s .now) (c .before .before .before .before .before .args .i) (c .before .before .before .before .before .args .i) (c .before .before .before .before .before .args .i + 8) (c .before .before .before .before .before .args .e) (omega arith) (omega arith) (omega arith) (c .before .before .before .before .before .pre .1) (sym (c .before .all-in .ensures) ∙ c .if3 .left)
 
 skip-requires : tie.Need-skip-requires
 skip-requires c κs = search needs
@@ -49,9 +49,9 @@ all-free-spec =
     long-free-requires
     returns
     sub-if2
-    free-requires
-    sub-free
-    free-requires-2
+    all-in-requires
+    sub-all-in
+    all-in-requires-2
     returns-2
     returns-3
     skip-requires

@@ -15,18 +15,18 @@ sub-if1 c = search needs
 returns : tie.Need-returns
 returns c = search needs
 
-in-line-requires : tie.Need-in-line-requires
-in-line-requires c κs = search needs
+all-in-requires : tie.Need-all-in-requires
+all-in-requires c κs = search needs
 
 add-result : tie.Need-add-result
 add-result c = search needs
 
 returns-2 : tie.Need-returns-2
-returns-2 c = (omega arith, omega arith, all-front (inClass NotNewline) (c .before .before .before .before .args .s .now) (c .before .before .before .before .args .i) (c .before .before .before .before .args .i + 8) (length (c .before .before .before .before .args .s .now)) (omega arith) (omega arith) (omega arith) (sym (c .before .in-line .ensures) ∙ c .if2 .taken))
+returns-2 c = (omega arith, omega arith, all-front (inClass NotNewline) (c .before .before .before .before .args .s .now) (c .before .before .before .before .args .i) (c .before .before .before .before .args .i + 8) (length (c .before .before .before .before .args .s .now)) (omega arith) (omega arith) (omega arith) (sym (c .before .all-in .ensures) ∙ c .if2 .taken))
 
 returns-3 : tie.Need-returns-3
 returns-3 c = search needs
 
 pub eight-on-spec : {M : Type 1} → statement M
 eight-on-spec =
-    tie.close (tie.spec sub-if1 returns in-line-requires add-result returns-2 returns-3)
+    tie.close (tie.spec sub-if1 returns all-in-requires add-result returns-2 returns-3)

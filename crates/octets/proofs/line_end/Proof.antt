@@ -20,17 +20,17 @@ abbrev μ-loop : tie.MeasureT-loop
 loop-holds : tie.Need-loop-holds Inv-loop μ-loop
 loop-holds c = (c .before .pre, refl)
 
-line-goes-on-requires : tie.Need-line-goes-on-requires Inv-loop μ-loop
-line-goes-on-requires c κs = search needs
+goes-on-requires : tie.Need-goes-on-requires Inv-loop μ-loop
+goes-on-requires c κs = search needs
 
 add-j : tie.Need-add-j Inv-loop μ-loop
-add-j c = omega (arith, block-there 16 (length (c .before .before .before .before .args .s .now) - c .before .before .loop .j) (allOf (inClass NotNewline) (slice (c .before .before .loop .j) (c .before .before .loop .j + 16) (c .before .before .before .before .args .s .now))) (sym (c .before .line-goes-on .ensures) ∙ c .if1 .taken))
+add-j c = omega (arith, block-there 16 (length (c .before .before .before .before .args .s .now) - c .before .before .loop .j) (allOf (inClass NotNewline) (slice (c .before .before .loop .j) (c .before .before .loop .j + 16) (c .before .before .before .before .args .s .now))) (sym (c .before .goes-on .ensures) ∙ c .if1 .taken))
 
 loop-less : tie.Need-loop-less Inv-loop μ-loop
-loop-less c = omega (arith, block-there 16 (length (c .before .before .before .before .args .s .now) - c .before .before .loop .j) (allOf (inClass NotNewline) (slice (c .before .before .loop .j) (c .before .before .loop .j + 16) (c .before .before .before .before .args .s .now))) (sym (c .before .line-goes-on .ensures) ∙ c .if1 .taken))
+loop-less c = omega (arith, block-there 16 (length (c .before .before .before .before .args .s .now) - c .before .before .loop .j) (allOf (inClass NotNewline) (slice (c .before .before .loop .j) (c .before .before .loop .j + 16) (c .before .before .before .before .args .s .now))) (sym (c .before .goes-on .ensures) ∙ c .if1 .taken))
 
 loop-again : tie.Need-loop-again Inv-loop μ-loop
-loop-again c = let n = block-there 16 (length (c .before .before .before .before .args .s .now) - c .before .before .loop .j) (allOf (inClass NotNewline) (slice (c .before .before .loop .j) (c .before .before .loop .j + 16) (c .before .before .before .before .args .s .now))) (sym (c .before .line-goes-on .ensures) ∙ c .if1 .taken) in (omega (arith, n), all-front (inClass NotNewline) (c .before .before .before .before .args .s .now) (c .before .before .loop .j) (c .before .before .loop .j + 16) (length (c .before .before .before .before .args .s .now)) (omega arith) (omega (arith, n)) (omega arith) (block-passes 16 (length (c .before .before .before .before .args .s .now) - c .before .before .loop .j) (allOf (inClass NotNewline) (slice (c .before .before .loop .j) (c .before .before .loop .j + 16) (c .before .before .before .before .args .s .now))) (sym (c .before .line-goes-on .ensures) ∙ c .if1 .taken)) ∙ c .before .before .loop .inv .1)
+loop-again c = let n = block-there 16 (length (c .before .before .before .before .args .s .now) - c .before .before .loop .j) (allOf (inClass NotNewline) (slice (c .before .before .loop .j) (c .before .before .loop .j + 16) (c .before .before .before .before .args .s .now))) (sym (c .before .goes-on .ensures) ∙ c .if1 .taken) in (omega (arith, n), all-front (inClass NotNewline) (c .before .before .before .before .args .s .now) (c .before .before .loop .j) (c .before .before .loop .j + 16) (length (c .before .before .before .before .args .s .now)) (omega arith) (omega (arith, n)) (omega arith) (block-passes 16 (length (c .before .before .before .before .args .s .now) - c .before .before .loop .j) (allOf (inClass NotNewline) (slice (c .before .before .loop .j) (c .before .before .loop .j + 16) (c .before .before .before .before .args .s .now))) (sym (c .before .goes-on .ensures) ∙ c .if1 .taken)) ∙ c .before .before .loop .inv .1)
 
 eight-on-requires : tie.Need-eight-on-requires Inv-loop μ-loop
 eight-on-requires c κs = search needs
@@ -48,7 +48,7 @@ line-end-spec =
     Inv-loop
     μ-loop
     loop-holds
-    line-goes-on-requires
+    goes-on-requires
     add-j
     loop-less
     loop-again

@@ -25,28 +25,28 @@ abbrev μ-loop : tie.MeasureT-loop
 returns : tie.Need-returns Inv-loop μ-loop
 returns c = wrote-text [] _ (sym (ap euiText (none _ _ _ (c .if1 .taken)))) (wrote-none _ _)
 
-shared-slice-read-put-hex-lower-octet :
-    tie.Need-shared-slice-read-put-hex-lower-octet Inv-loop μ-loop
-shared-slice-read-put-hex-lower-octet c = search needs
+shared-slice-read-put-hex-octet :
+    tie.Need-shared-slice-read-put-hex-octet Inv-loop μ-loop
+shared-slice-read-put-hex-octet c = search needs
 
-put-hex-lower-octet-requires : tie.Need-put-hex-lower-octet-requires Inv-loop μ-loop
-put-hex-lower-octet-requires c κs = search needs
+put-hex-octet-requires : tie.Need-put-hex-octet-requires Inv-loop μ-loop
+put-hex-octet-requires c κs = search needs
 
 add-j : tie.Need-add-j Inv-loop μ-loop
 add-j c = search needs
 
 loop-holds : tie.Need-loop-holds Inv-loop μ-loop
-loop-holds c = (search needs, search needs, omega (arith, c .before .before .put-hex-lower-octet .ensures .count), left-all _ _ _)
+loop-holds c = (search needs, search needs, omega (arith, c .before .before .put-hex-octet .ensures .count), left-all _ _ _)
 
 put-octet-requires : tie.Need-put-octet-requires Inv-loop μ-loop
 put-octet-requires c κs = search needs
 
-shared-slice-read-put-hex-lower-octet-2 :
-    tie.Need-shared-slice-read-put-hex-lower-octet-2 Inv-loop μ-loop
-shared-slice-read-put-hex-lower-octet-2 c = search needs
+shared-slice-read-put-hex-octet-2 :
+    tie.Need-shared-slice-read-put-hex-octet-2 Inv-loop μ-loop
+shared-slice-read-put-hex-octet-2 c = search needs
 
-put-hex-lower-octet-requires-2 : tie.Need-put-hex-lower-octet-requires-2 Inv-loop μ-loop
-put-hex-lower-octet-requires-2 c κs = omega (arith, c .before .before .before .before .put-octet .ensures .count)
+put-hex-octet-requires-2 : tie.Need-put-hex-octet-requires-2 Inv-loop μ-loop
+put-hex-octet-requires-2 c κs = omega (arith, c .before .before .before .before .put-octet .ensures .count)
 
 add-j-2 : tie.Need-add-j-2 Inv-loop μ-loop
 add-j-2 c = search needs
@@ -55,13 +55,13 @@ loop-less : tie.Need-loop-less Inv-loop μ-loop
 loop-less c = search needs
 
 loop-again : tie.Need-loop-again Inv-loop μ-loop
-loop-again c = (search needs, search needs, omega (arith, c .before .before .before .before .before .before .before .put-octet .ensures .count, c .before .before .put-hex-lower-octet2 .ensures .count), went-on (45 ∷ []) pair _ _ _ (next (c .before .before .before .before .before .before .before .before .before .before .before .before .before .before .before .before .before .before .before .args .p .now) (c .before .before .before .before .before .before .before .before .before .before .loop .j) (c .before .before .before .before .before .before .before .before .before .before .before .before .before .before .before .before .before .before .before .args .e) (c .before .before .before .before .before .before .before .before .before .loop-test .taken) (c .before .before .before .before .before .before .before .before .before .before .before .before .before .before .before .before .before .before .before .pre .2)) (c .before .before .before .before .before .before .before .before .before .before .loop .inv .3) (c .before .before .before .before .before .before .before .put-octet .ensures) (c .before .before .put-hex-lower-octet2 .ensures))
+loop-again c = (search needs, search needs, omega (arith, c .before .before .before .before .before .before .before .put-octet .ensures .count, c .before .before .put-hex-octet2 .ensures .count), went-on (45 ∷ []) pair _ _ _ (next (c .before .before .before .before .before .before .before .before .before .before .before .before .before .before .before .before .before .before .before .args .p .now) (c .before .before .before .before .before .before .before .before .before .before .loop .j) (c .before .before .before .before .before .before .before .before .before .before .before .before .before .before .before .before .before .before .before .args .e) (c .before .before .before .before .before .before .before .before .before .loop-test .taken) (c .before .before .before .before .before .before .before .before .before .before .before .before .before .before .before .before .before .before .before .pre .2)) (c .before .before .before .before .before .before .before .before .before .before .loop .inv .3) (c .before .before .before .before .before .before .before .put-octet .ensures) (c .before .before .put-hex-octet2 .ensures))
 
 same-length : tie.Need-same-length Inv-loop μ-loop
 same-length c = search needs
 
 returns-2 : tie.Need-returns-2 Inv-loop μ-loop
-returns-2 c = wrote-parted (45 ∷ []) pair _ _ _ (next (c .before .before .before .before .before .before .before .before .before .before .args .p .now) (c .before .before .before .before .before .before .before .before .before .before .args .i) (c .before .before .before .before .before .before .before .before .before .before .args .e) (c .before .before .before .before .before .before .before .if1 .left) (c .before .before .before .before .before .before .before .before .before .before .pre .2)) (c .before .before .before .before .put-hex-lower-octet .ensures) (left-none (c .before .loop .inv .3) (ap (later (45 ∷ []) pair) (none _ _ _ (c .loop-test .left))))
+returns-2 c = wrote-parted (45 ∷ []) pair _ _ _ (next (c .before .before .before .before .before .before .before .before .before .before .args .p .now) (c .before .before .before .before .before .before .before .before .before .before .args .i) (c .before .before .before .before .before .before .before .before .before .before .args .e) (c .before .before .before .before .before .before .before .if1 .left) (c .before .before .before .before .before .before .before .before .before .before .pre .2)) (c .before .before .before .before .put-hex-octet .ensures) (left-none (c .before .loop .inv .3) (ap (later (45 ∷ []) pair) (none _ _ _ (c .loop-test .left))))
 
 pub field-spec : {M : Type 1} → statement M
 field-spec =
@@ -70,13 +70,13 @@ field-spec =
     Inv-loop
     μ-loop
     returns
-    shared-slice-read-put-hex-lower-octet
-    put-hex-lower-octet-requires
+    shared-slice-read-put-hex-octet
+    put-hex-octet-requires
     add-j
     loop-holds
     put-octet-requires
-    shared-slice-read-put-hex-lower-octet-2
-    put-hex-lower-octet-requires-2
+    shared-slice-read-put-hex-octet-2
+    put-hex-octet-requires-2
     add-j-2
     loop-less
     loop-again

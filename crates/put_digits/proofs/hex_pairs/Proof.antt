@@ -20,14 +20,14 @@ loop-holds c = (search needs, search needs, left-all _ _ _)
 shared-slice-read-b : tie.Need-shared-slice-read-b Inv-loop μ-loop
 shared-slice-read-b c = search needs
 
-upper-digit-requires : tie.Need-upper-digit-requires Inv-loop μ-loop
-upper-digit-requires c κs = search needs
+hex-digit-requires : tie.Need-hex-digit-requires Inv-loop μ-loop
+hex-digit-requires c κs = search needs
 
 slice-write-out : tie.Need-slice-write-out Inv-loop μ-loop
 slice-write-out c = search needs
 
-upper-digit-requires-2 : tie.Need-upper-digit-requires-2 Inv-loop μ-loop
-upper-digit-requires-2 c κs = search needs
+hex-digit-requires-2 : tie.Need-hex-digit-requires-2 Inv-loop μ-loop
+hex-digit-requires-2 c κs = search needs
 
 add-out : tie.Need-add-out Inv-loop μ-loop
 add-out c = search needs
@@ -45,7 +45,7 @@ loop-less : tie.Need-loop-less Inv-loop μ-loop
 loop-less c = search needs
 
 loop-again : tie.Need-loop-again Inv-loop μ-loop
-loop-again c = (search needs, search needs, rw (c .before .upper-digit .ensures, c .upper-digit2 .ensures) (left-piece _ _ _ _ (c .before .before .before .before .loop .inv .2) (ap hexText (next _ _ (c .before .before .before .loop-test .taken))) (wrote-two _ _ _ _ _ _ refl refl)))
+loop-again c = (search needs, search needs, rw (c .before .hex-digit .ensures, c .hex-digit2 .ensures) (left-piece _ _ _ _ (c .before .before .before .before .loop .inv .2) (ap hexText (next _ _ (c .before .before .before .loop-test .taken))) (wrote-two _ _ _ _ _ _ refl refl)))
 
 same-length : tie.Need-same-length Inv-loop μ-loop
 same-length c = search needs
@@ -61,9 +61,9 @@ hex-pairs-spec =
     μ-loop
     loop-holds
     shared-slice-read-b
-    upper-digit-requires
+    hex-digit-requires
     slice-write-out
-    upper-digit-requires-2
+    hex-digit-requires-2
     add-out
     slice-write-out-2
     add-m

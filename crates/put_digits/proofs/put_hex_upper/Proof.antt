@@ -33,11 +33,11 @@ returns : tie.Need-returns
 returns c =
     wrote-text _ _ (hex-all (c .before .before .before .before .before .before .before .before .before .args .s .now) (c .before .before .before .before .before .before .fitting .result) (c .if1 .taken)) (rw (sub-zero (c .before .before .before .before .before .before .fitting .result)) at (c .before .before .before .hex-pairs .ensures))
 
-shared-slice-read-put-hex-upper-octet : tie.Need-shared-slice-read-put-hex-upper-octet
-shared-slice-read-put-hex-upper-octet c = search needs
+shared-slice-read-put-hex-octet : tie.Need-shared-slice-read-put-hex-octet
+shared-slice-read-put-hex-octet c = search needs
 
-put-hex-upper-octet-requires : tie.Need-put-hex-upper-octet-requires
-put-hex-upper-octet-requires c κs =
+put-hex-octet-requires : tie.Need-put-hex-octet-requires
+put-hex-octet-requires c κs =
     omega (arith, c .before .before .before .before .before .hex-pairs .ensures .count, hex-count (c .before .before .before .before .before .before .before .before .before .before .before .args .s .now) (c .before .before .before .before .before .before .before .before .fitting .result - 0) (omega arith))
 
 mul-result : tie.Need-mul-result
@@ -54,8 +54,8 @@ returns-2 c =
     let s = c .before .before .before .before .before .before .before .before .before .before .before .before .before .before .args .s .now in
     let k = c .before .before .before .before .before .before .before .before .before .before .before .fitting .result in
     let w = rw (sub-zero k) at (c .before .before .before .before .before .before .before .before .hex-pairs .ensures) in
-    let v = c .before .before .put-hex-upper-octet .ensures in
-    let m : c .before .before .put-hex-upper-octet .result ≡ c .before .before .before .before .before .before .before .before .before .before .before .before .before .before .args .n + 2 * k + 2 = omega (arith, v .count, w .count, hex-count s k (omega arith)) in
+    let v = c .before .before .put-hex-octet .ensures in
+    let m : c .before .before .put-hex-octet .result ≡ c .before .before .before .before .before .before .before .before .before .before .before .before .before .before .args .n + 2 * k + 2 = omega (arith, v .count, w .count, hex-count s k (omega arith)) in
     wrote-text _ _ (hex-parts s k (c .before .before .before .before .before .if1 .left))
     (wrote-out _ (hexText (drop (k + 1) s)) (wrote-append w v) (omega arith) (omega (arith, hex-length (drop (k + 1) s), length-drop (k + 1) s)))
 
@@ -70,8 +70,8 @@ put-hex-upper-spec =
     hex-pairs-requires
     same-length
     returns
-    shared-slice-read-put-hex-upper-octet
-    put-hex-upper-octet-requires
+    shared-slice-read-put-hex-octet
+    put-hex-octet-requires
     mul-result
     add-result
     same-length-2

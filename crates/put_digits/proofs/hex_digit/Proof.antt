@@ -1,7 +1,7 @@
 use borrow.Author.Tests.{lt-ltb, le-ltb}
 use borrow.Author.Needs.{needs}
-use Rattle.put_digits.proofs.lower_digit.Statement.{statement}
-use Rattle.put_digits.proofs.lower_digit.Tie as tie
+use Rattle.put_digits.proofs.hex_digit.Statement.{statement}
+use Rattle.put_digits.proofs.hex_digit.Tie as tie
 
 add-result : tie.Need-add-result
 add-result c = search needs
@@ -15,5 +15,5 @@ returns c = rw (lt-ltb _ _ (c .if1 .taken))
 returns-2 : tie.Need-returns-2
 returns-2 c = rw (le-ltb _ _ (c .if1 .left))
 
-pub lower-digit-spec : {M : Type 1} → statement M
-lower-digit-spec = tie.close (tie.spec add-result add-result-2 returns returns-2)
+pub hex-digit-spec : {M : Type 1} → statement M
+hex-digit-spec = tie.close (tie.spec add-result add-result-2 returns returns-2)

@@ -1,0 +1,9 @@
+-- Hex digits in either case.
+use Prim.Native.Nat.{ℕ, _+_, _-_}
+use Prim.Native.Char.{code}
+use mathlib.Core.Bool.{cond}
+use lib.Dec.{ltb}
+
+-- the digit d, whose letters begin with the octet ten: upperDigit for A, lowerDigit for a
+abbrev pub digitFrom : ℕ → ℕ → ℕ
+digitFrom ten d = cond (ltb d 10) (code "0" + d) (ten + (d - 10))
