@@ -17,7 +17,7 @@ use Rattle.format.specs.Number.{decimal, decimalOf, below}
 use Rattle.format.specs.Hex.{hexPair}
 use Rattle.format.specs.Address.{smallNumber, groupOf}
 use Rattle.format.proofs.Lists.{and-left, and-right, bind-some, provided-some, same-octets, octets-same}
-use Rattle.format.proofs.Finite.{at-each}
+use Rattle.format.proofs.Finite.{all-same}
 use Rattle.format.proofs.Digits.{digits-length, digits-number, zeros-length, number-bound}
 use Rattle.octets.proofs.Slices.{next, none as no-octet}
 use Rattle.octets.specs.declared.Number.{Number}
@@ -29,22 +29,9 @@ use Rattle.read_address.specs.declared.part.Form.the-variants.{Pair, Sma
 use Rattle.read_address.specs.Part.{hexOf, hexNumber, zeroFirst, widthOf, valueOf, pieceOf}
 
 -- a hex digit, by one computed test of all octets
-abbrev sameOption : Option ℕ → Option ℕ → Bool
-sameOption none none = true
-sameOption none (some y) = false
-sameOption (some x) none = false
-sameOption (some x) (some y) = eqb x y
-
-same-option : (o p : Option ℕ) → sameOption o p ≡ true → o ≡ p
-same-option none none h = refl
-same-option none (some y) h = cc
-same-option (some x) none h = cc
-same-option (some x) (some y) h = ap some (eqb-true x y h)
-
 hex-digit : (b : ℕ) → b < 256 → digitValue 16 b ≡ provided (ltb (hexOf b) 16) (hexOf b)
 unfolding hexOf
-hex-digit b h =
-    same-option (digitValue 16 b) (provided (ltb (hexOf b) 16) (hexOf b)) (at-each (λ b. sameOption (digitValue 16 b) (provided (ltb (hexOf b) 16) (hexOf b))) 256 refl b h)
+hex-digit = all-same 256 (digitValue 16) (λ b. provided (ltb (hexOf b) 16) (hexOf b)) refl
 
 -- the number of the digits so far, which is v, and of those that follow
 abbrev pub hexFrom : ℕ → List ℕ → Option ℕ

@@ -17,7 +17,7 @@ use Rattle.format.specs.Digits.{digits}
 use Rattle.format.specs.Base.{bits, wholeOctets, fromDigits, base64Value, padding, notPadding, unpadded, readBase64}
 use Rattle.format.specs.Run.{noToken, badToken, joinedBares}
 use Rattle.format.proofs.Lists.{implied, and-left, and-right, or-left, or-right}
-use Rattle.format.proofs.Finite.{at-each}
+use Rattle.format.proofs.Finite.{at-each, all-same}
 use Rattle.format.proofs.Token.{plainly}
 use Rattle.format.proofs.Base.{bits-length}
 use Rattle.octets.proofs.Slices.{none as no-octet}
@@ -29,13 +29,13 @@ use Rattle.read_group.specs.Group.{charValue, leftOut, without, Grouping, Stops
 use Rattle.read_base.specs.Rest.{Gets}
 use Rattle.read_base.specs.declared.rest.Got.the-variants.{Upto as UptoAll}
 use Rattle.read_group.proofs.GroupDigits.{without-append, without-next, each-none, run-within, run-stops, run-skipped, begun-all}
-use Rattle.read_group.proofs.Letters.{all-same, there, no-digit, sameBool, same-bool, without-blanks, each-blank, octets-part}
+use Rattle.read_group.proofs.Letters.{there, no-digit, sameBool, same-bool, without-blanks, each-blank, octets-part}
 use Rattle.read_base.proofs.Joined.{joinedText, joined-is, text-fault, text-got, nothing-stored}
 
 -- the alphabet
 chars64 : (x : ℕ) → x < 256 → charValue base64Numbers 64 x ≡ base64Value x
 unfolding base64Numbers
-chars64 = all-same (charValue base64Numbers 64) base64Value refl
+chars64 = all-same 256 (charValue base64Numbers 64) base64Value refl
 
 blanks64 : (x : ℕ) → x < 256 → leftOut base64Numbers 64 x ≡ blank x
 unfolding base64Numbers

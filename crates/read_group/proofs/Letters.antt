@@ -1,14 +1,14 @@
--- The alphabet of digits and letters against the definitions, and a count before octets.
-use Prim.Native.Nat.{ℕ, _+_, _-_, _%_, _≤_, _<_}
+-- The alphabet of digits and letters against the definitions.
+use Prim.Native.Nat.{ℕ, _+_, _-_, _%_, _<_}
 use mathlib.Core.Path.{_≡_, refl, sym, ap, subst, _∙_}
 use mathlib.Core.Bool.{Bool, true, false, not, cond}
 use mathlib.Core.List.{List, [], _∷_}
 use mathlib.Core.Option.{Option, none, some}
 use native.Mathlib.Omega.{arith}
-use lib.Dec.{eqb, ltb}
-use lib.ListN.{length, getD, set, take}
+use lib.Dec.{ltb}
+use lib.ListN.{getD, take}
 use lib.Seq.{slice}
-use borrow.Author.Tests.{le-leb, lt-leb, eqb-true, ltb-true}
+use borrow.Author.Tests.{ltb-true}
 use Rattle.format.specs.Lists.{_>>=_, provided, consBoth, eachOf}
 use Rattle.format.specs.Octets.{Octets, blank, digit, letter, lowered}
 use Rattle.format.specs.Digits.{digitValue, number}
@@ -17,31 +17,14 @@ use Rattle.format.specs.Base.{fromDigits}
 use Rattle.format.specs.Hex.{hexPair, fromHex, readCountedHex}
 use Rattle.format.specs.Base.{readBase32}
 use Rattle.format.proofs.Lists.{below-each, below-take, below-drop, not-true}
-use Rattle.format.proofs.Finite.{allBelow, at-each}
-use Rattle.writing.specs.Writing.{Values, after}
-use Rattle.writing.specs.declared.Value.the-variants.{Upto}
-use Rattle.writing.proofs.Laws.{wrote-before}
+use Rattle.format.proofs.Finite.{at-each, all-same}
+use Rattle.writing.specs.Writing.{after}
 use Rattle.read_group.specs.Group.{charValue, leftOut, without, octetsBy, letters, countedBy}
 use Rattle.read_group.proofs.Bits.{group-octets}
 
 -- octets at each place make octets of a part
 pub octets-part : (t : List ℕ) (i e : ℕ) → ((k : ℕ) → getD t k 0 < 256) → Octets (slice i e t)
 octets-part t i e h = below-drop 256 i (take e t) (below-take 256 e t (below-each 256 t h))
-
-abbrev same : Option ℕ → Option ℕ → Bool
-same none none = true
-same none (some y) = false
-same (some x) none = false
-same (some x) (some y) = eqb x y
-
-same-is : (p q : Option ℕ) → same p q ≡ true → p ≡ q
-same-is none none h = refl
-same-is none (some y) h = cc
-same-is (some x) none h = cc
-same-is (some x) (some y) h = ap some (eqb-true x y h)
-
-pub all-same : (f g : ℕ → Option ℕ) → allBelow (λ x. same (f x) (g x)) 256 ≡ true → (x : ℕ) → x < 256 → f x ≡ g x
-all-same f g h x l = same-is (f x) (g x) (at-each (λ x. same (f x) (g x)) 256 h x l)
 
 abbrev pub there : Option ℕ → Bool
 there none = false
@@ -78,11 +61,11 @@ module _ (a : List ℕ) (left : (x : ℕ) → x < 256 → leftOut a 64 x ≡ bla
 
 pub letters16 : (x : ℕ) → x < 256 → charValue letters 16 x ≡ digitValue 16 x
 unfolding letters
-letters16 = all-same (charValue letters 16) (digitValue 16) refl
+letters16 = all-same 256 (charValue letters 16) (digitValue 16) refl
 
 letters32 : (x : ℕ) → x < 256 → charValue letters 32 x ≡ digitValue 32 x
 unfolding letters
-letters32 = all-same (charValue letters 32) (digitValue 32) refl
+letters32 = all-same 256 (charValue letters 32) (digitValue 32) refl
 
 all-kept : (x : ℕ) → x < 256 → leftOut letters 100 x ≡ false
 unfolding letters
@@ -148,19 +131,3 @@ bind-bind (some x) f g = refl
 
 pub counted-base32 : (s : List ℕ) → Octets s → countedBy 5 32 s ≡ readBase32 s
 counted-base32 s o = ap (λ x. x >>= fromDigits 5 >>= counted 1) (each-by (charValue letters 32) (digitValue 32) letters32 s o) ∙ bind-bind (eachOf (digitValue 32) s) (fromDigits 5) (counted 1)
-
--- a value with its count before it
-module _ (o o₁ : List ℕ) (n m : ℕ) (v : Option (List ℕ)) (h : Values o o₁ (n + 1) (Upto m) v) where
-  pub count-is : m ≡ n + 1 + length (h .0)
-  count-is = h .2 .count
-
-  pub too-short : m - (n + 1) < 1 → (v >>= counted 1) ≡ none
-  too-short k = rw (h .1, lt-leb 1 (length (h .0)) (omega (arith, count-is)))
-
-  pub too-long : 1 ≤ m - (n + 1) → 255 < m - (n + 1) → (v >>= counted 1) ≡ none
-  too-long l k = rw (h .1, le-leb 1 (length (h .0)) (omega (arith, count-is)), lt-leb (length (h .0)) 255 (omega (arith, count-is)))
-
-  pub counted-value : (o₂ : List ℕ) → 1 ≤ m - (n + 1) → m - (n + 1) ≤ 255 → o₂ ≡ set o₁ n (m - (n + 1)) → Values o o₂ n (Upto m) (v >>= counted 1)
-  counted-value o₂ j k p =
-      let l : m - (n + 1) ≡ length (h .0) = omega (arith, count-is) in
-      (length (h .0) ∷ h .0, rw (h .1, le-leb 1 (length (h .0)) (omega arith), le-leb (length (h .0)) 255 (omega arith)), wrote-before o₂ (length (h .0)) (h .2) (rw l at p))

@@ -6,17 +6,16 @@ use mathlib.Core.List.{List, [], _∷_, map, append-nil}
 use mathlib.Core.Option.{Option, none, some}
 use native.Mathlib.Omega.{arith}
 use lib.Dec.{eqb}
-use lib.ListN.{length, take, drop, getD, set}
+use lib.ListN.{length, take, drop, getD}
 use lib.Seq.{slice, take-take, length-slice}
-use borrow.Author.Tests.{le-leb, lt-leb, eq-eqb, eqb-true, eqb-false, ne-eqb}
+use borrow.Author.Tests.{eq-eqb, eqb-true, eqb-false, ne-eqb}
 use Rattle.format.specs.Lists.{_>>=_, consBoth, spanning, span}
 use Rattle.format.specs.Octets.{among}
 use Rattle.format.specs.Token.{bare, quoted, Item, plain, escape, octetOf, outside, slash, unescapedFrom}
-use Rattle.format.specs.Text.{stringValue, counted, notEmpty}
+use Rattle.format.specs.Text.{stringValue, notEmpty}
 use Rattle.format.proofs.Token.{none-left as nothing-unescaped}
 use Rattle.writing.specs.Writing.{Values, after}
 use Rattle.writing.specs.declared.Value.the-variants.{Upto}
-use Rattle.writing.proofs.Laws.{wrote-before}
 use Rattle.octets.proofs.Slices.{next, none as no-octet, lent, span-front, front-within, front-rest}
 use Rattle.read_escape.specs.declared.Escape.{Escape}
 use Rattle.read_escape.specs.declared.Escape.the-variants.{Fault, Octet}
@@ -131,19 +130,6 @@ module _ (t : List ℕ) (j e : ℕ) (h : j < e) (l : e ≤ length t) (p : plainE
 
 pub ends-within : (i e : ℕ) (r : Escape) (b k : ℕ) → r ≡ Octet b k → EndsWithin i e r → (i < k) × (k ≤ e)
 ends-within i e r b k f h = rw f at h
-
--- a value with its count before it
-module _ (o o₁ : List ℕ) (n m : ℕ) (v : Option (List ℕ)) (h : Values o o₁ (n + 1) (Upto m) v) where
-  pub count-is : m ≡ n + 1 + length (h .0)
-  count-is = h .2 .count
-
-  pub too-long : 255 < m - (n + 1) → (v >>= counted 0) ≡ none
-  too-long k = rw (h .1, le-leb 0 (length (h .0)) (omega arith), lt-leb (length (h .0)) 255 (omega (arith, count-is)))
-
-  pub string-value : (o₂ : List ℕ) → m - (n + 1) ≤ 255 → o₂ ≡ set o₁ n (m - (n + 1)) → Values o o₂ n (Upto m) (v >>= counted 0)
-  string-value o₂ k p =
-      let l : m - (n + 1) ≡ length (h .0) = omega (arith, count-is) in
-      (length (h .0) ∷ h .0, rw (h .1, le-leb 0 (length (h .0)) (omega arith), le-leb (length (h .0)) 255 (omega arith)), wrote-before o₂ (length (h .0)) (h .2) (rw l at p))
 
 -- a value that is not empty
 module _ (o o₁ : List ℕ) (n m : ℕ) (v : Option (List ℕ)) (h : Values o o₁ n (Upto m) v) where

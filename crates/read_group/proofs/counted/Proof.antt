@@ -1,4 +1,4 @@
-use Rattle.read_group.proofs.Letters.{count-is, too-short, too-long, counted-value}
+use Rattle.writing.proofs.Values.{count-is, too-short, too-long, counted-value}
 use Rattle.read_group.specs.Group.{octetsBy, letters}
 use lib.Seq.{slice}
 use native.Mathlib.Omega.{arith}
@@ -26,19 +26,19 @@ add-count : tie.Need-add-count
 add-count c = search needs
 
 sub-count : tie.Need-sub-count
-sub-count c = omega (arith, count-is (c .before .before .before .before .before .before .before .before .before .args .out .now) (c .before .before .before .before .before .lettered .last .0) (c .before .before .before .before .before .before .before .before .before .args .n) (c .before .v .given .0 .0) (octetsBy letters 100 (c .before .before .before .before .before .before .before .before .before .args .w) (c .before .before .before .before .before .before .before .before .before .args .base) (slice (c .before .before .before .before .before .before .before .before .before .args .i) (c .before .before .before .before .before .before .before .before .before .args .e) (c .before .before .before .before .before .before .before .before .before .args .t .now))) (rw (c .before .v .given .1) at (c .before .before .before .before .before .lettered .ensures)))
+sub-count c = omega (arith, count-is 1 (c .before .before .before .before .before .before .before .before .before .args .out .now) (c .before .before .before .before .before .lettered .last .0) (c .before .before .before .before .before .before .before .before .before .args .n) (c .before .v .given .0 .0) (octetsBy letters 100 (c .before .before .before .before .before .before .before .before .before .args .w) (c .before .before .before .before .before .before .before .before .before .args .base) (slice (c .before .before .before .before .before .before .before .before .before .args .i) (c .before .before .before .before .before .before .before .before .before .args .e) (c .before .before .before .before .before .before .before .before .before .args .t .now))) (rw (c .before .v .given .1) at (c .before .before .before .before .before .lettered .ensures)))
 
 same-length : tie.Need-same-length
 same-length c = search needs
 
 returns : tie.Need-returns
-returns c = too-short (c .before .before .before .before .before .before .before .before .before .before .args .out .now) (c .before .before .before .before .before .before .lettered .last .0) (c .before .before .before .before .before .before .before .before .before .before .args .n) (c .before .before .v .given .0 .0) (octetsBy letters 100 (c .before .before .before .before .before .before .before .before .before .before .args .w) (c .before .before .before .before .before .before .before .before .before .before .args .base) (slice (c .before .before .before .before .before .before .before .before .before .before .args .i) (c .before .before .before .before .before .before .before .before .before .before .args .e) (c .before .before .before .before .before .before .before .before .before .before .args .t .now))) (rw (c .before .before .v .given .1) at (c .before .before .before .before .before .before .lettered .ensures)) (c .if1 .taken)
+returns c = too-short 1 (c .before .before .before .before .before .before .before .before .before .before .args .out .now) (c .before .before .before .before .before .before .lettered .last .0) (c .before .before .before .before .before .before .before .before .before .before .args .n) (c .before .before .v .given .0 .0) (octetsBy letters 100 (c .before .before .before .before .before .before .before .before .before .before .args .w) (c .before .before .before .before .before .before .before .before .before .before .args .base) (slice (c .before .before .before .before .before .before .before .before .before .before .args .i) (c .before .before .before .before .before .before .before .before .before .before .args .e) (c .before .before .before .before .before .before .before .before .before .before .args .t .now))) (rw (c .before .before .v .given .1) at (c .before .before .before .before .before .before .lettered .ensures)) (c .if1 .taken)
 
 same-length-2 : tie.Need-same-length-2
 same-length-2 c = search needs
 
 returns-2 : tie.Need-returns-2
-returns-2 c = too-long (c .before .before .before .before .before .before .before .before .before .before .before .args .out .now) (c .before .before .before .before .before .before .before .lettered .last .0) (c .before .before .before .before .before .before .before .before .before .before .before .args .n) (c .before .before .before .v .given .0 .0) (octetsBy letters 100 (c .before .before .before .before .before .before .before .before .before .before .before .args .w) (c .before .before .before .before .before .before .before .before .before .before .before .args .base) (slice (c .before .before .before .before .before .before .before .before .before .before .before .args .i) (c .before .before .before .before .before .before .before .before .before .before .before .args .e) (c .before .before .before .before .before .before .before .before .before .before .before .args .t .now))) (rw (c .before .before .before .v .given .1) at (c .before .before .before .before .before .before .before .lettered .ensures)) (c .before .if1 .left) (c .if2 .taken)
+returns-2 c = too-long 1 (c .before .before .before .before .before .before .before .before .before .before .before .args .out .now) (c .before .before .before .before .before .before .before .lettered .last .0) (c .before .before .before .before .before .before .before .before .before .before .before .args .n) (c .before .before .before .v .given .0 .0) (octetsBy letters 100 (c .before .before .before .before .before .before .before .before .before .before .before .args .w) (c .before .before .before .before .before .before .before .before .before .before .before .args .base) (slice (c .before .before .before .before .before .before .before .before .before .before .before .args .i) (c .before .before .before .before .before .before .before .before .before .before .before .args .e) (c .before .before .before .before .before .before .before .before .before .before .before .args .t .now))) (rw (c .before .before .before .v .given .1) at (c .before .before .before .before .before .before .before .lettered .ensures)) (c .before .if1 .left) (c .if2 .taken)
 
 cast-put : tie.Need-cast-put
 cast-put c = search needs
@@ -56,7 +56,7 @@ same-length-4 : tie.Need-same-length-4
 same-length-4 c = search needs
 
 returns-4 : tie.Need-returns-4
-returns-4 c = counted-value (c .before .before .before .before .before .before .before .before .before .before .before .before .before .before .before .args .out .now) (c .before .before .before .before .before .before .before .before .before .before .before .lettered .last .0) (c .before .before .before .before .before .before .before .before .before .before .before .before .before .before .before .args .n) (c .before .before .before .before .before .before .before .v .given .0 .0) (octetsBy letters 100 (c .before .before .before .before .before .before .before .before .before .before .before .before .before .before .before .args .w) (c .before .before .before .before .before .before .before .before .before .before .before .before .before .before .before .args .base) (slice (c .before .before .before .before .before .before .before .before .before .before .before .before .before .before .before .args .i) (c .before .before .before .before .before .before .before .before .before .before .before .before .before .before .before .args .e) (c .before .before .before .before .before .before .before .before .before .before .before .before .before .before .before .args .t .now))) (rw (c .before .before .before .before .before .before .before .v .given .1) at (c .before .before .before .before .before .before .before .before .before .before .before .lettered .ensures)) _ (c .before .before .before .before .before .if1 .left) (c .before .before .before .before .if2 .left) (c .before .before .put .ensures)
+returns-4 c = counted-value 1 (c .before .before .before .before .before .before .before .before .before .before .before .before .before .before .before .args .out .now) (c .before .before .before .before .before .before .before .before .before .before .before .lettered .last .0) (c .before .before .before .before .before .before .before .before .before .before .before .before .before .before .before .args .n) (c .before .before .before .before .before .before .before .v .given .0 .0) (octetsBy letters 100 (c .before .before .before .before .before .before .before .before .before .before .before .before .before .before .before .args .w) (c .before .before .before .before .before .before .before .before .before .before .before .before .before .before .before .args .base) (slice (c .before .before .before .before .before .before .before .before .before .before .before .before .before .before .before .args .i) (c .before .before .before .before .before .before .before .before .before .before .before .before .before .before .before .args .e) (c .before .before .before .before .before .before .before .before .before .before .before .before .before .before .before .args .t .now))) (rw (c .before .before .before .before .before .before .before .v .given .1) at (c .before .before .before .before .before .before .before .before .before .before .before .lettered .ensures)) _ (c .before .before .before .before .before .if1 .left) (c .before .before .before .before .if2 .left) (c .before .before .put .ensures)
 
 pub counted-spec : {M : Type 1} → statement M
 counted-spec =

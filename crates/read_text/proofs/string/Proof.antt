@@ -1,5 +1,5 @@
 use lib.Seq.{slice}
-use Rattle.read_text.proofs.Texts.{count-is, too-long, string-value}
+use Rattle.writing.proofs.Values.{count-is, too-long, counted-value}
 use Rattle.read_text.specs.Text.{tokenOf}
 use Rattle.format.specs.Text.{stringValue}
 use native.Mathlib.Omega.{arith}
@@ -23,13 +23,13 @@ add-count : tie.Need-add-count
 add-count c = search needs
 
 sub-count : tie.Need-sub-count
-sub-count c = omega (arith, count-is (c .before .before .before .before .before .before .before .before .before .args .out .now) (c .before .before .before .before .before .value .last .0) (c .before .before .before .before .before .before .before .before .before .args .n) (c .before .v .given .0 .0) (stringValue (tokenOf (c .before .before .before .before .before .before .before .before .before .args .quoted) (slice (c .before .before .before .before .before .before .before .before .before .args .a) (c .before .before .before .before .before .before .before .before .before .args .e) (c .before .before .before .before .before .before .before .before .before .args .t .now)))) (rw (c .before .v .given .1) at (c .before .before .before .before .before .value .ensures)))
+sub-count c = omega (arith, count-is 0 (c .before .before .before .before .before .before .before .before .before .args .out .now) (c .before .before .before .before .before .value .last .0) (c .before .before .before .before .before .before .before .before .before .args .n) (c .before .v .given .0 .0) (stringValue (tokenOf (c .before .before .before .before .before .before .before .before .before .args .quoted) (slice (c .before .before .before .before .before .before .before .before .before .args .a) (c .before .before .before .before .before .before .before .before .before .args .e) (c .before .before .before .before .before .before .before .before .before .args .t .now)))) (rw (c .before .v .given .1) at (c .before .before .before .before .before .value .ensures)))
 
 same-length : tie.Need-same-length
 same-length c = search needs
 
 returns : tie.Need-returns
-returns c = too-long (c .before .before .before .before .before .before .before .before .before .before .args .out .now) (c .before .before .before .before .before .before .value .last .0) (c .before .before .before .before .before .before .before .before .before .before .args .n) (c .before .before .v .given .0 .0) (stringValue (tokenOf (c .before .before .before .before .before .before .before .before .before .before .args .quoted) (slice (c .before .before .before .before .before .before .before .before .before .before .args .a) (c .before .before .before .before .before .before .before .before .before .before .args .e) (c .before .before .before .before .before .before .before .before .before .before .args .t .now)))) (rw (c .before .before .v .given .1) at (c .before .before .before .before .before .before .value .ensures)) (omega arith)
+returns c = too-long 0 (c .before .before .before .before .before .before .before .before .before .before .args .out .now) (c .before .before .before .before .before .before .value .last .0) (c .before .before .before .before .before .before .before .before .before .before .args .n) (c .before .before .v .given .0 .0) (stringValue (tokenOf (c .before .before .before .before .before .before .before .before .before .before .args .quoted) (slice (c .before .before .before .before .before .before .before .before .before .before .args .a) (c .before .before .before .before .before .before .before .before .before .before .args .e) (c .before .before .before .before .before .before .before .before .before .before .args .t .now)))) (rw (c .before .before .v .given .1) at (c .before .before .before .before .before .before .value .ensures)) (omega arith) (omega arith)
 
 cast-put : tie.Need-cast-put
 cast-put c = search needs
@@ -47,7 +47,7 @@ same-length-3 : tie.Need-same-length-3
 same-length-3 c = search needs
 
 returns-3 : tie.Need-returns-3
-returns-3 c = string-value (c .before .before .before .before .before .before .before .before .before .before .before .before .before .before .args .out .now) (c .before .before .before .before .before .before .before .before .before .before .value .last .0) (c .before .before .before .before .before .before .before .before .before .before .before .before .before .before .args .n) (c .before .before .before .before .before .before .v .given .0 .0) (stringValue (tokenOf (c .before .before .before .before .before .before .before .before .before .before .before .before .before .before .args .quoted) (slice (c .before .before .before .before .before .before .before .before .before .before .before .before .before .before .args .a) (c .before .before .before .before .before .before .before .before .before .before .before .before .before .before .args .e) (c .before .before .before .before .before .before .before .before .before .before .before .before .before .before .args .t .now)))) (rw (c .before .before .before .before .before .before .v .given .1) at (c .before .before .before .before .before .before .before .before .before .before .value .ensures)) _ (omega arith) (c .before .before .put .ensures)
+returns-3 c = counted-value 0 (c .before .before .before .before .before .before .before .before .before .before .before .before .before .before .args .out .now) (c .before .before .before .before .before .before .before .before .before .before .value .last .0) (c .before .before .before .before .before .before .before .before .before .before .before .before .before .before .args .n) (c .before .before .before .before .before .before .v .given .0 .0) (stringValue (tokenOf (c .before .before .before .before .before .before .before .before .before .before .before .before .before .before .args .quoted) (slice (c .before .before .before .before .before .before .before .before .before .before .before .before .before .before .args .a) (c .before .before .before .before .before .before .before .before .before .before .before .before .before .before .args .e) (c .before .before .before .before .before .before .before .before .before .before .before .before .before .before .args .t .now)))) (rw (c .before .before .before .before .before .before .v .given .1) at (c .before .before .before .before .before .before .before .before .before .before .value .ensures)) _ (omega arith) (omega arith) (c .before .before .put .ensures)
 
 pub string-spec : {M : Type 1} → statement M
 string-spec =
