@@ -59,6 +59,7 @@ pub record EmptyCall (stanza : List ℕ) (k : ℕ) (xs : List ℕ) (c : Call sta
   pub only : (accepted c ≡ true) ↔ (xs ≡ [])
   pub none : accepted c ≡ true → (c .reply .number ≡ 0) × (c .reply .place ≡ 0) × (c .after ≡ c .out)
 
+-- Demand 3 of any calls of `print`: "Take any accepted description, cut its field list anywhere .. and take any RDATA of at most 65,535 octets."
 abbrev pub Demand3 : Type 0
 Demand3 = (stanza : List ℕ) (d : Description) → judged stanza ≡ described d → (k : ℕ) → k ≤ length (d .fields) → (xs : List ℕ) → length xs ≤ maxRdata
     → ((whole : Call stanza 1 (length (kinds (d .fields))) xs) (front : (e : ℕ) → Call stanza 1 k (take e xs))

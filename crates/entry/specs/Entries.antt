@@ -35,10 +35,11 @@ withRoom out at a = outcome out at (ifRoom (room out at) a)
 abbrev pub runText : List Kind → List ℕ → Answer
 runText ks xs = ofParts (partsOf ks xs) (λ ps. done (textOfParts shown ks ps))
 
--- the octets of a run's text, want of room apart
+-- the octets of each field of a run, read from a text
 abbrev pub runParts : List Kind → List ℕ → List ℕ → Parts
 runParts ks origin text = readRun (λ k ts. readField k origin ts) ks (tokens text)
 
+-- the octets of a run's text, or 11, want of room apart
 abbrev pub runOctets : List Kind → List ℕ → List ℕ → Answer
 runOctets ks origin text = ofParts (runParts ks origin text) (λ ps. orRefusal 11 (leb (length (flat ps)) maxRdata) (done (flat ps)))
 

@@ -27,6 +27,7 @@ tailsLast (k ∷ l ∷ ks) = not (tail k) && tailsLast (l ∷ ks)
 abbrev pub soundSymbol : ℕ → Symbol → Bool
 soundSymbol w s = isName (s .spelling .octets) && ltb (s .value) (256 ^ w)
 
+-- a kind that the judge may give: symbols and widths as said
 abbrev pub soundKind : Kind → Bool
 soundKind (int w l) = among w (1 ∷ 2 ∷ 4 ∷ []) && allOf (soundSymbol w) l && not (twice sameSymbol l)
 soundKind rrtype = true
@@ -53,6 +54,7 @@ pub record Sound (d : Description) : Type 0 where
   pub names-distinct : twice sameName (d .fields) ≡ false
   pub kinds-sound : allOf soundKind (kinds (d .fields)) ≡ true
 
+-- every accepted stanza's description is sound
 abbrev pub Judges : Type 0
 Judges = (stanza : List ℕ) (d : Description) → judged stanza ≡ described d → Sound d
 
@@ -114,6 +116,7 @@ pub record RoundTrip (stanza : List ℕ) (first len : ℕ) (ks : List Kind) (xs 
   pub reads-no-room : accepts ks xs ≡ true → (origin : List ℕ) → isWireName origin ≡ true → (out : List ℕ) (at : ℕ) → room out at < length xs
       → read stanza first len origin (textOf ks xs) out at ≡ record { number = 12; place = length xs; lent = out }
 
+-- demand 2, for every accepted stanza, run and RDATA
 abbrev pub Demand2 : Type 0
 Demand2 = (stanza : List ℕ) (d : Description) → judged stanza ≡ described d → (first len : ℕ) → isRun first len (kinds (d .fields)) ≡ true → (xs : List ℕ) → Octets xs
     → RoundTrip stanza first len (run first len (kinds (d .fields))) xs

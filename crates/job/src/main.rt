@@ -7,7 +7,7 @@ use libc::STDOUT_FILENO;
 // One octet more than a job may have, so that one that is too long is seen.
 const LONGEST: usize = 65536;
 
-// Twice the longest line, so that a turn writes at least half of it.
+// Twice the longest line, so that a turn, the last apart, fills at least half of it.
 const ROOM: usize = 262148;
 
 // Writes the first n octets, and answers whether that went well.

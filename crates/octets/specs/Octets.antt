@@ -15,6 +15,7 @@ use Rattle.octets.specs.declared.Class.the-variants.{NotNewline, Blank, 
 use Rattle.octets.specs.declared.Number.{Number}
 use Rattle.octets.specs.declared.Number.the-variants.{Value, Fault}
 
+-- the octets of each class
 abbrev pub inClass : Class → ℕ → Bool
 inClass NotNewline x = not (eqb x 10)
 inClass Blank x = blank x

@@ -33,7 +33,7 @@ fn put_next(
     if w == 0 {
         return at;
     }
-    writing::put(out, at, 32);
+    writing::put(out, at, b' ');
     at + 1 + w
 }
 

@@ -19,15 +19,19 @@ pub record DoubledAt (t : List ℕ) (i e r : ℕ) : Type 0 where
   pub found : r < e → atDoubleColon (slice i e t) ≡ double (slice i r t) (slice (r + 2) e t)
   pub absent : e ≤ r → atDoubleColon (slice i e t) ≡ single
 
+-- the octets of groups
 abbrev pub octetsIn : Option (List ℕ) → Option (List ℕ)
 octetsIn o = o >>= λ gs. some (groupOctets gs)
 
+-- the octets of a last group, or of an IPv4 part in its place
 unfoldable pub lastIn : Bool → List ℕ → Option (List ℕ)
 lastIn tail t = octetsIn (lastGroups tail t)
 
+-- the octets of the groups between colons
 unfoldable pub groupsIn : Bool → List ℕ → Option (List ℕ)
 groupsIn tail t = octetsIn (groupsOf tail (splitOn (code ":") t))
 
+-- the octets of a side of a double colon, which may be empty
 unfoldable pub sideIn : Bool → List ℕ → Option (List ℕ)
 sideIn tail t = octetsIn (sideOf tail t)
 
@@ -39,5 +43,6 @@ sixteen o = o >>= λ xs. provided (eqb (length xs) 16) xs
 abbrev pub filled : ℕ → Option (List ℕ) → Option (List ℕ)
 filled g o = o >>= λ ys. provided (leb (g + length ys) 14) (replicate (16 - (g + length ys)) 0 ++ ys)
 
+-- the sixteen octets of an address with a double colon
 abbrev pub bothSides : List ℕ → List ℕ → Option (List ℕ)
 bothSides s u = sideIn false s >>= λ xs. filled (length xs) (sideIn true u) >>= λ ys. some (xs ++ ys)

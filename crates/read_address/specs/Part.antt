@@ -22,6 +22,7 @@ hexOf b =
     (cond (ltb b 65) 16 (cond (ltb b 71) (b - 55)
     (cond (ltb b 97) 16 (cond (ltb b 103) (b - 87) 16)))))
 
+-- a number in hex digits
 abbrev pub hexNumber : List ℕ → Option ℕ
 hexNumber t = eachOf (digitValue 16) t >>= λ ds. some (number 16 ds)
 
@@ -35,6 +36,7 @@ zeroFirst (x ∷ y ∷ xs) = eqb x (code "0")
 abbrev pub apart : ℕ → ℕ → Bool
 apart c x = not (eqb x c)
 
+-- where the part from i on ends
 abbrev pub partEnd : ℕ → List ℕ → ℕ → ℕ → ℕ
 partEnd c t i e = frontEnd (apart c) t i e
 
@@ -44,19 +46,23 @@ markOf Pair = code "-"
 markOf Small = code "."
 markOf Group = code ":"
 
+-- how many octets it is
 abbrev pub widthOf : Form → ℕ
 widthOf Pair = 1
 widthOf Small = 1
 widthOf Group = 2
 
+-- its number
 abbrev pub valueOf : Form → List ℕ → Option ℕ
 valueOf Pair t = hexPair t
 valueOf Small t = smallNumber t
 valueOf Group t = groupOf t
 
+-- a number in w octets
 abbrev pub octetsOf : ℕ → Option ℕ → Option (List ℕ)
 octetsOf w o = o >>= λ v. some (digits 256 w v)
 
+-- its octets
 unfoldable pub pieceOf : Form → List ℕ → Option (List ℕ)
 pieceOf f t = octetsOf (widthOf f) (valueOf f t)
 
@@ -64,8 +70,10 @@ pieceOf f t = octetsOf (widthOf f) (valueOf f t)
 abbrev pub joined : ℕ → Option (List (List ℕ)) → Option (List ℕ)
 joined w o = o >>= λ l. provided (eqb (length l) w) (flat l)
 
+-- w parts between the octets c, each read by p
 unfoldable pub partsBy : ℕ → (List ℕ → Option (List ℕ)) → ℕ → List ℕ → Option (List ℕ)
 partsBy c p w t = joined w (eachOf p (splitOn c t))
 
+-- w parts of a form
 abbrev pub partsOf : Form → ℕ → List ℕ → Option (List ℕ)
 partsOf f w t = partsBy (markOf f) (pieceOf f) w t

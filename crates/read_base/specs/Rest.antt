@@ -7,6 +7,7 @@ use Rattle.writing.specs.Writing.{Wrote}
 use Rattle.read_base.specs.declared.rest.Got.{Got as Answer}
 use Rattle.read_base.specs.declared.rest.Got.the-variants.{Missing, Fault, Upto}
 
+-- the octets of a field of all tokens stand in the buffer so; or no token is left, or one has a fault
 abbrev pub Gets : List ℕ → List ℕ → ℕ → Answer → Got → Type 0
 Gets before after place Missing g = g ≡ noToken
 Gets before after place Fault g = g ≡ badToken

@@ -19,9 +19,11 @@ use Rattle.octets.specs.Octets.{frontEnd}
 abbrev pub charValue : List ℕ → ℕ → ℕ → Option ℕ
 charValue a base x = provided (ltb (getD a x 0) base) (getD a x 0)
 
+-- an octet that is passed over
 abbrev pub leftOut : List ℕ → ℕ → ℕ → Bool
 leftOut a skip x = eqb (getD a x 0) skip
 
+-- the place of the first octet from i on that is not passed over, or e
 abbrev pub keptFrom : List ℕ → ℕ → List ℕ → ℕ → ℕ → ℕ
 keptFrom a skip t i e = frontEnd (leftOut a skip) t i e
 
@@ -30,9 +32,11 @@ abbrev pub without : (ℕ → Bool) → List ℕ → List ℕ
 without f [] = []
 without f (x ∷ xs) = cond (f x) (without f xs) (x ∷ without f xs)
 
+-- the digits of a text, what is passed over left out
 abbrev pub digitsBy : List ℕ → ℕ → ℕ → List ℕ → Option (List ℕ)
 digitsBy a skip base s = eachOf (charValue a base) (without (leftOut a skip) s)
 
+-- the octets of those digits
 abbrev pub octetsBy : List ℕ → ℕ → ℕ → ℕ → List ℕ → Option (List ℕ)
 octetsBy a skip w base s = digitsBy a skip base s >>= fromDigits w
 
@@ -46,7 +50,7 @@ pub record Grouping (w base k g : ℕ) : Type 0 where
   pub less : g ≤ k
   pub whole : w * k ≡ 8 * g
 
--- the octet at j is no digit and is not left out
+-- the octet x is no digit and is not left out
 pub record Stops (a : List ℕ) (skip base x : ℕ) : Type 0 where
   pub kept : leftOut a skip x ≡ false
   pub high : base ≤ getD a x 0
@@ -87,6 +91,7 @@ abbrev pub numbered : (ℕ → ℕ) → ℕ → ℕ → List ℕ
 numbered f x zero = []
 numbered f x (suc n) = f x ∷ numbered f (x + 1) n
 
+-- a number, or d where there is none
 abbrev pub orNumber : Option ℕ → ℕ → ℕ
 orNumber none d = d
 orNumber (some x) d = x
@@ -95,6 +100,7 @@ orNumber (some x) d = x
 abbrev pub letterNumber : ℕ → ℕ
 letterNumber x = cond (blank x) 64 (orNumber (digitValue 32 x) 99)
 
+-- the table of these for all octets
 unfoldable pub letters : List ℕ
 letters = numbered letterNumber 0 256
 
@@ -102,8 +108,10 @@ letters = numbered letterNumber 0 256
 abbrev pub base64Number : ℕ → ℕ
 base64Number x = cond (blank x) 64 (orNumber (base64Value x) 99)
 
+-- the table of these for all octets
 unfoldable pub base64Numbers : List ℕ
 base64Numbers = numbered base64Number 0 256
 
+-- the octets of digits in one token, after their count
 abbrev pub countedBy : ℕ → ℕ → List ℕ → Option (List ℕ)
 countedBy w base s = octetsBy letters 100 w base s >>= counted 1

@@ -21,6 +21,7 @@ pub record Placed (s : List ℕ) (f : FieldDesc) : Type 0 where
   pub listed : (w : ℕ) (l : List Symbol) → kindIn s (f .«qualifiers_at») (f .«qualifiers_end») (f .form) ≡ int w l
       → symbolsIn w s (f .«qualifiers_at») (f .«qualifiers_end») ≡ some l
 
+-- what stands past the array's end
 abbrev pub noField : FieldDesc
 noField = record { form = Int 0; «qualifiers_at» = 0; «qualifiers_end» = 0; «text_at» = 0; «text_end» = 0 }
 

@@ -33,7 +33,7 @@ pub enum Form {
     Time,
 }
 
-// A field of a description: its form, and where its qualifiers and its free text lie.
+// A field of a description: its form, and where its qualifiers and, as the judge finds it, its free text lie.
 pub struct FieldDesc {
     pub form: Form,
     pub qualifiers_at: u16,
@@ -238,10 +238,10 @@ fn name_form(s: &[u8], a: usize, b: usize) -> Form
     requires { ⌜ (a ≤ b) × (b ≤ length (now s)) ⌝ }
     ensures { λ r. ⌜ r ≡ nameForm (now (s .entry)) a b ⌝ }
 {
-    let c = qualifiers::any(Test::IsWord(67), s, a, b);
-    let m = qualifiers::any(Test::IsWord(65), s, a, b);
-    let l = qualifiers::any(Test::IsWord(76), s, a, b);
-    let o = qualifiers::any(Test::IsWord(79), s, a, b);
+    let c = qualifiers::any(Test::IsWord(b'C'), s, a, b);
+    let m = qualifiers::any(Test::IsWord(b'A'), s, a, b);
+    let l = qualifiers::any(Test::IsWord(b'L'), s, a, b);
+    let o = qualifiers::any(Test::IsWord(b'O'), s, a, b);
     Form::Name(marks(c, m, l, o))
 }
 
@@ -255,8 +255,8 @@ fn made(s: &[u8], a: usize, b: usize, w: Words) -> Meant
         Words::OnR => Meant::Means(Form::Bitmap),
         Words::OnN => Meant::Means(name_form(s, a, b)),
         Words::OnS => {
-            let x = qualifiers::any(Test::IsWord(88), s, a, b);
-            if qualifiers::any(Test::IsWord(77), s, a, b) {
+            let x = qualifiers::any(Test::IsWord(b'X'), s, a, b);
+            if qualifiers::any(Test::IsWord(b'M'), s, a, b) {
                 if x {
                     return Meant::Forbidden;
                 }
@@ -275,16 +275,16 @@ fn made(s: &[u8], a: usize, b: usize, w: Words) -> Meant
 fn name_by_letter(x: u8) -> ByLetter
     ensures { λ r. ⌜ MadeBy OnN x r ⌝ }
 {
-    if x == 67 {
+    if x == b'C' {
         return ByLetter::Makes(Form::Name(1));
     }
-    if x == 65 {
+    if x == b'A' {
         return ByLetter::Makes(Form::Name(2));
     }
-    if x == 76 {
+    if x == b'L' {
         return ByLetter::Makes(Form::Name(4));
     }
-    if x == 79 {
+    if x == b'O' {
         return ByLetter::Makes(Form::Name(8));
     }
     ByLetter::Other
@@ -294,10 +294,10 @@ fn name_by_letter(x: u8) -> ByLetter
 fn string_by_letter(x: u8) -> ByLetter
     ensures { λ r. ⌜ MadeBy OnS x r ⌝ }
 {
-    if x == 77 {
+    if x == b'M' {
         return ByLetter::Makes(Form::Strs);
     }
-    if x == 88 {
+    if x == b'X' {
         return ByLetter::Makes(Form::Raw);
     }
     ByLetter::Other
@@ -310,7 +310,7 @@ fn kind_by_letter(w: Words, x: u8) -> ByLetter
     match w {
         Words::Nothing => ByLetter::Other,
         Words::OnR => {
-            if x == 76 {
+            if x == b'L' {
                 return ByLetter::Makes(Form::Bitmap);
             }
             ByLetter::Other
@@ -318,7 +318,7 @@ fn kind_by_letter(w: Words, x: u8) -> ByLetter
         Words::OnN => name_by_letter(x),
         Words::OnS => string_by_letter(x),
         Words::OnX => {
-            if x == 67 {
+            if x == b'C' {
                 return ByLetter::Makes(Form::Hexc);
             }
             ByLetter::Other
@@ -345,6 +345,7 @@ fn words_meant(s: &[u8], a: usize, b: usize, w: Words) -> Meant
     listed_meant(s, a, b, w)
 }
 
+// The same, by a test of all its qualifiers.
 fn listed_meant(s: &[u8], a: usize, b: usize, w: Words) -> Meant
     requires { ⌜ (a < b) × (b ≤ length (now s)) ⌝ }
     ensures { λ r. ⌜ meantIn (now (s .entry)) a b r ≡ meaningBy (allowed (listed w)) (now (s .entry)) a b ⌝ }
