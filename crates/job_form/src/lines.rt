@@ -2,7 +2,6 @@
 ghost use Prim.Native.Nat.{_+_, _≤_, _<_};
 ghost use lib.ListN.{length};
 ghost use Rattle.job_form.specs.Lines.{NextLine, Skips, Sections};
-use octets::Class;
 use octets::Number;
 
 // So many lines: they are too few, or the place after them.
@@ -22,7 +21,7 @@ pub fn line_end(j: &[u8], at: usize) -> usize
     requires { ⌜ at < length (now j) ⌝ }
     ensures { λ r. ⌜ NextLine (now (j .entry)) at r ⌝ }
 {
-    octets::skip(j, at, j.len(), Class::NotNewline)
+    octets::line_end(j, at)
 }
 
 // The n lines from a place on.
