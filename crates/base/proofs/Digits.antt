@@ -16,8 +16,8 @@ use Rattle.format.specs.Base.{bits, filled, toDigits}
 use Rattle.format.proofs.Digits.{digits-below, digits-length, number-digits, number-append}
 use Rattle.format.proofs.Base.{bits-below, bits-length, digits-many}
 use Rattle.octets.proofs.Slices.{next}
-use Rattle.put_digits.proofs.Hex.{flat-append}
-use Rattle.put_digits.proofs.Bits.{bits-after, regrouped}
+use Rattle.digits.proofs.Bits.{flat-append}
+use Rattle.digits.proofs.Bits.{bits-after, regrouped}
 
 -- the next octet of a number that is read from bits
 pub next-octet : (p : List ℕ) (v i j e k : ℕ) → i + j < e → e ≤ length p → getD p (i + j) 0 < 256 → numberFrom 2 v (bits 8 (slice (i + j) e p)) ≡ k

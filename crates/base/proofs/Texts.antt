@@ -15,8 +15,8 @@ use Rattle.format.proofs.Digits.{digits-length}
 use Rattle.format.proofs.Base.{digits-of}
 use Rattle.octets.proofs.Slices.{none, lent}
 use Rattle.octets.proofs.Blocks.{slice-append}
-use Rattle.writing.specs.Writing.{Wrote}
-use Rattle.writing.proofs.Laws.{sets-cons, wrote-text, wrote-append, wrote-length, wrote-out}
+use Rattle.buffer.specs.Writing.{Wrote}
+use Rattle.buffer.proofs.Laws.{sets-cons, wrote-text, wrote-append, wrote-length, wrote-out}
 use Rattle.base.specs.Alphabet.{chars, Grouped}
 use Rattle.base.proofs.Digits.{no-digits, whole-digits, digits-append, digit-count, short-digits}
 

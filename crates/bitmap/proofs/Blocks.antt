@@ -16,7 +16,7 @@ use Rattle.format.proofs.Wire.{at-end}
 use Rattle.format.proofs.Text.{went-on}
 use Rattle.format.proofs.Bitmap.{set-short}
 use Rattle.octets.proofs.Slices.{next, none, rest}
-use Rattle.print.proofs.Numbers.{next-two}
+use Rattle.octets.proofs.Integers.{next-two}
 use Rattle.bitmap.specs.Types.{typesText}
 use Rattle.bitmap.proofs.Texts.{types-length}
 

@@ -18,9 +18,9 @@ use Rattle.format.proofs.Finite.{at-each}
 use Rattle.format.proofs.Digits.{digits-length}
 use Rattle.format.proofs.Number.{decimal-10}
 use Rattle.format.proofs.Bitmap.{set-short}
-use Rattle.writing.specs.Writing.{Wrote}
-use Rattle.writing.proofs.Laws.{Left, left-all, left-piece, left-none}
-use Rattle.print.proofs.Parted.{first-later}
+use Rattle.buffer.specs.Writing.{Wrote}
+use Rattle.buffer.proofs.Laws.{Left, left-all, left-piece, left-none}
+use Rattle.buffer.proofs.Parted.{first-later}
 use Rattle.bitmap.specs.Types.{typesText}
 
 -- no types have no text, and one has some

@@ -7,8 +7,8 @@ use borrow.Author.Tests.{eq-eqb, ne-eqb}
 use Rattle.format.specs.Judge.{rejected, described, judged}
 use Rattle.format.specs.Entries.{judge}
 use Rattle.format.proofs.Judge.{judges}
-use Rattle.stanza.specs.declared.Outline.{Outline}
-use Rattle.stanza.specs.Stanza.{Outlined}
+use Rattle.stanza_judge.specs.declared.Outline.{Outline}
+use Rattle.stanza_judge.specs.Stanza.{Outlined}
 
 module _ {s codes : List ℕ} {o : Outline} (q : Outlined s codes o) where
   pub accepted : o .number ≡ 0 → judged s ≡ described (q .found)

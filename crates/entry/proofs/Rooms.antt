@@ -7,9 +7,9 @@ use native.Mathlib.Nat.{add-zero}
 use lib.ListN.{length, take, drop, take-append-drop}
 use lib.Seq.{sets, sets-eq}
 use borrow.Author.Tests.{le-leb, lt-leb}
-use Rattle.format.specs.Entries.{Answer, done, refusal, stored, room}
-use Rattle.writing.specs.Writing.{Wrote}
-use Rattle.writing.proofs.Laws.{part-wrote}
+use Rattle.format.specs.Entries.{Answer, done, refusal, stored}
+use Rattle.buffer.specs.Writing.{Wrote}
+use Rattle.buffer.proofs.Laws.{part-wrote}
 use Rattle.entry.specs.declared.Reply.{Reply}
 use Rattle.entry.specs.Entries.{Leaves, withRoom}
 

@@ -17,7 +17,7 @@ pub fn judge(s: &[u8]) -> Reply
     ensures { λ r. ⌜ Replies r (Entries.judge (now (s .entry))) ⌝ }
 {
     let mut codes = [0u64; 64];
-    let o = stanza::judged_outline(s, &mut codes);
+    let o = stanza_judge::judged_outline(s, &mut codes);
     let n = o.number;
     if n == 0 {
         return Reply {

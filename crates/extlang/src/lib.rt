@@ -23,7 +23,7 @@ pub extern "C" fn extlang_print(
 ) -> u64
     ensures { λ r. ⌜ Packs r (now (out .exit)) (Entries.print (now (s .entry)) first many (now (p .entry)) (now (out .entry)) at) ⌝ }
 {
-    let r = print_entry::print(s, first as usize, many as usize, p, out, at as usize);
+    let r = entry_print::print(s, first as usize, many as usize, p, out, at as usize);
     entry::packed(r)
 }
 
@@ -40,6 +40,6 @@ pub extern "C" fn extlang_read(
     ensures { λ r. ⌜ Packs r (now (out .exit)) (Entries.read (now (s .entry)) first many (now (origin .entry)) (now (t .entry)) (now (out .entry)) at) ⌝ }
 {
     let place = at as usize;
-    let r = read_entry::read(s, first as usize, many as usize, origin, t, out, place);
+    let r = entry_read::read(s, first as usize, many as usize, origin, t, out, place);
     entry::packed(r)
 }

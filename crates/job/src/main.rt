@@ -19,11 +19,11 @@ fn write(out: &[u8], n: usize) -> bool
 
 // Writes turn after turn, unless a write fails.
 fn answer(j: &[u8], out: &mut [u8; ROOM]) {
-    let job = jobs::begin(j);
+    let job = job_turns::begin(j);
     let mut at = job.places.records;
     let mut more = true;
     while more {
-        let turn = jobs::next(out, j, job, at);
+        let turn = job_turns::next(out, j, job, at);
         if write(out, turn.taken) {
             more = turn.more;
             at = turn.at;

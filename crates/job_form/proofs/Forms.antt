@@ -14,9 +14,9 @@ use Rattle.format.specs.Octets.{ascii, sameOctets}
 use Rattle.format.specs.Token.{Token, bare, quoted, broken, tokens, Item, octetOf, unescaped}
 use Rattle.format.specs.Name.{isDot, wireName, nameOf}
 use Rattle.format.specs.Job.{Section, section, ended, originToken, originOf, Job, jobOf, maxJob, written, job}
-use Rattle.writing.specs.Writing.{Wrote, Values}
-use Rattle.writing.specs.declared.Value.{Value}
-use Rattle.writing.specs.declared.Value.the-variants.{Fault, Upto}
+use Rattle.buffer.specs.Writing.{Wrote, Values}
+use Rattle.buffer.specs.declared.Value.{Value}
+use Rattle.buffer.specs.declared.Value.the-variants.{Fault, Upto}
 use Rattle.job_form.specs.declared.lines.Section.{Section as Cut}
 use Rattle.job_form.specs.declared.lines.Section.the-variants.{Bad as NoSection, Lines}
 use Rattle.job_form.specs.declared.form.Last.{Last}

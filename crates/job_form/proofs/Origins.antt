@@ -17,9 +17,9 @@ use Rattle.format.specs.Text.{withCount}
 use Rattle.format.specs.Name.{isDot, labelBefore, wireName, nameOf, readName, isWireName}
 use Rattle.format.specs.Job.{originToken, originOf}
 use Rattle.format.proofs.Lists.{same-octets, octets-same}
-use Rattle.writing.specs.Writing.{Values}
-use Rattle.writing.specs.declared.Value.{Value}
-use Rattle.writing.specs.declared.Value.the-variants.{Fault, Upto}
+use Rattle.buffer.specs.Writing.{Values}
+use Rattle.buffer.specs.declared.Value.{Value}
+use Rattle.buffer.specs.declared.Value.the-variants.{Fault, Upto}
 use Rattle.octets.proofs.Slices.{lent}
 use Rattle.tokens.specs.Tokens.{tokensBy, Within}
 use Rattle.tokens.specs.declared.Next.{Next}

@@ -9,7 +9,7 @@ use lib.ListN.{length, take}
 use lib.Seq.{slice}
 use Rattle.format.specs.Lists.{_>>=_, provided, null}
 use Rattle.format.specs.Job.{section, originOf, Job, jobOf, maxJob}
-use Rattle.writing.specs.Writing.{Wrote}
+use Rattle.buffer.specs.Writing.{Wrote}
 use Rattle.job_form.specs.Lines.{linesAt}
 use Rattle.job_form.specs.declared.form.Last.{Last}
 use Rattle.job_form.specs.declared.form.Last.the-variants.{NoLast, From}

@@ -1,8 +1,8 @@
 -- Values that end alike.
 use mathlib.Core.Bool.{cond}
 use lib.Dec.{eqb}
-use Rattle.writing.specs.declared.Value.{Value}
-use Rattle.writing.specs.declared.Value.the-variants.{Fault, Upto}
+use Rattle.buffer.specs.declared.Value.{Value}
+use Rattle.buffer.specs.declared.Value.the-variants.{Fault, Upto}
 
 abbrev pub sameEnd : Value → Value → Value
 sameEnd Fault y = Fault

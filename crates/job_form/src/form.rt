@@ -5,7 +5,7 @@ ghost use Rattle.job_form.specs.Form.{Lasts, Rests, Forms};
 use crate::lines::Section;
 use crate::lines::read_section;
 use crate::origin::read_origin;
-use writing::Value;
+use buffer::Value;
 
 // Where a job's stanza stands, how many octets of the lent buffer its origin takes, and where its records begin.
 pub struct Places {

@@ -6,12 +6,12 @@ ghost use lib.ListN.{length, take};
 ghost use Rattle.format.specs.Token.{tokens};
 ghost use Rattle.format.specs.Name.{nameOf};
 ghost use Rattle.format.specs.Job.{originToken, originOf};
-ghost use Rattle.writing.specs.Writing.{Values};
+ghost use Rattle.buffer.specs.Writing.{Values};
 ghost use Rattle.job_form.specs.Lines.{linesAt};
 ghost use Rattle.job_form.specs.Origin.{sameEnd};
 use crate::lines::line_end;
+use buffer::Value;
 use tokens::Next;
-use writing::Value;
 
 // The end of two values that end alike.
 fn same_end(x: Value, y: Value) -> Value
@@ -37,8 +37,8 @@ fn absolute_name(out: &mut [u8], t: &[u8]) -> Value
     ensures { λ r. ⌜ Values (now (out .entry)) (now (out .exit)) 0 r (nameOf none (now (t .entry))) ⌝ }
 {
     let mut unused = [0u8; 1];
-    let x = read_name::name(&mut unused, 0, t, 0, t.len(), b"\x01a\x00");
-    let y = read_name::name(out, 0, t, 0, t.len(), b"\x00");
+    let x = name::read::name(&mut unused, 0, t, 0, t.len(), b"\x01a\x00");
+    let y = name::read::name(out, 0, t, 0, t.len(), b"\x00");
     same_end(x, y)
 }
 

@@ -4,11 +4,11 @@ ghost use mathlib.Core.Option.{none};
 ghost use lib.ListN.{length};
 ghost use Rattle.format.specs.Entries.{done, refusal};
 ghost use Rattle.format.specs.Job.{answerLine, written};
-ghost use Rattle.writing.specs.Writing.{Wrote};
-use put_digits::put_decimal;
-use put_digits::put_hex_upper;
-use writing::put_all;
-use writing::put_octet;
+ghost use Rattle.buffer.specs.Writing.{Wrote};
+use base::print::put_hex_upper;
+use buffer::put_all;
+use buffer::put_octet;
+use digits::put_decimal;
 
 // `ok`, then the octets in hex if there are any.
 pub fn put_ok(out: &mut [u8], n: usize, rdata: &[u8]) -> usize

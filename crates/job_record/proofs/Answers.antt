@@ -12,12 +12,12 @@ use Rattle.format.specs.Judge.{judged}
 use Rattle.format.specs.Entries.{Answer, done, refusal, reading, ifRoom, room, outcome, stored, read}
 use Rattle.format.specs.Job.{answerLine, fieldCount}
 use Rattle.job_line.proofs.Answers.{Short, reading-short}
-use Rattle.stanza.specs.declared.Outline.{Outline}
-use Rattle.stanza.specs.Stanza.{Outlined}
+use Rattle.stanza_judge.specs.declared.Outline.{Outline}
+use Rattle.stanza_judge.specs.Stanza.{Outlined}
 use Rattle.entry.proofs.Laws.{accepted}
 use Rattle.entry.specs.declared.Reply.{Reply}
 use Rattle.entry.specs.Entries.{Leaves}
-use Rattle.read_entry.proofs.Readings.{read-rejected}
+use Rattle.entry_read.proofs.Readings.{read-rejected}
 use Rattle.entry.proofs.Numbers.{read-told, zero-done}
 use Rattle.job_record.specs.Answer.{lineUnder}
 

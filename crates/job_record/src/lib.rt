@@ -1,12 +1,12 @@
 // The line that answers a record of a job, whose stanza is judged once for all its records.
 ghost use Prim.Native.Nat.{_^_, _≤_, _<_};
 ghost use lib.ListN.{length};
-ghost use Rattle.stanza.specs.Stanza.{Outlined};
-ghost use Rattle.writing.specs.Writing.{Wrote};
+ghost use Rattle.stanza_judge.specs.Stanza.{Outlined};
+ghost use Rattle.buffer.specs.Writing.{Wrote};
 ghost use Rattle.job_record.specs.Answer.{lineUnder};
 use job_line::put_no;
 use job_line::put_ok;
-use stanza::Outline;
+use stanza_judge::Outline;
 
 // The line that answers a record under a judged stanza. Its RDATA is read into a buffer that has room for any.
 pub fn put_record(
@@ -22,7 +22,7 @@ pub fn put_record(
     requires { ⌜ (n < 2 ^ 31) × Outlined (now s) (now codes) o × (length (now t) ≤ 1048576) × (65535 ≤ length (now rdata)) ⌝ }
     ensures { λ r. ⌜ Wrote (now (out .entry)) (now (out .exit)) n r (lineUnder (now (s .entry)) (now (origin .entry)) (now (t .entry))) ⌝ }
 {
-    let r = read_entry::read_judged(s, o, codes, 1, o.count, origin, t, rdata, 0);
+    let r = entry_read::read_judged(s, o, codes, 1, o.count, origin, t, rdata, 0);
     let number = r.number;
     let place = r.place;
     if number == 0 {

@@ -3,3 +3,5 @@ pub mod Numbers
 pub mod Blocks
 pub mod Letters
 pub mod Lines
+pub mod Integers
+pub mod Pieces

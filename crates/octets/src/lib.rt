@@ -1,4 +1,6 @@
 // Octets in a slice: their classes, the longest run of one, and decimal numbers.
+pub mod integer;
+
 ghost use Prim.Native.Nat.{_+_, _-_, _≤_};
 ghost use lib.ListN.{length};
 ghost use lib.Seq.{slice};

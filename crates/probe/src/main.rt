@@ -11,10 +11,10 @@
 // that is no request, or has more than 2,200,000 octets, answers '?'. The last line may lack its LF.
 ghost use Prim.Native.Nat.{_+_, _≤_};
 ghost use lib.ListN.{length};
-ghost use Rattle.request.specs.Words.{Within};
+ghost use Rattle.probe_request.specs.Words.{Within};
 use libc::STDIN_FILENO;
 use libc::STDOUT_FILENO;
-use request::Request;
+use probe_request::Request;
 
 // The most that one read takes.
 const PIECE: usize = 65536;
@@ -51,7 +51,7 @@ fn write(out: &[u8], n: usize) -> bool
 fn write_octets(lines: &[u8], n: usize, out: &mut [u8; ROOM]) -> bool
     requires { ⌜ (n ≤ length (now lines)) × (length (now lines) ≤ 1048576) ⌝ }
 {
-    let end = reply_line::put_octets(out, 0, &lines[0..n]);
+    let end = probe_line::put_octets(out, 0, &lines[0..n]);
     write(out, end)
 }
 
@@ -59,11 +59,11 @@ fn write_octets(lines: &[u8], n: usize, out: &mut [u8; ROOM]) -> bool
 fn write_turns(j: &[u8], lines: &mut [u8], out: &mut [u8; ROOM]) -> bool
     requires { ⌜ (131074 ≤ length (now lines)) × (length (now lines) ≤ 1048576) ⌝ }
 {
-    let job = jobs::begin(j);
+    let job = job_turns::begin(j);
     let mut at = job.places.records;
     let mut more = true;
     while more {
-        let turn = jobs::next(lines, j, job, at);
+        let turn = job_turns::next(lines, j, job, at);
         if write_octets(lines, turn.taken, out) {
             more = turn.more;
             at = turn.at;
@@ -80,7 +80,7 @@ fn write_job(octets: &[u8], q: Request, text: &mut [u8], out: &mut [u8; ROOM]) -
 {
     let a = q.stanza.from;
     let b = q.stanza.to;
-    let n = writing::least(LINES, text.len());
+    let n = buffer::least(LINES, text.len());
     if write_turns(&octets[a..b], &mut text[0..n], out) {
         return io::write_all(STDOUT_FILENO, b"\n");
     }
@@ -94,11 +94,11 @@ fn answer(
     text: &mut [u8; TEXT],
     out: &mut [u8; ROOM],
 ) -> bool {
-    let q = request::read(line, octets);
+    let q = probe_request::read(line, octets);
     if q.letter == b'W' {
         return write_job(octets, q, text, out);
     }
-    let n = reply::put_answer(octets, q, text, out);
+    let n = probe_reply::put_answer(octets, q, text, out);
     write(out, n)
 }
 
@@ -114,11 +114,11 @@ fn answer_lines(
     ensures { λ r. ⌜ r .kept ≤ 2200001 ⌝ }
 {
     let mut start = 0;
-    let mut end = request::line_end(buf, kept);
+    let mut end = probe_request::line_end(buf, kept);
     while end < buf.len() {
         if answer(&buf[start..end], octets, text, out) {
             start = end + 1;
-            end = request::line_end(buf, start);
+            end = probe_request::line_end(buf, start);
         } else {
             return State {
                 kept: 0,
@@ -127,7 +127,7 @@ fn answer_lines(
         }
     }
     State {
-        kept: request::keep(buf, start),
+        kept: probe_request::keep(buf, start),
         going: true,
     }
 }

@@ -5,7 +5,7 @@ use Rattle.entry.proofs.judge.Statement.{statement}
 use Rattle.entry.proofs.judge.Tie as tie
 use Rattle.entry.proofs.judge.Reads as reads
 use Rattle.entry.proofs.judge.Lts as lts
-use Rattle.stanza.proofs.judged_outline.Reads as judged-outline-reads
+use Rattle.stanza_judge.proofs.judged_outline.Reads as judged-outline-reads
 
 judged-outline-requires : tie.Need-judged-outline-requires
 judged-outline-requires c κs = search needs

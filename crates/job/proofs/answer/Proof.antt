@@ -1,5 +1,5 @@
 -- `job::answer` ends: each turn but the last goes on to a later record.
-use Rattle.jobs.proofs.Turns.{turn-kept, turnsLeft, turn-less}
+use Rattle.job_turns.proofs.Turns.{turn-kept, turnsLeft, turn-less}
 use native.Mathlib.Omega.{arith}
 use borrow.Author.Needs.{needs}
 use Rattle.job.proofs.answer.Statement.{statement}

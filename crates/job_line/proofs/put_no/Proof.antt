@@ -1,6 +1,6 @@
 use Prim.Native.Nat.{_^_, _<_}
 use Rattle.format.proofs.Number.{decimal-10}
-use Rattle.writing.proofs.Laws.{wrote-append}
+use Rattle.buffer.proofs.Laws.{wrote-append}
 use native.Mathlib.Omega.{arith}
 use borrow.Author.Needs.{needs}
 use Rattle.job_line.proofs.put_no.Statement.{statement}

@@ -1,5 +1,5 @@
 use Rattle.format.proofs.Hex.{hex-length}
-use Rattle.writing.proofs.Laws.{wrote-text, wrote-append}
+use Rattle.buffer.proofs.Laws.{wrote-text, wrote-append}
 use Rattle.job_line.proofs.Answers.{ok-alone, ok-octets}
 use native.Mathlib.Omega.{arith}
 use borrow.Author.Needs.{needs}

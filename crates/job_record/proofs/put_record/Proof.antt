@@ -1,4 +1,4 @@
-use Rattle.writing.proofs.Laws.{wrote-text}
+use Rattle.buffer.proofs.Laws.{wrote-text}
 use Rattle.job_record.proofs.Answers.{record-place, record-done, record-refused}
 use native.Mathlib.Omega.{arith}
 use borrow.Author.Needs.{needs}

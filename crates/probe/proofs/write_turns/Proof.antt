@@ -1,7 +1,7 @@
 -- `probe::write_turns` ends: each turn but the last goes on to a later record.
 use mathlib.Core.Path.{_≡_, refl, _∙_}
 use lib.ListN.{length}
-use Rattle.jobs.proofs.Turns.{turn-kept, turnsLeft, turn-less}
+use Rattle.job_turns.proofs.Turns.{turn-kept, turnsLeft, turn-less}
 use native.Mathlib.Omega.{arith}
 use borrow.Author.Needs.{needs}
 use Rattle.probe.proofs.write_turns.Statement.{statement}

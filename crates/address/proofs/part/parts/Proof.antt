@@ -1,0 +1,108 @@
+use Prim.Native.Nat.{ℕ, _+_, _*_, _≤_}
+use mathlib.Core.Path.{_≡_, refl}
+use mathlib.Core.Bool.{Bool, true, false, cond}
+use mathlib.Core.List.{List}
+use mathlib.Core.Option.{Option, none}
+use lib.Dec.{eqb}
+use lib.ListN.{length}
+use lib.Seq.{slice}
+use borrow.Author.Tests.{eqb-true, eqb-false}
+use Rattle.buffer.specs.Writing.{Values}
+use Rattle.buffer.specs.declared.Value.{Value}
+use Rattle.buffer.specs.declared.Value.the-variants.{Fault, Upto}
+use Rattle.address.specs.Part.{pieceOf, partsBy}
+use Rattle.buffer.proofs.Values.{Begun, begun-none}
+use Rattle.address.proofs.Parts.{within, step-fault, step-count, step-on, step-last, step-few, step-many}
+use native.Mathlib.Omega.{arith}
+use borrow.Author.Needs.{needs}
+use Rattle.address.proofs.part.parts.Statement.{statement}
+use Rattle.address.proofs.part.parts.Tie as tie
+
+-- the value by how many parts were wanted
+by-count : (k r : ℕ) (v : Value) {o₀ o : List ℕ} {n : ℕ} {all : Option (List ℕ)} → v ≡ cond (eqb k 1) (Upto r) Fault → (k ≡ 1 → Values o₀ o n (Upto r) all) → ((k ≡ 1 → ⊥) → all ≡ none) → Values o₀ o n v all
+by-count k r v {o₀} {o} {n} {all} q f g = by (eqb k 1) refl q
+  where
+    by : (b : Bool) → eqb k 1 ≡ b → v ≡ cond b (Upto r) Fault → Values o₀ o n v all
+    by true m e = rw e (f (eqb-true k 1 m))
+    by false m e = rw e (g (eqb-false k 1 m))
+
+abbrev Inv-loop : tie.InvT-loop
+Inv-loop out₀ n f w t i e c m₀ j₀ k₀ out m j k = (j ≤ e) × (k ≤ w) × (n ≤ m) × (m + 2 * k ≤ n + 2 * w) × (length out ≡ length out₀) × Begun out₀ out n m (partsBy c (pieceOf f) w (slice i e t)) (partsBy c (pieceOf f) k (slice j e t))
+
+abbrev μ-loop : tie.MeasureT-loop
+μ-loop out₀ n f w t i e c m₀ j₀ k₀ out m j k = k
+
+mark-requires : tie.Need-mark-requires Inv-loop μ-loop
+mark-requires c κs = search needs
+
+loop-holds : tie.Need-loop-holds Inv-loop μ-loop
+loop-holds c = (search needs, search needs, search needs, search needs, search needs, begun-none _ _ _)
+
+part-end-requires : tie.Need-part-end-requires Inv-loop μ-loop
+part-end-requires c κs = search needs
+
+piece-requires : tie.Need-piece-requires Inv-loop μ-loop
+piece-requires c κs = let v = within _ (c .before .before .before .before .before .before .before .args .t .now) _ _ _ (c .before .before .before .loop .inv .0) (c .before .before .before .before .before .before .before .pre .3) (c .before .part-end .ensures) in (omega (arith, c .before .before .before .loop .inv .3, c .before .before .before .before .before .before .before .pre .0, c .before .before .before .before .before .before .before .pre .1), v .0, omega (arith, v, c .before .before .before .before .before .before .before .pre .3))
+
+enum-told : tie.Need-enum-told Inv-loop μ-loop
+enum-told c = search needs
+
+same-length : tie.Need-same-length Inv-loop μ-loop
+same-length c = search needs
+
+returns : tie.Need-returns Inv-loop μ-loop
+returns c = rw (← (c .before .before .before .before .before .before .before .before .before .mark .ensures)) (step-fault (c .before .before .before .before .before .before .before .before .before .before .before .before .args .f) _ _ (c .before .before .before .before .before .before .before .before .before .before .before .before .args .t .now) _ _ _ (c .before .before .before .before .before .before .before .before .loop .inv .0) (c .before .before .before .before .before .before .before .before .before .before .before .before .pre .3) (c .before .before .before .before .before .before .part-end .ensures) (c .before .before .before .before .before .before .before .before .loop .inv .5) _ _ (c .before .before .before .before .piece .ensures) (c .enum-told .given .1))
+
+enum-known-x : tie.Need-enum-known-x Inv-loop μ-loop
+enum-known-x c = search needs
+
+ended-requires : tie.Need-ended-requires Inv-loop μ-loop
+ended-requires c κs = search needs
+
+same-length-2 : tie.Need-same-length-2 Inv-loop μ-loop
+same-length-2 c = search needs
+
+returns-2 : tie.Need-returns-2 Inv-loop μ-loop
+returns-2 c = rw (← (c .before .before .before .before .before .before .before .before .before .before .before .before .mark .ensures)) (by-count _ _ _ (c .ended .ensures) (λ g. step-last (c .before .before .before .before .before .before .before .before .before .before .before .before .before .before .before .args .f) _ _ (c .before .before .before .before .before .before .before .before .before .before .before .before .before .before .before .args .t .now) _ _ _ (c .before .before .before .before .before .before .before .before .before .before .before .loop .inv .0) (c .before .before .before .before .before .before .before .before .before .before .before .before .before .before .before .pre .3) (c .before .before .before .before .before .before .before .before .before .part-end .ensures) (c .before .before .before .before .before .before .before .before .before .before .before .loop .inv .5) _ _ (c .before .before .before .before .before .before .before .piece .ensures) _ (c .before .before .before .x .given .1) g (c .before .if1 .taken)) (λ g. step-few (c .before .before .before .before .before .before .before .before .before .before .before .before .before .before .before .args .f) _ _ (c .before .before .before .before .before .before .before .before .before .before .before .before .before .before .before .args .t .now) _ _ _ (c .before .before .before .before .before .before .before .before .before .before .before .loop .inv .0) (c .before .before .before .before .before .before .before .before .before .before .before .before .before .before .before .pre .3) (c .before .before .before .before .before .before .before .before .before .part-end .ensures) (c .before .before .before .before .before .before .before .before .before .before .before .loop .inv .5) _ _ (c .before .before .before .before .before .before .before .piece .ensures) _ (c .before .before .before .x .given .1) g (c .before .if1 .taken)))
+
+add-j : tie.Need-add-j Inv-loop μ-loop
+add-j c = search needs
+
+sub-k : tie.Need-sub-k Inv-loop μ-loop
+sub-k c = search needs
+
+loop-less : tie.Need-loop-less Inv-loop μ-loop
+loop-less c = search needs
+
+loop-again : tie.Need-loop-again Inv-loop μ-loop
+loop-again c = let v = step-count (c .before .before .before .before .before .before .before .before .before .before .before .before .before .before .args .f) _ _ (c .before .before .before .before .before .before .before .before .before .before .before .before .before .before .args .t .now) _ _ _ (c .before .before .before .before .before .before .before .before .before .before .loop .inv .0) (c .before .before .before .before .before .before .before .before .before .before .before .before .before .before .pre .3) (c .before .before .before .before .before .before .before .before .part-end .ensures) (c .before .before .before .before .before .before .before .before .before .before .loop .inv .5) _ _ (c .before .before .before .before .before .before .piece .ensures) _ (c .before .before .x .given .1) in (omega (arith, c .if1 .left), omega (arith, c .before .before .before .before .before .before .before .before .before .before .loop .inv .1), omega (arith, v, c .before .before .before .before .before .before .before .before .before .before .loop .inv .2), omega (arith, v, c .before .before .before .before .before .before .before .before .before .before .loop .inv .3, c .before .before .before .before .before .before .before .before .before .loop-test .taken), search needs, step-on (c .before .before .before .before .before .before .before .before .before .before .before .before .before .before .args .f) _ _ (c .before .before .before .before .before .before .before .before .before .before .before .before .before .before .args .t .now) _ _ _ (c .before .before .before .before .before .before .before .before .before .before .loop .inv .0) (c .before .before .before .before .before .before .before .before .before .before .before .before .before .before .pre .3) (c .before .before .before .before .before .before .before .before .part-end .ensures) (c .before .before .before .before .before .before .before .before .before .before .loop .inv .5) _ _ (c .before .before .before .before .before .before .piece .ensures) _ (c .before .before .x .given .1) (c .before .before .before .before .before .before .before .before .before .loop-test .taken) (c .if1 .left))
+
+same-length-3 : tie.Need-same-length-3 Inv-loop μ-loop
+same-length-3 c = search needs
+
+returns-3 : tie.Need-returns-3 Inv-loop μ-loop
+returns-3 c = rw (← (c .before .before .mark .ensures)) (step-many (c .before .before .before .before .before .args .f) _ _ (slice (c .before .loop .j) (c .before .before .before .before .before .args .e) (c .before .before .before .before .before .args .t .now)) (c .loop-test .left) (c .before .loop .inv .5))
+
+pub parts-spec : {M : Type 1} → statement M
+parts-spec =
+    tie.close
+    (tie.spec
+    Inv-loop
+    μ-loop
+    mark-requires
+    loop-holds
+    part-end-requires
+    piece-requires
+    enum-told
+    same-length
+    returns
+    enum-known-x
+    ended-requires
+    same-length-2
+    returns-2
+    add-j
+    sub-k
+    loop-less
+    loop-again
+    same-length-3
+    returns-3)

@@ -1,0 +1,86 @@
+use Prim.Native.Nat.{ℕ, _+_, _-_, _*_, _%_, _≤_, _<_}
+use mathlib.Core.Path.{_≡_, ap, sym}
+use mathlib.Core.List.{List, [], _∷_}
+use lib.Seq.{slice}
+use Rattle.format.specs.Address.{colons, groupText}
+use Rattle.format.specs.Address as address
+use Rattle.octets.proofs.Slices.{none}
+use Rattle.buffer.proofs.Laws.{Left, left-all, left-none, wrote-none, wrote-text}
+use Rattle.address.proofs.GroupTexts.{next-group, group-short}
+use Rattle.buffer.proofs.Parted.{later, wrote-parted, went-on}
+use native.Mathlib.Omega.{arith}
+use borrow.Author.Needs.{needs}
+use Rattle.address.proofs.print.groups.Statement.{statement}
+use Rattle.address.proofs.print.groups.Tie as tie
+
+-- the text of octets, and of those that are left
+abbrev text : List ℕ → List ℕ
+text xs = colons (address.groups xs)
+
+abbrev rest : List ℕ → List ℕ
+rest xs = later (58 ∷ []) groupText (address.groups xs)
+
+abbrev Inv-loop : tie.InvT-loop
+Inv-loop out₀ n p i e m₀ j₀ out m j = (i < j) × (j ≤ e) × ((e - j) % 2 ≡ 0) × (m ≤ n + 5 * (j - i)) × Left out₀ m₀ (later (58 ∷ []) groupText (address.groups (slice (i + 2) e p))) out m (later (58 ∷ []) groupText (address.groups (slice j e p)))
+
+abbrev μ-loop : tie.MeasureT-loop
+μ-loop out₀ n p i e m₀ j₀ out m j = e - j
+
+returns : tie.Need-returns Inv-loop μ-loop
+returns c = wrote-text [] _ (sym (ap text (none (c .before .before .before .args .p .now) (c .before .before .before .args .i) (c .before .before .before .args .e) (c .if1 .taken)))) (wrote-none _ _)
+
+two-requires : tie.Need-two-requires Inv-loop μ-loop
+two-requires c κs = omega arith
+
+group-requires : tie.Need-group-requires Inv-loop μ-loop
+group-requires c κs = search needs
+
+add-j : tie.Need-add-j Inv-loop μ-loop
+add-j c = search needs
+
+loop-holds : tie.Need-loop-holds Inv-loop μ-loop
+loop-holds c = (search needs, search needs, omega arith, omega (arith, c .before .before .group .ensures .count, group-short (c .before .before .before .two .result)), left-all _ _ _)
+
+put-octet-requires : tie.Need-put-octet-requires Inv-loop μ-loop
+put-octet-requires c κs = search needs
+
+two-requires-2 : tie.Need-two-requires-2 Inv-loop μ-loop
+two-requires-2 c κs = omega arith
+
+group-requires-2 : tie.Need-group-requires-2 Inv-loop μ-loop
+group-requires-2 c κs = omega (arith, c .before .before .before .before .put-octet .ensures .count, c .two2 .ensures .1)
+
+add-j-2 : tie.Need-add-j-2 Inv-loop μ-loop
+add-j-2 c = search needs
+
+loop-less : tie.Need-loop-less Inv-loop μ-loop
+loop-less c = search needs
+
+loop-again : tie.Need-loop-again Inv-loop μ-loop
+loop-again c = (search needs, search needs, omega arith, omega (arith, c .before .before .before .before .before .before .before .put-octet .ensures .count, c .before .before .group2 .ensures .count, group-short (c .before .before .before .two2 .result)), went-on (58 ∷ []) groupText _ _ _ (next-group (c .before .before .before .before .before .before .before .before .before .before .before .before .before .before .before .before .before .before .before .args .p .now) (c .before .before .before .before .before .before .before .before .before .before .loop .j) (c .before .before .before .before .before .before .before .before .before .before .before .before .before .before .before .before .before .before .before .args .e) _ (omega arith) (c .before .before .before .before .before .before .before .before .before .before .before .before .before .before .before .before .before .before .before .pre .2) (c .before .before .before .two2 .ensures .0)) (c .before .before .before .before .before .before .before .before .before .before .loop .inv .4) (c .before .before .before .before .before .before .before .put-octet .ensures) (c .before .before .group2 .ensures))
+
+same-length : tie.Need-same-length Inv-loop μ-loop
+same-length c = search needs
+
+returns-2 : tie.Need-returns-2 Inv-loop μ-loop
+returns-2 c = wrote-parted (58 ∷ []) groupText _ _ _ (next-group (c .before .before .before .before .before .before .before .before .before .before .args .p .now) (c .before .before .before .before .before .before .before .before .before .before .args .i) (c .before .before .before .before .before .before .before .before .before .before .args .e) _ (omega arith) (c .before .before .before .before .before .before .before .before .before .before .pre .2) (c .before .before .before .before .before .two .ensures .0)) (c .before .before .before .before .group .ensures) (left-none (c .before .loop .inv .4) (ap rest (none (c .before .before .before .before .before .before .before .before .before .before .args .p .now) (c .before .loop .j) (c .before .before .before .before .before .before .before .before .before .before .args .e) (c .loop-test .left))))
+
+pub groups-spec : {M : Type 1} → statement M
+groups-spec =
+    tie.close
+    (tie.spec
+    Inv-loop
+    μ-loop
+    returns
+    two-requires
+    group-requires
+    add-j
+    loop-holds
+    put-octet-requires
+    two-requires-2
+    group-requires-2
+    add-j-2
+    loop-less
+    loop-again
+    same-length
+    returns-2)

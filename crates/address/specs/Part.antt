@@ -1,0 +1,79 @@
+-- The parts of an address.
+use Prim.Native.Nat.{ℕ, _-_}
+use Prim.Native.Char.{code}
+use mathlib.Core.Bool.{Bool, false, not, cond}
+use mathlib.Core.List.{List, [], _∷_}
+use mathlib.Core.Option.{Option, some}
+use lib.Dec.{ltb, eqb}
+use lib.ListN.{length}
+use Rattle.format.specs.Lists.{_>>=_, provided, eachOf, flat}
+use Rattle.format.specs.Octets.{splitOn}
+use Rattle.format.specs.Digits.{digits, number, digitValue}
+use Rattle.format.specs.Hex.{hexPair}
+use Rattle.format.specs.Address.{smallNumber, groupOf}
+use Rattle.octets.specs.Octets.{frontEnd}
+use Rattle.address.specs.declared.part.Form.{Form}
+use Rattle.address.specs.declared.part.Form.the-variants.{Pair, Small, Group}
+
+-- the value of a hex digit, or 16
+unfoldable pub hexOf : ℕ → ℕ
+hexOf b =
+    cond (ltb b 48) 16 (cond (ltb b 58) (b - 48)
+    (cond (ltb b 65) 16 (cond (ltb b 71) (b - 55)
+    (cond (ltb b 97) 16 (cond (ltb b 103) (b - 87) 16)))))
+
+-- a number in hex digits
+abbrev pub hexNumber : List ℕ → Option ℕ
+hexNumber t = eachOf (digitValue 16) t >>= λ ds. some (number 16 ds)
+
+-- a zero stands before another octet
+abbrev pub zeroFirst : List ℕ → Bool
+zeroFirst [] = false
+zeroFirst (x ∷ []) = false
+zeroFirst (x ∷ y ∷ xs) = eqb x (code "0")
+
+-- the octets that are not c, and where those from i on end
+abbrev pub apart : ℕ → ℕ → Bool
+apart c x = not (eqb x c)
+
+-- where the part from i on ends
+abbrev pub partEnd : ℕ → List ℕ → ℕ → ℕ → ℕ
+partEnd c t i e = frontEnd (apart c) t i e
+
+-- a part by its form
+abbrev pub markOf : Form → ℕ
+markOf Pair = code "-"
+markOf Small = code "."
+markOf Group = code ":"
+
+-- how many octets it is
+abbrev pub widthOf : Form → ℕ
+widthOf Pair = 1
+widthOf Small = 1
+widthOf Group = 2
+
+-- its number
+abbrev pub valueOf : Form → List ℕ → Option ℕ
+valueOf Pair t = hexPair t
+valueOf Small t = smallNumber t
+valueOf Group t = groupOf t
+
+-- a number in w octets
+abbrev pub octetsOf : ℕ → Option ℕ → Option (List ℕ)
+octetsOf w o = o >>= λ v. some (digits 256 w v)
+
+-- its octets
+unfoldable pub pieceOf : Form → List ℕ → Option (List ℕ)
+pieceOf f t = octetsOf (widthOf f) (valueOf f t)
+
+-- the octets of exactly w parts
+abbrev pub joined : ℕ → Option (List (List ℕ)) → Option (List ℕ)
+joined w o = o >>= λ l. provided (eqb (length l) w) (flat l)
+
+-- w parts between the octets c, each read by p
+unfoldable pub partsBy : ℕ → (List ℕ → Option (List ℕ)) → ℕ → List ℕ → Option (List ℕ)
+partsBy c p w t = joined w (eachOf p (splitOn c t))
+
+-- w parts of a form
+abbrev pub partsOf : Form → ℕ → List ℕ → Option (List ℕ)
+partsOf f w t = partsBy (markOf f) (pieceOf f) w t

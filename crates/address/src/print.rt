@@ -1,0 +1,132 @@
+// Addresses: octets in decimal, and groups of two octets in hex.
+ghost use Prim.Native.Nat.{ℕ, _+_, _-_, _%_, _^_, _<_, _≤_, max};
+ghost use mathlib.Core.Path.{_≡_};
+ghost use mathlib.Core.Bool.{cond};
+ghost use mathlib.Core.List.{List, _∷_};
+ghost use lib.Dec.{leb};
+ghost use lib.ListN.{length};
+ghost use lib.Seq.{slice};
+ghost use Rattle.format.specs.Address;
+ghost use Rattle.format.specs.Address.{dottedText, groupText, colons, zerosAt, aaaaText};
+ghost use Rattle.buffer.specs.Writing.{Wrote};
+ghost use Rattle.address.specs.Zeros.{Longest};
+use buffer::put_octet;
+use digits::hex_digit;
+use digits::put_decimal;
+use digits::put_hex_octet;
+use octets::integer::two;
+
+// Octets in decimal, with dots between.
+pub fn dotted(out: &mut [u8], n: usize, p: &[u8], i: usize, e: usize) -> usize
+    requires { ⌜ (n < 2 ^ 30) × (i ≤ e) × (e ≤ length (now p)) × (length (now p) ≤ 65535) ⌝ }
+    ensures { λ r. ⌜ Wrote (now (out .entry)) (now (out .exit)) n r (dottedText (slice i e (now (p .entry)))) ⌝ }
+{
+    if e <= i {
+        return n;
+    }
+    let mut m = put_decimal(out, n, p[i] as u64);
+    let mut j = i + 1;
+    while j < e {
+        m = put_octet(out, m, b'.');
+        m = put_decimal(out, m, p[j] as u64);
+        j = j + 1;
+    }
+    m
+}
+
+// A group in hex without leading zeros.
+fn group(out: &mut [u8], n: usize, v: u64) -> usize
+    requires { ⌜ (n + 2 < 2 ^ 32) × (v < 65536) ⌝ }
+    ensures { λ r. ⌜ Wrote (now (out .entry)) (now (out .exit)) n r (groupText v) ⌝ }
+{
+    if v < 16 {
+        return put_octet(out, n, hex_digit(v as u8, b'a'));
+    }
+    if v < 256 {
+        return put_hex_octet(out, n, v as u8, b'a');
+    }
+    if v < 4096 {
+        let m = put_octet(out, n, hex_digit((v / 256) as u8, b'a'));
+        return put_hex_octet(out, m, (v % 256) as u8, b'a');
+    }
+    let m = put_hex_octet(out, n, (v / 256) as u8, b'a');
+    put_hex_octet(out, m, (v % 256) as u8, b'a')
+}
+
+// Groups in hex, with colons between.
+pub fn groups(out: &mut [u8], n: usize, p: &[u8], i: usize, e: usize) -> usize
+    requires { ⌜ (n < 2 ^ 31) × (i ≤ e) × (e ≤ length (now p)) × (length (now p) ≤ 65535) × ((e - i) % 2 ≡ 0) ⌝ }
+    ensures { λ r. ⌜ Wrote (now (out .entry)) (now (out .exit)) n r (colons (Address.groups (slice i e (now (p .entry))))) ⌝ }
+{
+    if e <= i {
+        return n;
+    }
+    let mut m = group(out, n, two(p, i));
+    let mut j = i + 2;
+    while j < e {
+        m = put_octet(out, m, b':');
+        m = group(out, m, two(p, j));
+        j = j + 2;
+    }
+    m
+}
+
+// A run of zero groups: its first octet's place, and how many groups it has.
+struct Run {
+    at: usize,
+    count: usize,
+}
+
+// How many zero groups stand from the group g on, where z stand after it.
+fn zeros(g: u64, z: usize) -> usize
+    requires { ⌜ z < 2 ^ 32 ⌝ }
+    ensures { λ r. ⌜ ((gs : List ℕ) → z ≡ zerosAt gs → r ≡ zerosAt (g ∷ gs)) × (r ≤ z + 1) ⌝ }
+{
+    if g < 1 {
+        return z + 1;
+    }
+    0
+}
+
+// The longer of a run and one of z groups before it, at j; of two as long the first.
+fn longer(run: Run, j: usize, z: usize) -> Run
+    ensures { λ r. ⌜ (r .at ≡ cond (leb (run .count) z) j (run .at)) × (r .count ≡ max z (run .count)) ⌝ }
+{
+    if run.count <= z {
+        return Run { at: j, count: z };
+    }
+    run
+}
+
+// The first of the longest runs of zero groups, sought from the last group back.
+fn longest(p: &[u8], i: usize, e: usize) -> Run
+    requires { ⌜ (i ≤ e) × (e ≤ length (now p)) × (length (now p) ≤ 65535) × ((e - i) % 2 ≡ 0) ⌝ }
+    ensures { λ r. ⌜ Longest (now (p .entry)) i e (r .at) (r .count) ⌝ }
+{
+    let mut run = Run { at: e, count: 0 };
+    let mut z = 0;
+    let mut j = e;
+    while i < j {
+        j = j - 2;
+        z = zeros(two(p, j), z);
+        run = longer(run, j, z);
+    }
+    run
+}
+
+// Eight groups; `::` stands for the first of the longest runs of zero groups, two at least.
+pub fn aaaa(out: &mut [u8], n: usize, p: &[u8], i: usize, e: usize) -> usize
+    requires { ⌜ (n < 2 ^ 30) × (e ≡ i + 16) × (e ≤ length (now p)) × (length (now p) ≤ 65535) ⌝ }
+    ensures { λ r. ⌜ Wrote (now (out .entry)) (now (out .exit)) n r (aaaaText (Address.groups (slice i e (now (p .entry))))) ⌝ }
+{
+    let run = longest(p, i, e);
+    let at = run.at;
+    let count = run.count;
+    if count < 2 {
+        return groups(out, n, p, i, e);
+    }
+    let a = groups(out, n, p, i, at);
+    let b = put_octet(out, a, b':');
+    let c = put_octet(out, b, b':');
+    groups(out, c, p, at + 2 * count, e)
+}

@@ -1,0 +1,193 @@
+// A, AA and AAAA.
+ghost use Prim.Native.Nat.{_+_, _^_, _<_, _≤_};
+ghost use mathlib.Core.Path.{_≡_};
+ghost use mathlib.Core.Bool.{true, _&&_};
+ghost use lib.ListN.{length, getD, replicate};
+ghost use lib.Seq.{slice};
+ghost use lib.Dec.{eqb};
+ghost use Rattle.format.specs.Address.{readA, readAA, readAAAA};
+ghost use Rattle.buffer.specs.Writing.{Wrote, Values};
+ghost use Rattle.address.specs.Address.{DoubledAt, lastIn, groupsIn, sideIn, sixteen, filled, bothSides};
+use crate::part;
+use crate::part::Form;
+use buffer::Value;
+use buffer::put;
+use octets::Number;
+
+// Four numbers 0 to 255 with dots between.
+pub fn dotted(out: &mut [u8], n: usize, t: &[u8], i: usize, e: usize) -> Value
+    requires { ⌜ (n < 2 ^ 30) × (i ≤ e) × (e ≤ length (now t)) × (length (now t) ≤ 1048576) ⌝ }
+    ensures { λ r. ⌜ Values (now (out .entry)) (now (out .exit)) n r (readA (slice i e (now (t .entry)))) ⌝ }
+{
+    part::parts(out, n, Form::Small, 4, t, i, e)
+}
+
+// Four groups with colons between.
+pub fn four_groups(out: &mut [u8], n: usize, t: &[u8], i: usize, e: usize) -> Value
+    requires { ⌜ (n < 2 ^ 30) × (i ≤ e) × (e ≤ length (now t)) × (length (now t) ≤ 1048576) ⌝ }
+    ensures { λ r. ⌜ Values (now (out .entry)) (now (out .exit)) n r (readAA (slice i e (now (t .entry)))) ⌝ }
+{
+    part::parts(out, n, Form::Group, 4, t, i, e)
+}
+
+// Whether two colons stand at j.
+fn two_colons(t: &[u8], j: usize) -> bool
+    requires { ⌜ j + 1 < length (now t) ⌝ }
+    ensures { λ r. ⌜ r ≡ eqb (getD (now (t .entry)) j 0) 58 && eqb (getD (now (t .entry)) (j + 1) 0) 58 ⌝ }
+{
+    if t[j] == b':' {
+        return t[j + 1] == b':';
+    }
+    false
+}
+
+// The place of the first double colon, or e.
+fn double_colon(t: &[u8], i: usize, e: usize) -> usize
+    requires { ⌜ (i ≤ e) × (e ≤ length (now t)) ⌝ }
+    ensures { λ r. ⌜ DoubledAt (now (t .entry)) i e r ⌝ }
+{
+    let mut j = i;
+    while j + 1 < e {
+        if two_colons(t, j) {
+            return j;
+        }
+        j = j + 1;
+    }
+    e
+}
+
+// The last part: a group, or where `tail` is given an address in dotted form.
+fn last_part(out: &mut [u8], n: usize, t: &[u8], i: usize, e: usize, tail: bool) -> Value
+    requires { ⌜ (n < 2 ^ 31) × (i ≤ e) × (e ≤ length (now t)) ⌝ }
+    ensures { λ r. ⌜ Values (now (out .entry)) (now (out .exit)) n r (lastIn tail (slice i e (now (t .entry)))) ⌝ }
+{
+    let q = part::number(Form::Group, t, i, e);
+    match q {
+        Number::Value(v) => {
+            let m = part::put_number(out, n, Form::Group, v);
+            Value::Upto(m)
+        }
+        Number::Fault => {
+            if tail {
+                return part::parts(out, n, Form::Small, 4, t, i, e);
+            }
+            Value::Fault
+        }
+    }
+}
+
+// The groups of a text with colons between.
+fn groups(out: &mut [u8], n: usize, t: &[u8], i: usize, e: usize, tail: bool) -> Value
+    requires { ⌜ (n ≤ 2 ^ 30 + 16) × (i ≤ e) × (e ≤ length (now t)) × (length (now t) ≤ 1048576) ⌝ }
+    ensures { λ r. ⌜ Values (now (out .entry)) (now (out .exit)) n r (groupsIn tail (slice i e (now (t .entry)))) ⌝ }
+{
+    let mut m = n;
+    let mut j = i;
+    let mut z = part::part_end(t, i, e, b':');
+    while z < e {
+        let x = part::piece(out, m, Form::Group, t, j, z);
+        match x {
+            Value::Fault => {
+                return Value::Fault;
+            }
+            Value::Upto(r) => {
+                m = r;
+                j = z + 1;
+                z = part::part_end(t, j, e, b':');
+            }
+        }
+    }
+    last_part(out, m, t, j, e, tail)
+}
+
+// The groups on one side of a double colon, perhaps none.
+fn side(out: &mut [u8], n: usize, t: &[u8], i: usize, e: usize, tail: bool) -> Value
+    requires { ⌜ (n ≤ 2 ^ 30 + 16) × (i ≤ e) × (e ≤ length (now t)) × (length (now t) ≤ 1048576) ⌝ }
+    ensures { λ r. ⌜ Values (now (out .entry)) (now (out .exit)) n r (sideIn tail (slice i e (now (t .entry)))) ⌝ }
+{
+    if i < e {
+        return groups(out, n, t, i, e, tail);
+    }
+    Value::Upto(n)
+}
+
+// k octets that are zero.
+fn put_zeros(out: &mut [u8], n: usize, k: usize) -> usize
+    requires { ⌜ (n < 2 ^ 31) × (k ≤ 16) ⌝ }
+    ensures { λ r. ⌜ Wrote (now (out .entry)) (now (out .exit)) n r (replicate k 0) ⌝ }
+{
+    let mut m = n;
+    let mut c = k;
+    while 0 < c {
+        put(out, m, 0);
+        m = m + 1;
+        c = c - 1;
+    }
+    m
+}
+
+// The zeros and the right side, after g octets of the left side. The right side is read twice: first to know how long it is.
+fn right(out: &mut [u8], n: usize, g: usize, t: &[u8], i: usize, e: usize) -> Value
+    requires { ⌜ (n ≤ 2 ^ 30 + g) × (g ≤ 14) × (i ≤ e) × (e ≤ length (now t)) × (length (now t) ≤ 1048576) ⌝ }
+    ensures { λ r. ⌜ Values (now (out .entry)) (now (out .exit)) n r (filled g (sideIn true (slice i e (now (t .entry))))) ⌝ }
+{
+    let x = side(out, n, t, i, e, true);
+    match x {
+        Value::Fault => Value::Fault,
+        Value::Upto(r) => {
+            let h = r - n;
+            if 14 - g < h {
+                return Value::Fault;
+            }
+            let m = put_zeros(out, n, 16 - (g + h));
+            side(out, m, t, i, e, true)
+        }
+    }
+}
+
+// The text on both sides of the double colon at p.
+fn around(out: &mut [u8], n: usize, t: &[u8], i: usize, p: usize, e: usize) -> Value
+    requires { ⌜ (n < 2 ^ 30) × (i ≤ p) × (p + 2 ≤ e) × (e ≤ length (now t)) × (length (now t) ≤ 1048576) ⌝ }
+    ensures { λ r. ⌜ Values (now (out .entry)) (now (out .exit)) n r (bothSides (slice i p (now (t .entry))) (slice (p + 2) e (now (t .entry)))) ⌝ }
+{
+    let x = side(out, n, t, i, p, false);
+    match x {
+        Value::Fault => Value::Fault,
+        Value::Upto(m) => {
+            let g = m - n;
+            if 14 < g {
+                return Value::Fault;
+            }
+            right(out, m, g, t, p + 2, e)
+        }
+    }
+}
+
+// A text without a double colon: eight groups.
+fn whole(out: &mut [u8], n: usize, t: &[u8], i: usize, e: usize) -> Value
+    requires { ⌜ (n < 2 ^ 30) × (i ≤ e) × (e ≤ length (now t)) × (length (now t) ≤ 1048576) ⌝ }
+    ensures { λ r. ⌜ Values (now (out .entry)) (now (out .exit)) n r (sixteen (groupsIn true (slice i e (now (t .entry))))) ⌝ }
+{
+    let x = groups(out, n, t, i, e, true);
+    match x {
+        Value::Fault => Value::Fault,
+        Value::Upto(r) => {
+            if r - n == 16 {
+                return Value::Upto(r);
+            }
+            Value::Fault
+        }
+    }
+}
+
+// Eight groups, or fewer with a double colon for those that are left.
+pub fn aaaa(out: &mut [u8], n: usize, t: &[u8], i: usize, e: usize) -> Value
+    requires { ⌜ (n < 2 ^ 30) × (i ≤ e) × (e ≤ length (now t)) × (length (now t) ≤ 1048576) ⌝ }
+    ensures { λ r. ⌜ Values (now (out .entry)) (now (out .exit)) n r (readAAAA (slice i e (now (t .entry)))) ⌝ }
+{
+    let p = double_colon(t, i, e);
+    if p < e {
+        return around(out, n, t, i, p, e);
+    }
+    whole(out, n, t, i, e)
+}

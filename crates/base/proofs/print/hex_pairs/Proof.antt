@@ -1,0 +1,74 @@
+use Rattle.buffer.proofs.Laws.{Left, left-all, left-piece, left-none, wrote-two, next, none}
+use Rattle.format.specs.Hex.{hexText}
+use lib.ListN.{length, drop, length-set}
+use mathlib.Core.Path.{_≡_, refl, ap}
+use Prim.Native.Nat.{_+_, _-_, _*_, _≤_}
+use native.Mathlib.Omega.{arith}
+use borrow.Author.Needs.{needs}
+use Rattle.base.proofs.print.hex_pairs.Statement.{statement}
+use Rattle.base.proofs.print.hex_pairs.Tie as tie
+
+abbrev Inv-loop : tie.InvT-loop
+Inv-loop out₀ n s m₀ i₀ out m i = (i ≤ length s) × (m ≡ n + 2 * i) × Left out₀ n (hexText s) out m (hexText (drop i s))
+
+abbrev μ-loop : tie.MeasureT-loop
+μ-loop out₀ n s m₀ i₀ out m i = length s - i
+
+loop-holds : tie.Need-loop-holds Inv-loop μ-loop
+loop-holds c = (search needs, search needs, left-all _ _ _)
+
+shared-slice-read-b : tie.Need-shared-slice-read-b Inv-loop μ-loop
+shared-slice-read-b c = search needs
+
+hex-digit-requires : tie.Need-hex-digit-requires Inv-loop μ-loop
+hex-digit-requires c κs = search needs
+
+slice-write-out : tie.Need-slice-write-out Inv-loop μ-loop
+slice-write-out c = search needs
+
+hex-digit-requires-2 : tie.Need-hex-digit-requires-2 Inv-loop μ-loop
+hex-digit-requires-2 c κs = search needs
+
+add-out : tie.Need-add-out Inv-loop μ-loop
+add-out c = search needs
+
+slice-write-out-2 : tie.Need-slice-write-out-2 Inv-loop μ-loop
+slice-write-out-2 c = simp length-set (omega arith)
+
+add-m : tie.Need-add-m Inv-loop μ-loop
+add-m c = search needs
+
+add-i : tie.Need-add-i Inv-loop μ-loop
+add-i c = search needs
+
+loop-less : tie.Need-loop-less Inv-loop μ-loop
+loop-less c = search needs
+
+loop-again : tie.Need-loop-again Inv-loop μ-loop
+loop-again c = (search needs, search needs, rw (c .before .hex-digit .ensures, c .hex-digit2 .ensures) (left-piece _ _ _ _ (c .before .before .before .before .loop .inv .2) (ap hexText (next _ _ (c .before .before .before .loop-test .taken))) (wrote-two _ _ _ _ _ _ refl refl)))
+
+same-length : tie.Need-same-length Inv-loop μ-loop
+same-length c = search needs
+
+returns : tie.Need-returns Inv-loop μ-loop
+returns c = left-none (c .before .loop .inv .2) (ap hexText (none _ _ (c .loop-test .left)))
+
+pub hex-pairs-spec : {M : Type 1} → statement M
+hex-pairs-spec =
+    tie.close
+    (tie.spec
+    Inv-loop
+    μ-loop
+    loop-holds
+    shared-slice-read-b
+    hex-digit-requires
+    slice-write-out
+    hex-digit-requires-2
+    add-out
+    slice-write-out-2
+    add-m
+    add-i
+    loop-less
+    loop-again
+    same-length
+    returns)

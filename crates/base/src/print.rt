@@ -1,0 +1,169 @@
+// Writers of octets as digits. Those of B32 and B64 have w bits, each by its character of an alphabet t; they are written in groups
+// of g octets that are whole digits: 5 octets are 8 digits of 5 bits, and 3 octets 4 digits of 6. X has two hex digits an octet.
+ghost use mathlib.Core.Path.{_≡_};
+ghost use Prim.Native.Nat.{_+_, _*_, _-_, _/_, _^_, _<_, _≤_};
+ghost use lib.ListN.{length};
+ghost use lib.Seq.{slice, sets};
+ghost use Rattle.format.specs.Digits.{digits, number};
+ghost use Rattle.format.specs.Base.{bits, toDigits, base32Text, base64Text};
+ghost use Rattle.format.specs.Hex.{hexText};
+ghost use Rattle.buffer.specs.Writing.{Wrote};
+ghost use Rattle.base.specs.Alphabet.{chars, Grouped};
+use buffer::fitting;
+use buffer::least;
+use buffer::put_all;
+use digits::hex_digit;
+use digits::put_hex_octet;
+
+// The number whose bits are those of g octets from i on.
+fn number_of(p: &[u8], i: usize, g: usize) -> usize
+    requires { ⌜ (i + g ≤ length (now p)) × (g ≤ 5) ⌝ }
+    ensures { λ r. ⌜ r ≡ number 2 (bits 8 (slice i (i + g) (now (p .entry)))) ⌝ }
+{
+    let mut v = 0;
+    let mut j = 0;
+    while j < g {
+        v = v * 256 + p[i + j] as usize;
+        j = j + 1;
+    }
+    v
+}
+
+// The k lowest digits of v, from the last on, where there is room for them.
+fn store(out: &mut [u8], n: usize, t: &[u8], k: usize, v: usize)
+    requires { ⌜ (n + k ≤ length (now out)) × (0 < length (now t)) ⌝ }
+    ensures { λ _. ⌜ now (out .exit) ≡ sets (now (out .entry)) n (chars (now (t .entry)) (digits (length (now (t .entry))) k v)) ⌝ }
+{
+    let mut i = k;
+    let mut x = v;
+    while 0 < i {
+        i = i - 1;
+        out[n + i] = t[x % t.len()];
+        x = x / t.len();
+    }
+}
+
+// The digits of c groups, where there is room for them. It is called with numbers for w and g, so that its inner loops are
+// unrolled for each of the two.
+fn groups(
+    out: &mut [u8],
+    n: usize,
+    t: &[u8],
+    w: usize,
+    g: usize,
+    p: &[u8],
+    i: usize,
+    c: usize,
+) -> usize
+    requires { ⌜ Grouped w g (now t) × (i + g * c ≤ length (now p)) × (8 * g / w * c ≤ length (now out) - n) ⌝ }
+    ensures { λ r. ⌜ Wrote (now (out .entry)) (now (out .exit)) n r (chars (now (t .entry)) (toDigits w (slice i (i + g * c) (now (p .entry))))) ⌝ }
+{
+    let k = 8 * g / w;
+    let mut m = n;
+    let mut j = i;
+    let mut d = c;
+    while 0 < d {
+        store(out, m, t, k, number_of(p, j, g));
+        m = m + k;
+        j = j + g;
+        d = d - 1;
+    }
+    m
+}
+
+// The digits of at most one group, which is filled with zeros.
+fn group(
+    out: &mut [u8],
+    n: usize,
+    t: &[u8],
+    w: usize,
+    g: usize,
+    p: &[u8],
+    i: usize,
+    e: usize,
+) -> usize
+    requires { ⌜ Grouped w g (now t) × (n < 2 ^ 32) × (i ≤ e) × (e ≤ i + g) × (e ≤ length (now p)) ⌝ }
+    ensures { λ r. ⌜ Wrote (now (out .entry)) (now (out .exit)) n r (chars (now (t .entry)) (toDigits w (slice i e (now (p .entry))))) ⌝ }
+{
+    let mut octets = [0u8; 5];
+    put_all(&mut octets, 0, &p[i..e]);
+    let mut text = [0u8; 8];
+    store(&mut text, 0, t, 8 * g / w, number_of(&octets, 0, g));
+    let k = (8 * (e - i) + w - 1) / w;
+    put_all(out, n, &text[0..k])
+}
+
+// The digits of octets that are at most one group, or of which what follows their first group has no room.
+fn rest(
+    out: &mut [u8],
+    n: usize,
+    t: &[u8],
+    w: usize,
+    g: usize,
+    p: &[u8],
+    i: usize,
+    e: usize,
+) -> usize
+    requires { ⌜ Grouped w g (now t) × (n < 2 ^ 32) × (i ≤ e) × (e ≤ length (now p)) × (length (now p) ≤ 65535) × (i + g < e → length (now out) ≤ n + 8 * g / w) ⌝ }
+    ensures { λ r. ⌜ Wrote (now (out .entry)) (now (out .exit)) n r (chars (now (t .entry)) (toDigits w (slice i e (now (p .entry))))) ⌝ }
+{
+    let h = least(e, i + g);
+    group(out, n, t, w, g, p, i, h);
+    n + (8 * (e - i) + w - 1) / w
+}
+
+// Octets as base 32 without padding. Where there is no room the digits are only counted.
+pub fn base32(out: &mut [u8], n: usize, p: &[u8], i: usize, e: usize) -> usize
+    requires { ⌜ (n < 2 ^ 30) × (i ≤ e) × (e ≤ length (now p)) × (length (now p) ≤ 65535) ⌝ }
+    ensures { λ r. ⌜ Wrote (now (out .entry)) (now (out .exit)) n r (base32Text (slice i e (now (p .entry)))) ⌝ }
+{
+    let t = b"0123456789ABCDEFGHIJKLMNOPQRSTUV";
+    let c = fitting(out.len(), n, 8, (e - i) / 5);
+    let m = groups(out, n, t, 5, 5, p, i, c);
+    rest(out, m, t, 5, 5, p, i + 5 * c, e)
+}
+
+// As base32, with padding.
+pub fn base64(out: &mut [u8], n: usize, p: &[u8], i: usize, e: usize) -> usize
+    requires { ⌜ (n < 2 ^ 30) × (i ≤ e) × (e ≤ length (now p)) × (length (now p) ≤ 65535) ⌝ }
+    ensures { λ r. ⌜ Wrote (now (out .entry)) (now (out .exit)) n r (base64Text (slice i e (now (p .entry)))) ⌝ }
+{
+    let t = b"ABCDEFGHIJKLMNOPQRSTUVWXYZabcdefghijklmnopqrstuvwxyz0123456789+/";
+    let c = fitting(out.len(), n, 4, (e - i) / 3);
+    let m = groups(out, n, t, 6, 3, p, i, c);
+    let r = rest(out, m, t, 6, 3, p, i + 3 * c, e);
+    let k = (4 - (r - n) % 4) % 4;
+    let padding = [b'='; 3];
+    put_all(out, r, &padding[0..k])
+}
+
+// Two digits an octet, where there is room for all.
+fn hex_pairs(out: &mut [u8], n: usize, s: &[u8]) -> usize
+    requires { ⌜ 2 * length (now s) ≤ length (now out) - n ⌝ }
+    ensures { λ r. ⌜ Wrote (now (out .entry)) (now (out .exit)) n r (hexText (now (s .entry))) ⌝ }
+{
+    let mut m = n;
+    let mut i = 0;
+    while i < s.len() {
+        let b = s[i];
+        out[m] = hex_digit(b / 16 % 16, b'A');
+        out[m + 1] = hex_digit(b % 16, b'A');
+        m = m + 2;
+        i = i + 1;
+    }
+    m
+}
+
+// Two digits an octet. The first octet without room for both may have room for one; the others have none.
+pub fn put_hex_upper(out: &mut [u8], n: usize, s: &[u8]) -> usize
+    requires { ⌜ (n < 2 ^ 32) × (length (now s) < 2 ^ 32) ⌝ }
+    ensures { λ r. ⌜ Wrote (now (out .entry)) (now (out .exit)) n r (hexText (now (s .entry))) ⌝ }
+{
+    let c = fitting(out.len(), n, 2, s.len());
+    let m = hex_pairs(out, n, &s[0..c]);
+    if s.len() <= c {
+        return m;
+    }
+    put_hex_octet(out, m, s[c], b'A');
+    n + 2 * s.len()
+}

@@ -1,0 +1,62 @@
+use Prim.Native.Nat.{_+_, _-_, _*_, _≤_}
+use mathlib.Core.Path.{_≡_}
+use lib.Dec.{ltb}
+use lib.Seq.{slice}
+use Rattle.format.specs.Bitmap.{atOctets, typesFrom}
+use Rattle.buffer.proofs.Laws.{Left, left-all}
+use Rattle.bitmap.specs.Types.{typesText}
+use Rattle.bitmap.proofs.Texts.{types-left, types-done}
+use Rattle.bitmap.proofs.Blocks.{octet-types, no-octets, block-length}
+use native.Mathlib.Omega.{arith}
+use borrow.Author.Needs.{needs}
+use Rattle.bitmap.proofs.print.block.Statement.{statement}
+use Rattle.bitmap.proofs.print.block.Tie as tie
+
+abbrev Inv-loop : tie.InvT-loop
+Inv-loop out₀ n start p i e v m₀ t₀ j₀ out m t j = (start ≤ m) × (i ≤ j) × (j ≤ e) × (t ≡ v + 8 * (j - i)) × Left out₀ n (typesText (ltb start n) (typesFrom (atOctets v (e - i)) (slice i e p))) out m (typesText (ltb start m) (typesFrom (atOctets t (e - j)) (slice j e p)))
+
+abbrev μ-loop : tie.MeasureT-loop
+μ-loop out₀ n start p i e v m₀ t₀ j₀ out m t j = e - j
+
+loop-holds : tie.Need-loop-holds Inv-loop μ-loop
+loop-holds c = (search needs, search needs, search needs, search needs, left-all _ _ _)
+
+shared-slice-read-octet : tie.Need-shared-slice-read-octet Inv-loop μ-loop
+shared-slice-read-octet c = search needs
+
+octet-requires : tie.Need-octet-requires Inv-loop μ-loop
+octet-requires c κs = (search needs, omega (arith, c .before .before .before .loop .inv .4 .count, block-length (ltb (c .before .before .before .before .before .before .args .start) (c .before .before .before .before .before .before .args .n)) (atOctets (c .before .before .before .before .before .before .args .v) (c .before .before .before .before .before .before .args .e - c .before .before .before .before .before .before .args .i)) (c .before .before .before .before .before .before .args .p .now) (c .before .before .before .before .before .before .args .i) (c .before .before .before .before .before .before .args .e) (c .before .before .before .before .before .before .pre .2)), search needs)
+
+add-t : tie.Need-add-t Inv-loop μ-loop
+add-t c = search needs
+
+add-j : tie.Need-add-j Inv-loop μ-loop
+add-j c = search needs
+
+loop-less : tie.Need-loop-less Inv-loop μ-loop
+loop-less c = search needs
+
+loop-again : tie.Need-loop-again Inv-loop μ-loop
+loop-again c = (omega (arith, c .before .before .octet .ensures .count), search needs, search needs, search needs, types-left (c .before .before .before .before .before .before .before .before .before .args .start) _ _ _ _ (c .before .before .before .before .before .before .loop .inv .4) (octet-types (c .before .before .before .before .before .before .before .before .before .args .p .now) (c .before .before .before .before .before .before .loop .j) (c .before .before .before .before .before .before .before .before .before .args .e) (c .before .before .before .before .before .before .loop .t) (c .before .before .before .before .before .loop-test .taken) (c .before .before .before .before .before .before .before .before .before .pre .2)) (c .before .before .before .before .before .before .loop .inv .0) (c .before .before .octet .ensures))
+
+same-length : tie.Need-same-length Inv-loop μ-loop
+same-length c = search needs
+
+returns : tie.Need-returns Inv-loop μ-loop
+returns c = types-done (ltb (c .before .before .before .before .args .start) (c .before .loop .m)) (c .before .loop .inv .4) (no-octets (c .before .before .before .before .args .p .now) (c .before .loop .j) (c .before .before .before .before .args .e) (c .before .loop .t) (c .loop-test .left))
+
+pub block-spec : {M : Type 1} → statement M
+block-spec =
+    tie.close
+    (tie.spec
+    Inv-loop
+    μ-loop
+    loop-holds
+    shared-slice-read-octet
+    octet-requires
+    add-t
+    add-j
+    loop-less
+    loop-again
+    same-length
+    returns)

@@ -1,0 +1,85 @@
+// Bitmaps of RR types: blocks of a window, a count and octets.
+ghost use Prim.Native.Nat.{_+_, _-_, _*_, _^_, _<_, _≤_};
+ghost use mathlib.Core.Path.{_≡_};
+ghost use mathlib.Core.List.{[], _∷_};
+ghost use lib.Dec.{ltb};
+ghost use lib.ListN.{length};
+ghost use lib.Seq.{slice};
+ghost use Rattle.format.specs.Wire.{taken, took, window};
+ghost use Rattle.format.specs.Digits.{digits};
+ghost use Rattle.format.specs.Rrtype.{typeText};
+ghost use Rattle.format.specs.Bitmap.{setBits, atOctets, typesFrom, bitmapText};
+ghost use Rattle.buffer.specs.Writing.{Wrote};
+ghost use Rattle.bitmap.specs.Types.{typesText};
+use buffer::put_octet;
+
+// A type, with a space before it where types were written from start on.
+fn put_type(out: &mut [u8], n: usize, start: usize, v: u64) -> usize
+    requires { ⌜ (start ≤ n) × (n < 2 ^ 31) × (v < 65536) ⌝ }
+    ensures { λ r. ⌜ Wrote (now (out .entry)) (now (out .exit)) n r (typesText (ltb start n) (v ∷ [])) ⌝ }
+{
+    if start < n {
+        let m = put_octet(out, n, b' ');
+        return rrtype::print::number(out, m, v);
+    }
+    rrtype::print::number(out, n, v)
+}
+
+// A type, where its bit is set.
+fn put_if(out: &mut [u8], n: usize, start: usize, v: u64, bit: u8) -> usize
+    requires { ⌜ (start ≤ n) × (n < 2 ^ 31) × (v < 65536) ⌝ }
+    ensures { λ r. ⌜ Wrote (now (out .entry)) (now (out .exit)) n r (typesText (ltb start n) (setBits v (bit ∷ []))) ⌝ }
+{
+    if bit == 0 {
+        return n;
+    }
+    put_type(out, n, start, v)
+}
+
+// The types of an octet's set bits, of which the highest is type v.
+fn octet(out: &mut [u8], n: usize, start: usize, v: u64, x: u8) -> usize
+    requires { ⌜ (start ≤ n) × (n + 120 < 2 ^ 31) × (v + 8 ≤ 65536) ⌝ }
+    ensures { λ r. ⌜ Wrote (now (out .entry)) (now (out .exit)) n r (typesText (ltb start n) (setBits v (digits 2 8 x))) ⌝ }
+{
+    let mut m = n;
+    let mut t = v;
+    let mut y = x;
+    while 0 < y {
+        m = put_if(out, m, start, t, y / 128);
+        y = y % 128 * 2;
+        t = t + 1;
+    }
+    m
+}
+
+// The types of a block's octets, from i to e, of which the first is type v.
+fn block(out: &mut [u8], n: usize, start: usize, p: &[u8], i: usize, e: usize, v: u64) -> usize
+    requires { ⌜ (start ≤ n) × (i ≤ e) × (e ≤ length (now p)) × (n + 2 ^ 20 < 2 ^ 31) × (v + 8 * (e - i) ≤ 65536) ⌝ }
+    ensures { λ r. ⌜ Wrote (now (out .entry)) (now (out .exit)) n r (typesText (ltb start n) (typesFrom (atOctets v (e - i)) (slice i e (now (p .entry))))) ⌝ }
+{
+    let mut m = n;
+    let mut t = v;
+    let mut j = i;
+    while j < e {
+        m = octet(out, m, start, t, p[j]);
+        t = t + 8;
+        j = j + 1;
+    }
+    m
+}
+
+// The types of the blocks of p from i to e, rising, with spaces between.
+pub fn field(out: &mut [u8], n: usize, p: &[u8], i: usize, e: usize) -> usize
+    requires { ⌜ (n < 2 ^ 30) × (i ≤ e) × (e ≤ length (now p)) × (length (now p) ≤ 65535) × (taken (window 0) (slice i e (now p)) ≡ took (e - i)) ⌝ }
+    ensures { λ r. ⌜ Wrote (now (out .entry)) (now (out .exit)) n r (bitmapText typeText (slice i e (now (p .entry)))) ⌝ }
+{
+    let mut m = n;
+    let mut j = i;
+    while j < e {
+        let w = p[j] as u64;
+        let k = j + 2 + p[j + 1] as usize;
+        m = block(out, m, n, p, j + 2, k, w * 256);
+        j = k;
+    }
+    m
+}

@@ -1,0 +1,145 @@
+// Bitmaps read from text: the types of all tokens that are left, in any order, into a picture, and from there into blocks.
+ghost use Prim.Native.Nat.{_^_, _<_, _≤_};
+ghost use mathlib.Core.Path.{_≡_};
+ghost use mathlib.Core.List.{[]};
+ghost use lib.ListN.{length, drop};
+ghost use lib.Seq.{slice};
+ghost use Rattle.format.specs.Rrtype.{typeNumber};
+ghost use Rattle.buffer.specs.Writing.{Values};
+ghost use Rattle.bitmap_picture.specs.Windows.{Holds};
+ghost use Rattle.bitmap.specs.Reading.{typesRead, bitmapRead, foundAt, typesBy, TypeWithin, PlainAt, Marks};
+use bitmap_picture::mark;
+use bitmap_picture::put_blocks;
+use buffer::Value;
+use octets::Class;
+use octets::Number;
+use rrtype::read::Front;
+use tokens::Next;
+
+// The next type: none is left; its number, and where its token ends; or a token that is no type.
+enum NextType {
+    End,
+    Found(u64, usize),
+    Fault,
+}
+
+// The type of a bare token from a to e.
+fn type_of(t: &[u8], a: usize, e: usize) -> NextType
+    requires { ⌜ (a ≤ e) × (e ≤ length (now t)) ⌝ }
+    ensures { λ r. ⌜ r ≡ foundAt e (typeNumber (slice a e (now (t .entry)))) ⌝ }
+{
+    let q = rrtype::read::number(t, a, e);
+    match q {
+        Number::Value(v) => NextType::Found(v, e),
+        Number::Fault => NextType::Fault,
+    }
+}
+
+// The next token's type.
+fn token_type(t: &[u8], i: usize) -> NextType
+    requires { ⌜ (i ≤ length (now t)) × (length (now t) ≤ 1048576) ⌝ }
+    ensures { λ r. ⌜ (typesBy (now (t .entry)) r ≡ typesRead (drop i (now (t .entry)))) × TypeWithin (now (t .entry)) i r ⌝ }
+{
+    let k = tokens::next_token(t, i);
+    match k {
+        Next::End => NextType::End,
+        Next::Bare(a, e) => type_of(t, a, e),
+        Next::Quoted(a, e) => NextType::Fault,
+        Next::Broken => NextType::Fault,
+    }
+}
+
+// The type at a, where it is four octets and digits, parted off: its token need not be scanned for other octets.
+fn last_type(t: &[u8], a: usize) -> NextType
+    requires { ⌜ a ≤ length (now t) ⌝ }
+    ensures { λ r. ⌜ PlainAt (now (t .entry)) a r ⌝ }
+{
+    if t.len() - a < 4 {
+        return NextType::Fault;
+    }
+    let e = octets::skip(t, a + 4, t.len(), Class::Digit);
+    if tokens::parted_at(t, e) {
+        return type_of(t, a, e);
+    }
+    NextType::Fault
+}
+
+// The same. What has nine octets is read in one walk.
+fn plain_type(t: &[u8], a: usize) -> NextType
+    requires { ⌜ a ≤ length (now t) ⌝ }
+    ensures { λ r. ⌜ PlainAt (now (t .entry)) a r ⌝ }
+{
+    if t.len() - a < 9 {
+        return last_type(t, a);
+    }
+    let f = rrtype::read::plain_front(t, a);
+    match f {
+        Front::Other => NextType::Fault,
+        Front::Found(v, e) => {
+            if tokens::parted_at(t, e) {
+                return NextType::Found(v, e);
+            }
+            NextType::Fault
+        }
+    }
+}
+
+// The next type.
+fn next_type(t: &[u8], i: usize) -> NextType
+    requires { ⌜ (i ≤ length (now t)) × (length (now t) ≤ 1048576) ⌝ }
+    ensures { λ r. ⌜ (typesBy (now (t .entry)) r ≡ typesRead (drop i (now (t .entry)))) × TypeWithin (now (t .entry)) i r ⌝ }
+{
+    let a = octets::skip(t, i, t.len(), Class::Blank);
+    let r = plain_type(t, a);
+    match r {
+        NextType::Found(v, e) => NextType::Found(v, e),
+        NextType::End => token_type(t, i),
+        NextType::Fault => token_type(t, i),
+    }
+}
+
+// What a picture was filled with: the types up to a top; or a token was no type.
+enum Filled {
+    Fault,
+    Top(usize),
+}
+
+// The types of all tokens from i on, into a picture of none.
+fn fill(m: &mut [[u8; 32]; 256], t: &[u8], i: usize) -> Filled
+    requires { ⌜ (i ≤ length (now t)) × (length (now t) ≤ 1048576) × Holds (now m) 0 [] ⌝ }
+    ensures { λ r. ⌜ Marks (now (m .exit)) r (typesRead (drop i (now (t .entry)))) ⌝ }
+{
+    let mut top = 0;
+    let mut j = i;
+    loop {
+        let k = next_type(t, j);
+        match k {
+            NextType::End => {
+                return Filled::Top(top);
+            }
+            NextType::Found(v, e) => {
+                top = mark(m, top, v);
+                j = e;
+            }
+            NextType::Fault => {
+                return Filled::Fault;
+            }
+        }
+    }
+}
+
+// The blocks of the types of all tokens from i on.
+pub fn read(out: &mut [u8], n: usize, t: &[u8], i: usize) -> Value
+    requires { ⌜ (n < 2 ^ 30) × (i ≤ length (now t)) × (length (now t) ≤ 1048576) ⌝ }
+    ensures { λ r. ⌜ Values (now (out .entry)) (now (out .exit)) n r (bitmapRead (drop i (now (t .entry)))) ⌝ }
+{
+    let mut m = [[0u8; 32]; 256];
+    let f = fill(&mut m, t, i);
+    match f {
+        Filled::Fault => Value::Fault,
+        Filled::Top(top) => {
+            let e = put_blocks(out, n, &m, top);
+            Value::Upto(e)
+        }
+    }
+}

@@ -1,0 +1,88 @@
+// Writers of text. Each stores its text from a place of the buffer on, drops what has no room, and returns the place after
+// the whole text: on an empty buffer it measures.
+ghost use mathlib.Core.Path.{_≡_};
+ghost use mathlib.Core.List.{[], _∷_};
+ghost use Prim.Native.Nat.{_+_, _-_, _/_, _^_, _<_, _≤_, min};
+ghost use lib.ListN.{length, set};
+ghost use Rattle.buffer.specs.Writing.{Wrote};
+
+// What a reader makes of a token: no value; or the value's octets, stored up to a place.
+pub enum Value {
+    Fault,
+    Upto(usize),
+}
+
+// One octet at a place; nothing where the place is past the end.
+pub fn put(out: &mut [u8], i: usize, b: u8)
+    ensures { λ _. ⌜ now (out .exit) ≡ set (now (out .entry)) i b ⌝ }
+{
+    if i < out.len() {
+        out[i] = b;
+    }
+}
+
+// The lesser of two.
+pub fn least(a: usize, b: usize) -> usize
+    ensures { λ r. ⌜ r ≡ min a b ⌝ }
+{
+    if a < b { a } else { b }
+}
+
+// How many of `count` pieces of w octets each have room from n on, in a buffer of `len`.
+pub fn fitting(len: usize, n: usize, w: usize, count: usize) -> usize
+    requires { ⌜ 0 < w ⌝ }
+    ensures { λ r. ⌜ r ≡ min count ((len - n) / w) ⌝ }
+{
+    if len <= n {
+        return 0;
+    }
+    least(count, (len - n) / w)
+}
+
+// One octet.
+pub fn put_octet(out: &mut [u8], n: usize, b: u8) -> usize
+    requires { ⌜ n < 2 ^ 32 ⌝ }
+    ensures { λ r. ⌜ Wrote (now (out .entry)) (now (out .exit)) n r (b ∷ []) ⌝ }
+{
+    put(out, n, b);
+    n + 1
+}
+
+// A whole list of octets, where there is room for all of them: without a test at each, many are stored at once.
+fn store_all(out: &mut [u8], n: usize, s: &[u8]) -> usize
+    requires { ⌜ n + length (now s) ≤ length (now out) ⌝ }
+    ensures { λ r. ⌜ Wrote (now (out .entry)) (now (out .exit)) n r (now (s .entry)) ⌝ }
+{
+    let mut i = 0;
+    while i < s.len() {
+        out[n + i] = s[i];
+        i = i + 1;
+    }
+    n + i
+}
+
+// A whole list of octets.
+pub fn put_all(out: &mut [u8], n: usize, s: &[u8]) -> usize
+    requires { ⌜ (n < 2 ^ 32) × (length (now s) < 2 ^ 32) ⌝ }
+    ensures { λ r. ⌜ Wrote (now (out .entry)) (now (out .exit)) n r (now (s .entry)) ⌝ }
+{
+    if n + s.len() <= out.len() {
+        return store_all(out, n, s);
+    }
+    put_each(out, n, s)
+}
+
+// The same where there may not be room for all.
+fn put_each(out: &mut [u8], n: usize, s: &[u8]) -> usize
+    requires { ⌜ (n < 2 ^ 32) × (length (now s) < 2 ^ 32) ⌝ }
+    ensures { λ r. ⌜ Wrote (now (out .entry)) (now (out .exit)) n r (now (s .entry)) ⌝ }
+{
+    let mut m = n;
+    let mut i = 0;
+    while i < s.len() {
+        put(out, m, s[i]);
+        m = m + 1;
+        i = i + 1;
+    }
+    m
+}

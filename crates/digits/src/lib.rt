@@ -1,0 +1,101 @@
+// Writers of decimal and hex digits, and of the octets of a number.
+ghost use mathlib.Core.Path.{_≡_};
+ghost use mathlib.Core.List.{map};
+ghost use Prim.Native.Nat.{_-_, _^_, _<_, _≤_};
+ghost use Rattle.format.specs.Digits.{digits};
+ghost use Rattle.format.specs.Number.{decimal, fixedDecimal};
+ghost use Rattle.buffer.specs.Writing.{Wrote};
+ghost use Rattle.digits.specs.Hex.{digitFrom};
+use buffer::put;
+
+// w decimal digits, stored from the last on.
+pub fn put_fixed(out: &mut [u8], n: usize, w: usize, v: u64) -> usize
+    requires { ⌜ (n < 2 ^ 33) × (w < 2 ^ 32) ⌝ }
+    ensures { λ r. ⌜ Wrote (now (out .entry)) (now (out .exit)) n r (fixedDecimal w v) ⌝ }
+{
+    let mut k = w;
+    let mut x = v;
+    while 0 < k {
+        k = k - 1;
+        put(out, n + k, b'0' + (x % 10) as u8);
+        x = x / 10;
+    }
+    n + w
+}
+
+// A number in w octets, the highest first, stored from the last on.
+pub fn put_octets(out: &mut [u8], n: usize, w: usize, v: u64) -> usize
+    requires { ⌜ (n < 2 ^ 32) × (w ≤ 8) ⌝ }
+    ensures { λ r. ⌜ Wrote (now (out .entry)) (now (out .exit)) n r (digits 256 w v) ⌝ }
+{
+    let mut k = w;
+    let mut x = v;
+    while 0 < k {
+        k = k - 1;
+        put(out, n + k, (x % 256) as u8);
+        x = x / 256;
+    }
+    n + w
+}
+
+// A hex digit, whose letters begin with the octet ten.
+pub fn hex_digit(d: u8, ten: u8) -> u8
+    requires { ⌜ (d < 16) × (ten ≤ 97) ⌝ }
+    ensures { λ r. ⌜ r ≡ digitFrom ten d ⌝ }
+{
+    if d < 10 { b'0' + d } else { ten + (d - 10) }
+}
+
+// The two hex digits of an octet.
+pub fn put_hex_octet(out: &mut [u8], n: usize, b: u8, ten: u8) -> usize
+    requires { ⌜ (n < 2 ^ 34) × (ten ≤ 97) ⌝ }
+    ensures { λ r. ⌜ Wrote (now (out .entry)) (now (out .exit)) n r (map (digitFrom ten) (digits 16 2 b)) ⌝ }
+{
+    put(out, n, hex_digit(b / 16 % 16, ten));
+    put(out, n + 1, hex_digit(b % 16, ten));
+    n + 2
+}
+
+// How many digits a number has.
+fn digit_count(v: u64) -> usize
+    requires { ⌜ v < 10 ^ 10 ⌝ }
+    ensures { λ r. ⌜ (r ≤ 10) × (fixedDecimal r v ≡ decimal v) ⌝ }
+{
+    if v < 10 {
+        return 1;
+    }
+    if v < 100 {
+        return 2;
+    }
+    if v < 1000 {
+        return 3;
+    }
+    if v < 10000 {
+        return 4;
+    }
+    if v < 100000 {
+        return 5;
+    }
+    if v < 1000000 {
+        return 6;
+    }
+    if v < 10000000 {
+        return 7;
+    }
+    if v < 100000000 {
+        return 8;
+    }
+    if v < 1000000000 {
+        return 9;
+    }
+    10
+}
+
+// Decimal without leading zeros.
+pub fn put_decimal(out: &mut [u8], n: usize, v: u64) -> usize
+    requires { ⌜ (n < 2 ^ 32) × (v < 10 ^ 10) ⌝ }
+    ensures { λ r. ⌜ Wrote (now (out .entry)) (now (out .exit)) n r (decimal v) ⌝ }
+{
+    let w = digit_count(v);
+    put_fixed(out, n, w, v)
+}

@@ -1,0 +1,138 @@
+-- What printing answers, and when a text surely fits.
+use Prim.Native.Nat.{ℕ, zero, suc, _+_, _-_, _*_, _≤_, _<_}
+use mathlib.Core.Path.{_≡_, refl, sym, ap, _∙_, subst}
+use mathlib.Core.Bool.{Bool, true, false, _&&_, true≢false}
+use mathlib.Core.List.{List, [], _∷_}
+use native.Mathlib.Omega.{arith}
+use lib.ListN.{length, getD}
+use lib.Dec.{leb}
+use borrow.Author.Tests.{le-leb, lt-leb}
+use Rattle.format.specs.Lists.{anyOf, allOf}
+use Rattle.format.specs.Octets.{Octets}
+use Rattle.format.specs.Field.{Symbol, Kind, tail}
+use Rattle.format.specs.Run.{shown, refused, parts, partsOf, textOfParts, textOf}
+use Rattle.format.specs.Entries.{done, refusal, printing}
+use Rattle.format.specs.Demands.{tailsLast, soundKind}
+use Rattle.format.proofs.Field.{isBitmap}
+use Rattle.format.proofs.Run.{no-tail}
+use Rattle.format.proofs.Bound.{tail-bitmap, plain-within, text-within}
+use denote.Enum.Declared.{tagOf}
+use types.Run.{OneOf, miss}
+use Rattle.stanza_types.specs.declared.Form.{Form}
+use Rattle.stanza_types.specs.declared.Form.the-variants.{Int, Rrtype, Bitmap, Dotted, Aa, Aaaa, Name, Str, Strs, Raw, Base32, Base64, Hex, Hexc, Eui, Time}
+use Rattle.stanza_types.specs.Types.{kindOf}
+use Rattle.stanza_types.specs.declared.FieldDesc.{FieldDesc}
+use Rattle.stanza_judge.specs.declared.Outline.{Outline}
+use Rattle.stanza_types.specs.Fields.{noField}
+use Rattle.stanza_code.specs.Code.{fieldsOf}
+use Rattle.stanza_judge.specs.Stanza.{Outlined}
+use Rattle.run_wire.specs.Run.{kindsFrom}
+use Rattle.stanza_types.specs.Fields.{kindFor}
+use Rattle.run_wire.proofs.Laws.{kinds-many}
+use Rattle.run_print.specs.Printing.{Accepted}
+use Rattle.entry.specs.Entries.{runText}
+use Rattle.entry_print.specs.Needs.{Needs}
+use Rattle.entry.proofs.Laws.{accepted, refused as not-judged}
+use Rattle.entry.proofs.Runs.{kinds-length, run-kinds}
+
+-- every kind of a run by its number
+module _ (f : Kind → Bool) (s : List ℕ) (fs : List FieldDesc) where
+  all-of : (k m : ℕ) → ((j : ℕ) → j < m → f (kindFor s (getD fs (k + j) noField)) ≡ true) → allOf f (kindsFrom s fs k m) ≡ true
+  all-of k zero h = refl
+  all-of k (suc m) h =
+      let q : k + 0 ≡ k = omega arith in
+      let a : f (kindFor s (getD fs k noField)) ≡ true = subst (λ i. f (kindFor s (getD fs i noField)) ≡ true) q (h 0 (omega arith)) in
+      rw a (all-of (k + 1) m (λ j l. let r : k + suc j ≡ k + 1 + j = omega arith in subst (λ i. f (kindFor s (getD fs i noField)) ≡ true) r (h (suc j) (omega arith))))
+
+-- a run whose last field is not R[L] has none
+plain-kind : (k : Kind) → tail k ≡ false → isBitmap k ≡ false
+plain-kind k h = by (isBitmap k) refl
+  where
+    by : (b : Bool) → isBitmap k ≡ b → isBitmap k ≡ false
+    by true e = absurd (true≢false (sym (tail-bitmap k e) ∙ h))
+    by false e = e
+
+plain-run : (s : List ℕ) (fs : List FieldDesc) (k m : ℕ) → tailsLast (kindsFrom s fs k (suc m)) ≡ true → isBitmap (kindFor s (getD fs (k + m) noField)) ≡ false
+    → anyOf isBitmap (kindsFrom s fs k (suc m)) ≡ false
+plain-run s fs k zero t h = let q : k + 0 ≡ k = omega arith in rw (rw q at h)
+plain-run s fs k (suc m) t h =
+    let (a, b) = no-tail (kindFor s (getD fs k noField)) (kindFor s (getD fs (k + 1) noField)) (kindsFrom s fs (k + 1 + 1) m) t in
+    let q : k + suc m ≡ k + 1 + m = omega arith in
+    rw (plain-kind (kindFor s (getD fs k noField)) a) (plain-run s fs (k + 1) m b (rw q at h))
+
+module _ (s : List ℕ) (fs : List FieldDesc) (first many : ℕ) (xs : List ℕ) (b : Octets xs) (a : Accepted s fs first many xs) where
+  all-sound : allOf soundKind (kindsFrom s fs first many) ≡ true
+  all-sound = all-of soundKind s fs first many (λ j l. a .usable .fields j l .sound)
+
+  text-parts : textOf (kindsFrom s fs first many) xs ≡ textOfParts shown (kindsFrom s fs first many) (a .taken-all .0)
+  unfolding textOf
+  text-parts = rw (a .taken-all .1)
+
+  pub surely : 1 ≤ many → (d : FieldDesc) → d ≡ getD fs (first + many - 1) noField → isBitmap (kindFor s d) ≡ false → (room : ℕ) → 4 * length xs + 64 * many ≤ room → length (textOf (kindsFrom s fs first many) xs) ≤ room
+  surely h d f k room l = by many refl h
+    where
+      by : (m : ℕ) → many ≡ m → 1 ≤ m → length (textOf (kindsFrom s fs first many) xs) ≤ room
+      by zero e h = absurd (omega arith)
+      by (suc m) e h =
+          let i : first + many - 1 ≡ first + m = omega arith in
+          let t : tailsLast (kindsFrom s fs first (suc m)) ≡ true = subst (λ n. tailsLast (kindsFrom s fs first n) ≡ true) e (a .usable .tails) in
+          let p : anyOf isBitmap (kindsFrom s fs first many) ≡ false = subst (λ n. anyOf isBitmap (kindsFrom s fs first n) ≡ false) (sym e) (plain-run s fs first m t (rw (f, i) at k)) in
+          omega (arith, plain-within (kindsFrom s fs first many) p all-sound xs b (a .taken-all .0) (a .taken-all .1), ap length text-parts, kinds-many s fs first many)
+
+  pub text-short : length (textOf (kindsFrom s fs first many) xs) ≤ 1048576
+  text-short =
+      omega (arith, text-within (kindsFrom s fs first many) (a .usable .tails) all-sound (omega (arith, kinds-many s fs first many, a .usable .within)) xs b (a .short) (a .taken-all .0) (a .taken-all .1), ap length text-parts)
+
+-- what a run answers
+pub text-answer : (ks : List Kind) (xs : List ℕ) (ps : List (List ℕ)) → partsOf ks xs ≡ parts ps → runText ks xs ≡ done (textOf ks xs)
+unfolding textOf
+text-answer ks xs ps e = rw e
+
+pub no-answer : (ks : List Kind) (xs : List ℕ) (n i : ℕ) → partsOf ks xs ≡ refused n i → runText ks xs ≡ refusal n i
+no-answer ks xs n i e = rw e
+
+-- printing, refusal by refusal
+pub print-long : (s : List ℕ) (first many : ℕ) (xs : List ℕ) → 65535 < length xs → printing s first many xs ≡ refusal 1 0
+unfolding printing
+print-long s first many xs h = rw (lt-leb (length xs) 65535 h)
+
+module _ {s codes : List ℕ} {o : Outline} (q : Outlined s codes o) where
+  pub print-rejected : (first many : ℕ) (xs : List ℕ) → length xs ≤ 65535 → 0 < o .number → printing s first many xs ≡ refusal (o .number) (o .line)
+  unfolding printing
+  print-rejected first many xs h n = rw (le-leb (length xs) 65535 h, not-judged q (λ z. omega arith))
+
+  module _ (n : o .number ≡ 0) where
+    pub print-no-run : (first many : ℕ) (xs : List ℕ) → length xs ≤ 65535 → false ≡ leb 1 first && leb (first - 1 + many) (o .count) → printing s first many xs ≡ refusal 6 0
+    unfolding printing
+    print-no-run first many xs h r = rw (le-leb (length xs) 65535 h, accepted q n, kinds-length q n, ← r)
+
+    pub print-runs : (first many : ℕ) → true ≡ leb 1 first && leb (first - 1 + many) (o .count) → (xs : List ℕ) → length xs ≤ 65535
+        → printing s first many xs ≡ runText (kindsFrom s (fieldsOf codes) (first - 1) many) xs
+    unfolding printing
+    print-runs first many r xs h = rw (le-leb (length xs) 65535 h, accepted q n, kinds-length q n, ← r, run-kinds q n first many r)
+
+-- a form other than R[L]'s
+pub other-form : (f : Form) → OneOf (0 ∷ 1 ∷ 3 ∷ 4 ∷ 5 ∷ 6 ∷ 7 ∷ 8 ∷ 9 ∷ 10 ∷ 11 ∷ 12 ∷ 13 ∷ 14 ∷ 15 ∷ []) (tagOf Rattle.stanza_types.proofs.Form.the-type f) → (l : List Symbol) → isBitmap (kindOf l f) ≡ false
+other-form (Int w) h l = refl
+other-form Rrtype h l = refl
+other-form Bitmap h l = absurd (miss (0 ∷ 1 ∷ 3 ∷ 4 ∷ 5 ∷ 6 ∷ 7 ∷ 8 ∷ 9 ∷ 10 ∷ 11 ∷ 12 ∷ 13 ∷ 14 ∷ 15 ∷ []) 2 tt h)
+other-form Dotted h l = refl
+other-form Aa h l = refl
+other-form Aaaa h l = refl
+other-form (Name m) h l = refl
+other-form Str h l = refl
+other-form Strs h l = refl
+other-form Raw h l = refl
+other-form Base32 h l = refl
+other-form Base64 h l = refl
+other-form Hex h l = refl
+other-form Hexc h l = refl
+other-form (Eui w) h l = refl
+other-form Time h l = refl
+
+-- the room that a text needs: none to tell where it fits, else its length
+pub fitting-needs : (room : ℕ) (t : List ℕ) → length t ≤ room → length t ≤ 1048576 → Needs room 0 t
+fitting-needs room t h l = record { told = λ z. absurd (omega arith); fits = λ z. h; short = l }
+
+pub measured-needs : (room r : ℕ) (t : List ℕ) → r ≡ 0 + length t → length t ≤ 1048576 → Needs room r t
+measured-needs room r t e l = record { told = λ z. omega arith; fits = λ z. omega arith; short = l }

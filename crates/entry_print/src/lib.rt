@@ -1,0 +1,140 @@
+// Printing: the refusals in their order, and the text where there is room for it.
+ghost use Prim.Native.Nat.{ℕ, _+_, _≤_};
+ghost use mathlib.Core.Path.{_≡_};
+ghost use mathlib.Core.Bool.{true};
+ghost use mathlib.Core.List.{List};
+ghost use lib.ListN.{length};
+ghost use Rattle.format.specs.Octets.{Octets};
+ghost use Rattle.format.specs.Entries;
+ghost use Rattle.format.specs.Entries.{done};
+ghost use Rattle.format.specs.Run.{textOf};
+ghost use Rattle.stanza_code.specs.Code.{fieldsOf};
+ghost use Rattle.run_wire.specs.Run.{kindsFrom, UsableRun};
+ghost use Rattle.run_print.specs.Printing.{Accepted};
+ghost use Rattle.entry.specs.Entries.{Leaves, withRoom, runText};
+ghost use Rattle.entry_print.specs.Needs.{Needs};
+use entry::Reply;
+use run_wire::Checked;
+use stanza_types::Form;
+
+// Whether the text of so many octets fits the room whatever they are: R[L] apart no octet prints as more than 4, beside 64 a
+// field. Measuring tells where this does not.
+fn surely_fits(codes: &[u64; 64], first: usize, many: usize, octets: usize, room: usize) -> bool
+    requires { ⌜ (first + many ≤ 64) × (octets ≤ 65535) ⌝ }
+    ensures { λ r. ⌜ (r ≡ true → (s xs : List ℕ) → Octets xs → length xs ≡ octets → Accepted s (fieldsOf (now (codes .entry))) first many xs → length (textOf (kindsFrom s (fieldsOf (now (codes .entry))) first many) xs) ≤ room) ⌝ }
+{
+    if many < 1 {
+        return false;
+    }
+    if room < 4 * octets + 64 * many {
+        return false;
+    }
+    let d = stanza_code::field(codes[first + many - 1]);
+    let f = d.form;
+    if let Form::Bitmap = f {
+        return false;
+    }
+    true
+}
+
+// The room that the text needs: 0 where it surely fits, else its length, measured on the empty part at the buffer's end.
+fn needed(
+    s: &[u8],
+    codes: &[u64; 64],
+    first: usize,
+    many: usize,
+    p: &[u8],
+    out: &mut [u8],
+    room: usize,
+) -> usize
+    requires { ⌜ Accepted (now s) (fieldsOf (now codes)) first many (now p) ⌝ }
+    ensures { λ r. ⌜ (now (out .exit) ≡ now (out .entry)) × Needs room r (textOf (kindsFrom (now (s .entry)) (fieldsOf (now (codes .entry))) first many) (now (p .entry))) ⌝ }
+{
+    if surely_fits(codes, first, many, p.len(), room) {
+        return 0;
+    }
+    let end = out.len();
+    run_print::put_run(&mut out[end..], codes, first, many, s, p)
+}
+
+// The text of RDATA that the run takes, from a place of the buffer on.
+fn put_text(
+    s: &[u8],
+    codes: &[u64; 64],
+    first: usize,
+    many: usize,
+    p: &[u8],
+    out: &mut [u8],
+    at: usize,
+) -> Reply
+    requires { ⌜ Accepted (now s) (fieldsOf (now codes)) first many (now p) ⌝ }
+    ensures { λ r. ⌜ Leaves r (now (out .exit)) (withRoom (now (out .entry)) at (done (textOf (kindsFrom (now (s .entry)) (fieldsOf (now (codes .entry))) first many) (now (p .entry))))) ⌝ }
+{
+    let n = out.len();
+    let a = buffer::least(at, n);
+    let need = needed(s, codes, first, many, p, out, n - a);
+    if n - a < need {
+        return Reply {
+            number: 12,
+            place: need as u32,
+        };
+    }
+    let w = run_print::put_run(&mut out[a..], codes, first, many, s, p);
+    Reply {
+        number: 0,
+        place: w as u32,
+    }
+}
+
+// RDATA under a run of a judged stanza.
+fn print_run(
+    s: &[u8],
+    codes: &[u64; 64],
+    first: usize,
+    many: usize,
+    p: &[u8],
+    out: &mut [u8],
+    at: usize,
+) -> Reply
+    requires { ⌜ UsableRun (now s) (fieldsOf (now codes)) first many × (length (now p) ≤ 65535) ⌝ }
+    ensures { λ r. ⌜ Leaves r (now (out .exit)) (withRoom (now (out .entry)) at (runText (kindsFrom (now (s .entry)) (fieldsOf (now (codes .entry))) first many) (now (p .entry)))) ⌝ }
+{
+    let c = run_wire::check(codes, first, many, p);
+    match c {
+        Checked::Refused(number, place) => Reply {
+            number: number,
+            place: place,
+        },
+        Checked::Good => put_text(s, codes, first, many, p, out, at),
+    }
+}
+
+// Print RDATA under so many fields of a description, from number first on: 0 and the count of the text's octets, which
+// stand in out from at on; or a refusal's number and place, and out as it was.
+pub fn print(s: &[u8], first: usize, many: usize, p: &[u8], out: &mut [u8], at: usize) -> Reply
+    ensures { λ r. ⌜ Leaves r (now (out .exit)) (Entries.print (now (s .entry)) first many (now (p .entry)) (now (out .entry)) at) ⌝ }
+{
+    if 65535 < p.len() {
+        return Reply {
+            number: 1,
+            place: 0,
+        };
+    }
+    let mut codes = [0u64; 64];
+    let o = stanza_judge::judged_outline(s, &mut codes);
+    let n = o.number;
+    if 0 < n {
+        return Reply {
+            number: n as u32,
+            place: o.line as u32,
+        };
+    }
+    let count = o.count;
+    if entry::is_run(first, many, count) {
+        return print_run(s, &codes, first - 1, many, p, out, at);
+    }
+    Reply {
+        number: 6,
+        place: 0,
+    }
+}

@@ -1,0 +1,112 @@
+// The octets of a text under a run of fields, where there is room for them.
+ghost use Prim.Native.Nat.{_-_, _≤_};
+ghost use mathlib.Core.Path.{_≡_};
+ghost use mathlib.Core.Bool.{true};
+ghost use lib.ListN.{length};
+ghost use Rattle.format.specs.Name.{isWireName};
+ghost use Rattle.stanza_code.specs.Code.{fieldsOf};
+ghost use Rattle.run_wire.specs.Run.{kindsFrom, UsableRun};
+ghost use Rattle.entry.specs.Entries.{Leaves, withRoom, runOctets, ReadsIn};
+use entry::Reply;
+use run_read::Run;
+
+// The octets of a text that the run reads, from a place of the buffer on, where there is room: read a second time.
+fn read_again(
+    s: &[u8],
+    codes: &[u64; 64],
+    first: usize,
+    many: usize,
+    origin: &[u8],
+    t: &[u8],
+    out: &mut [u8],
+    at: usize,
+) -> Reply
+    requires { ⌜ UsableRun (now s) (fieldsOf (now codes)) first many × (isWireName (now origin) ≡ true) × (length (now t) ≤ 1048576) × ReadsIn (kindsFrom (now s) (fieldsOf (now codes)) first many) (now origin) (now t) (length (now out) - at) ⌝ }
+    ensures { λ r. ⌜ Leaves r (now (out .exit)) (withRoom (now (out .entry)) at (runOctets (kindsFrom (now (s .entry)) (fieldsOf (now (codes .entry))) first many) (now (origin .entry)) (now (t .entry)))) ⌝ }
+{
+    let a = buffer::least(at, out.len());
+    let r = run_read::read_run(&mut out[a..], codes, first, many, s, origin, t);
+    match r {
+        Run::Refused(number, place) => Reply {
+            number: number,
+            place: place,
+        },
+        Run::Done(m) => Reply {
+            number: 0,
+            place: m as u32,
+        },
+    }
+}
+
+// A refusal.
+fn refused(number: u32, place: u32) -> Reply
+    ensures { λ r. ⌜ (r .number ≡ number) × (r .place ≡ place) ⌝ }
+{
+    Reply {
+        number: number,
+        place: place,
+    }
+}
+
+// A text under a run of a judged stanza, by way of a short buffer: nothing lent changes before the result is known to be
+// whole. Of a result that is longer only the count is kept, and it is read again.
+fn read_through(
+    short: &mut [u8],
+    s: &[u8],
+    codes: &[u64; 64],
+    first: usize,
+    many: usize,
+    origin: &[u8],
+    t: &[u8],
+    out: &mut [u8],
+    at: usize,
+) -> Reply
+    requires { ⌜ UsableRun (now s) (fieldsOf (now codes)) first many × (isWireName (now origin) ≡ true) × (length (now t) ≤ 1048576) ⌝ }
+    ensures { λ r. ⌜ Leaves r (now (out .exit)) (withRoom (now (out .entry)) at (runOctets (kindsFrom (now (s .entry)) (fieldsOf (now (codes .entry))) first many) (now (origin .entry)) (now (t .entry)))) ⌝ }
+{
+    let r = run_read::read_run(short, codes, first, many, s, origin, t);
+    match r {
+        Run::Refused(number, place) => refused(number, place),
+        Run::Done(m) => {
+            if 65535 < m {
+                return refused(11, 0);
+            }
+            let n = out.len();
+            let from = buffer::least(at, n);
+            if n - from < m {
+                return refused(12, m as u32);
+            }
+            if short.len() < m {
+                return read_again(s, codes, first, many, origin, t, out, at);
+            }
+            let w = buffer::put_all(&mut out[from..], 0, &short[0..m]);
+            Reply {
+                number: 0,
+                place: w as u32,
+            }
+        }
+    }
+}
+
+// The same by way of an array of its own: one of 1,024 octets, soon cleared, where the text is short; else one of 12,288, which
+// every bitmap (8,704) fits.
+pub fn read_run(
+    s: &[u8],
+    codes: &[u64; 64],
+    first: usize,
+    many: usize,
+    origin: &[u8],
+    t: &[u8],
+    out: &mut [u8],
+    at: usize,
+) -> Reply
+    requires { ⌜ UsableRun (now s) (fieldsOf (now codes)) first many × (isWireName (now origin) ≡ true) × (length (now t) ≤ 1048576) ⌝ }
+    ensures { λ r. ⌜ Leaves r (now (out .exit)) (withRoom (now (out .entry)) at (runOctets (kindsFrom (now (s .entry)) (fieldsOf (now (codes .entry))) first many) (now (origin .entry)) (now (t .entry)))) ⌝ }
+{
+    if t.len() <= 1024 {
+        let mut short = [0u8; 1024];
+        return read_through(&mut short, s, codes, first, many, origin, t, out, at);
+    }
+    let mut long = [0u8; 12288];
+    read_through(&mut long, s, codes, first, many, origin, t, out, at)
+}

@@ -1,0 +1,105 @@
+// Writers of one octet of a name or a string, escaped where that is due.
+ghost use mathlib.Core.Bool.{cond};
+ghost use mathlib.Core.Path.{_≡_};
+ghost use mathlib.Core.List.{[], _∷_};
+ghost use Prim.Native.Nat.{_^_, _<_};
+ghost use Rattle.format.specs.Number.{fixedDecimal};
+ghost use Rattle.format.specs.Octets.{ascii, among, inRange};
+ghost use Rattle.format.specs.Name.{nameEscape};
+ghost use Rattle.format.specs.Text.{stringEscape};
+ghost use Rattle.buffer.specs.Writing.{Wrote};
+use buffer::put;
+use buffer::put_octet;
+use digits::put_fixed;
+
+// Whether an octet stands after a backslash in a name's text.
+fn name_special(b: u8) -> bool
+    ensures { λ r. ⌜ r ≡ among b (ascii ".\\\"';()@$") ⌝ }
+{
+    if b == b'.' {
+        return true;
+    }
+    if b == b'\\' {
+        return true;
+    }
+    if b == b'"' {
+        return true;
+    }
+    if b == b'\'' {
+        return true;
+    }
+    if b == b';' {
+        return true;
+    }
+    if b == b'(' {
+        return true;
+    }
+    if b == b')' {
+        return true;
+    }
+    if b == b'@' {
+        return true;
+    }
+    if b == b'$' {
+        return true;
+    }
+    false
+}
+
+// A backslash and the octet.
+fn put_slashed(out: &mut [u8], n: usize, b: u8) -> usize
+    requires { ⌜ n < 2 ^ 32 ⌝ }
+    ensures { λ r. ⌜ Wrote (now (out .entry)) (now (out .exit)) n r (92 ∷ b ∷ []) ⌝ }
+{
+    put(out, n, b'\\');
+    put(out, n + 1, b);
+    n + 2
+}
+
+// A backslash and three digits.
+fn put_ddd(out: &mut [u8], n: usize, b: u8) -> usize
+    requires { ⌜ n < 2 ^ 32 ⌝ }
+    ensures { λ r. ⌜ Wrote (now (out .entry)) (now (out .exit)) n r (92 ∷ fixedDecimal 3 b) ⌝ }
+{
+    let m = put_octet(out, n, b'\\');
+    put_fixed(out, m, 3, b as u64)
+}
+
+// An octet from lo to 7E hex as it is, another by its number.
+fn put_shown(out: &mut [u8], n: usize, lo: u8, b: u8) -> usize
+    requires { ⌜ n < 2 ^ 32 ⌝ }
+    ensures { λ r. ⌜ Wrote (now (out .entry)) (now (out .exit)) n r (cond (inRange lo 0x7E b) (b ∷ []) (92 ∷ fixedDecimal 3 b)) ⌝ }
+{
+    if b < lo {
+        return put_ddd(out, n, b);
+    }
+    if b'~' < b {
+        return put_ddd(out, n, b);
+    }
+    put_octet(out, n, b)
+}
+
+// An octet of a name's label.
+pub fn put_escaped_name(out: &mut [u8], n: usize, b: u8) -> usize
+    requires { ⌜ n < 2 ^ 32 ⌝ }
+    ensures { λ r. ⌜ Wrote (now (out .entry)) (now (out .exit)) n r (nameEscape b) ⌝ }
+{
+    if name_special(b) {
+        return put_slashed(out, n, b);
+    }
+    put_shown(out, n, b'!', b)
+}
+
+// An octet of a quoted string.
+pub fn put_escaped_string(out: &mut [u8], n: usize, b: u8) -> usize
+    requires { ⌜ n < 2 ^ 32 ⌝ }
+    ensures { λ r. ⌜ Wrote (now (out .entry)) (now (out .exit)) n r (stringEscape b) ⌝ }
+{
+    if b == b'"' {
+        return put_slashed(out, n, b);
+    }
+    if b == b'\\' {
+        return put_slashed(out, n, b);
+    }
+    put_shown(out, n, b' ', b)
+}

@@ -1,0 +1,26 @@
+// EUI48 and EUI64, pairs of hex digits.
+ghost use Prim.Native.Nat.{_^_, _<_, _≤_};
+ghost use lib.ListN.{length};
+ghost use lib.Seq.{slice};
+ghost use Rattle.format.specs.Eui.{euiText};
+ghost use Rattle.buffer.specs.Writing.{Wrote};
+use buffer::put_octet;
+use digits::put_hex_octet;
+
+// Two lower-case digits an octet, with hyphens between.
+pub fn field(out: &mut [u8], n: usize, p: &[u8], i: usize, e: usize) -> usize
+    requires { ⌜ (n < 2 ^ 30) × (i ≤ e) × (e ≤ length (now p)) × (length (now p) ≤ 65535) ⌝ }
+    ensures { λ r. ⌜ Wrote (now (out .entry)) (now (out .exit)) n r (euiText (slice i e (now (p .entry)))) ⌝ }
+{
+    if e <= i {
+        return n;
+    }
+    let mut m = put_hex_octet(out, n, p[i], b'a');
+    let mut j = i + 1;
+    while j < e {
+        m = put_octet(out, m, b'-');
+        m = put_hex_octet(out, m, p[j], b'a');
+        j = j + 1;
+    }
+    m
+}

@@ -1,0 +1,3 @@
+mod Fields
+mod Texts
+pub mod Forms

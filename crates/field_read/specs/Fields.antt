@@ -1,0 +1,57 @@
+-- What the code's answer for a field means, by the definitions of document 01.
+use Prim.Native.Nat.{ℕ, _<_, _≤_}
+use mathlib.Core.Path.{_≡_}
+use mathlib.Core.Bool.{Bool, true, false}
+use mathlib.Core.List.{List}
+use lib.ListN.{length, drop}
+use Rattle.format.specs.Field.{Kind, int, rrtype, bitmap, a4, aa, aaaa, name, str, strs, raw, b32, b64, hex, hexc, eui, time}
+use Rattle.format.specs.Token.{tokens}
+use Rattle.format.specs.Run.{Got, noToken, badToken, got}
+use Rattle.buffer.specs.Writing.{Wrote}
+use Rattle.buffer.specs.declared.Value.{Value}
+use Rattle.buffer.specs.declared.Value.the-variants.{Fault as NoValue, Upto as ValueUpto}
+use Rattle.base.specs.declared.read.Got.{Got as Rest}
+use Rattle.base.specs.declared.read.Got.the-variants.{Missing as NoToken, Fault as BadToken, Upto as RestUpto}
+use Rattle.field_read.specs.declared.Field.{Field}
+use Rattle.field_read.specs.declared.Field.the-variants.{Missing, Fault, Upto}
+
+-- "other tails all that are left"
+abbrev pub takesOne : Kind → Bool
+takesOne (int w l) = true
+takesOne rrtype = true
+takesOne bitmap = false
+takesOne a4 = true
+takesOne aa = true
+takesOne aaaa = true
+takesOne (name m) = true
+takesOne str = true
+takesOne strs = false
+takesOne raw = true
+takesOne b32 = true
+takesOne b64 = false
+takesOne hex = false
+takesOne hexc = true
+takesOne (eui w) = true
+takesOne time = true
+
+-- a reader's answer, after which the tokens from j on are left
+abbrev pub placedAt : Value → ℕ → Field
+placedAt NoValue j = Fault
+placedAt (ValueUpto m) j = Upto m j
+
+abbrev pub gotAt : Rest → ℕ → Field
+gotAt NoToken j = Missing
+gotAt BadToken j = Fault
+gotAt (RestUpto m) j = Upto m j
+
+-- a field's octets stand in the buffer from a place on, and the tokens from j on are left; or none was there, or a rule is broken
+abbrev pub Gives : List ℕ → List ℕ → ℕ → List ℕ → Field → Got → Type 0
+Gives before after place t Missing g = g ≡ noToken
+Gives before after place t Fault g = g ≡ badToken
+Gives before after place t (Upto r j) g = (xs : List ℕ) × (g ≡ got xs (tokens (drop j t))) × Wrote before after place r xs × (j ≤ length t)
+
+-- a token is gone; or none was there, and nothing is stored
+abbrev pub Onward : List ℕ → List ℕ → ℕ → Field → Type 0
+Onward before after i Missing = after ≡ before
+Onward before after i Fault = Unit {0}
+Onward before after i (Upto r j) = i < j

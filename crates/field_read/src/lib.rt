@@ -1,0 +1,158 @@
+// One field's octets from its tokens.
+pub mod value;
+
+ghost use Prim.Native.Nat.{ℕ, _^_, _<_, _≤_};
+ghost use mathlib.Core.Path.{_≡_};
+ghost use mathlib.Core.Bool.{true};
+ghost use mathlib.Core.List.{List, []};
+ghost use lib.ListN.{length, drop};
+ghost use Rattle.format.specs.Field.{Symbol, strs};
+ghost use Rattle.format.specs.Token.{tokens};
+ghost use Rattle.format.specs.Name.{isWireName};
+ghost use Rattle.format.specs.Run.{readField, oneToken};
+ghost use Rattle.format.specs.Text.{readString};
+ghost use Rattle.stanza_types.specs.Types.{kindOf};
+ghost use Rattle.stanza_types.specs.Fields.{kindFor, Usable};
+ghost use Rattle.field_read.specs.Fields.{takesOne, placedAt, gotAt, Gives, Onward};
+use base::read::Got;
+use base::read::base64_rest;
+use base::read::hex_rest;
+use buffer::Value;
+use stanza_types::FieldDesc;
+use stanza_types::Form;
+use tokens::Next;
+use tokens::next_token;
+
+// What a field makes of the tokens that are left: none is there; a rule is broken; or its octets are stored up to a place,
+// and the tokens from another place of the text on are left.
+pub enum Field {
+    Missing,
+    Fault,
+    Upto(usize, usize),
+}
+
+// A value, after which the tokens from j on are left.
+fn before(v: Value, j: usize) -> Field
+    ensures { λ r. ⌜ r ≡ placedAt v j ⌝ }
+{
+    match v {
+        Value::Fault => Field::Fault,
+        Value::Upto(m) => Field::Upto(m, j),
+    }
+}
+
+// No token is left: N[O] takes none.
+fn none_left(f: Form, n: usize, i: usize) -> Field
+    ensures { λ r. ⌜ ((b t : List ℕ) (l : List Symbol) (o : List ℕ) → i ≤ length t → tokens (drop i t) ≡ [] → takesOne (kindOf l f) ≡ true → Gives b b n t r (readField (kindOf l f) o [])) ⌝ }
+{
+    if let Form::Name(m) = f {
+        if 8 <= m {
+            return Field::Upto(n, i);
+        }
+    }
+    Field::Missing
+}
+
+// A field that takes one token.
+fn one_token(
+    out: &mut [u8],
+    n: usize,
+    d: FieldDesc,
+    s: &[u8],
+    origin: &[u8],
+    t: &[u8],
+    i: usize,
+) -> Field
+    requires { ⌜ (n < 2 ^ 30) × Usable (now s) d × (length (now s) ≤ 8192) × (isWireName (now origin) ≡ true) × (i ≤ length (now t)) × (length (now t) ≤ 1048576) × (takesOne (kindFor (now s) d) ≡ true) ⌝ }
+    ensures { λ r. ⌜ Gives (now (out .entry)) (now (out .exit)) n (now (t .entry)) r (readField (kindFor (now (s .entry)) d) (now (origin .entry)) (tokens (drop i (now (t .entry))))) ⌝ }
+{
+    let f = d.form;
+    let k = next_token(t, i);
+    match k {
+        Next::End => none_left(f, n, i),
+        Next::Bare(a, e) => before(crate::value::of_bare(out, n, d, s, origin, t, a, e), e),
+        Next::Quoted(a, e) => before(crate::value::of_quoted(out, n, f, t, a, e), e + 1),
+        Next::Broken => Field::Fault,
+    }
+}
+
+// The next string.
+fn string(out: &mut [u8], n: usize, t: &[u8], i: usize) -> Field
+    requires { ⌜ (n < 2 ^ 30) × (i ≤ length (now t)) × (length (now t) ≤ 1048576) ⌝ }
+    ensures { λ r. ⌜ Gives (now (out .entry)) (now (out .exit)) n (now (t .entry)) r (oneToken readString (tokens (drop i (now (t .entry))))) × Onward (now (out .entry)) (now (out .exit)) i r ⌝ }
+{
+    let k = next_token(t, i);
+    match k {
+        Next::End => Field::Missing,
+        Next::Bare(a, e) => before(text::read::string(out, n, t, a, e, false), e),
+        Next::Quoted(a, e) => before(text::read::string(out, n, t, a, e, true), e + 1),
+        Next::Broken => Field::Fault,
+    }
+}
+
+// The strings of all the tokens that are left, one at least.
+fn strings(out: &mut [u8], n: usize, t: &[u8], i: usize) -> Field
+    requires { ⌜ (n < 2 ^ 29) × (i ≤ length (now t)) × (length (now t) ≤ 1048576) ⌝ }
+    ensures { λ r. ⌜ ((o : List ℕ) → Gives (now (out .entry)) (now (out .exit)) n (now (t .entry)) r (readField strs o (tokens (drop i (now (t .entry)))))) ⌝ }
+{
+    let mut m = n;
+    let mut j = i;
+    loop {
+        let r = string(out, m, t, j);
+        match r {
+            Field::Missing => {
+                if m <= n {
+                    return Field::Missing;
+                }
+                return Field::Upto(m, j);
+            }
+            Field::Fault => {
+                return Field::Fault;
+            }
+            Field::Upto(p, k) => {
+                m = p;
+                j = k;
+            }
+        }
+    }
+}
+
+// What all the tokens came to, after which none is left from j on.
+fn all(r: Got, j: usize) -> Field
+    ensures { λ q. ⌜ q ≡ gotAt r j ⌝ }
+{
+    match r {
+        Got::Missing => Field::Missing,
+        Got::Fault => Field::Fault,
+        Got::Upto(m) => Field::Upto(m, j),
+    }
+}
+
+// A field from the tokens from i on.
+pub fn read_field(
+    out: &mut [u8],
+    n: usize,
+    d: FieldDesc,
+    s: &[u8],
+    origin: &[u8],
+    t: &[u8],
+    i: usize,
+) -> Field
+    requires { ⌜ (n < 2 ^ 29) × Usable (now s) d × (length (now s) ≤ 8192) × (isWireName (now origin) ≡ true) × (i ≤ length (now t)) × (length (now t) ≤ 1048576) ⌝ }
+    ensures { λ r. ⌜ Gives (now (out .entry)) (now (out .exit)) n (now (t .entry)) r (readField (kindFor (now (s .entry)) d) (now (origin .entry)) (tokens (drop i (now (t .entry))))) ⌝ }
+{
+    let f = d.form;
+    if let Form::Bitmap = f {
+        return before(bitmap::read::read(out, n, t, i), t.len());
+    }
+    if let Form::Strs = f {
+        return strings(out, n, t, i);
+    }
+    if let Form::Base64 = f {
+        return all(base64_rest(out, n, t, i), t.len());
+    }
+    if let Form::Hex = f {
+        return all(hex_rest(out, n, t, i), t.len());
+    }
+    one_token(out, n, d, s, origin, t, i)
+}

@@ -1,0 +1,185 @@
+// One field taken off the wire, by jumps over the lengths that it gives.
+ghost use Prim.Native.Nat.{ℕ, _-_, _≤_};
+ghost use lib.ListN.{length};
+ghost use lib.Seq.{slice};
+ghost use mathlib.Core.Path.{_≡_};
+ghost use mathlib.Core.Bool.{false};
+ghost use mathlib.Core.List.{List};
+ghost use Rattle.format.specs.Wire.{taken, count, labelLength, toTheEnd, stringCount, window};
+ghost use Rattle.format.specs.Field.{Symbol, anyOctets, start};
+ghost use Rattle.stanza_types.specs.Types.{kindOf};
+ghost use Rattle.field_wire.specs.Wire.{takenIn};
+use stanza_types::Form;
+
+// What a field takes from its place on: octets are absent, one breaks its rule, or it takes so many.
+pub enum Take {
+    Short,
+    Bad,
+    Took(usize),
+}
+
+// w octets of any value; their values do not matter.
+fn octets(i: usize, e: usize, w: usize) -> Take
+    requires { ⌜ (i ≤ e) × (1 ≤ w) ⌝ }
+    ensures { λ r. ⌜ ((s : List ℕ) → e ≤ length s → takenIn r ≡ taken (anyOctets w) (slice i e s)) ⌝ }
+{
+    if e - i < w {
+        return Take::Short;
+    }
+    Take::Took(w)
+}
+
+// Octets to the end, one at least.
+fn rest(i: usize, e: usize) -> Take
+    requires { ⌜ i ≤ e ⌝ }
+    ensures { λ r. ⌜ ((s : List ℕ) → e ≤ length s → takenIn r ≡ taken (toTheEnd false) (slice i e s)) ⌝ }
+{
+    if i < e {
+        return Take::Took(e - i);
+    }
+    Take::Short
+}
+
+// A count of lo or more, and as many octets.
+fn counted(s: &[u8], i: usize, e: usize, lo: u8) -> Take
+    requires { ⌜ (i ≤ e) × (e ≤ length (now s)) ⌝ }
+    ensures { λ r. ⌜ takenIn r ≡ taken (count lo) (slice i e (now (s .entry))) ⌝ }
+{
+    if e <= i {
+        return Take::Short;
+    }
+    let b = s[i];
+    if b < lo {
+        return Take::Bad;
+    }
+    let n = b as usize;
+    if e - i <= n {
+        return Take::Short;
+    }
+    Take::Took(1 + n)
+}
+
+// A name: labels, each after its length, and the closing zero.
+pub fn name(s: &[u8], i: usize, e: usize, optional: bool) -> Take
+    requires { ⌜ (i ≤ e) × (e ≤ length (now s)) ⌝ }
+    ensures { λ r. ⌜ takenIn r ≡ taken (labelLength optional 0) (slice i e (now (s .entry))) ⌝ }
+{
+    if e <= i {
+        if optional {
+            return Take::Took(0);
+        }
+        return Take::Short;
+    }
+    let mut j = i;
+    while j < e {
+        let n = s[j] as usize;
+        if n < 1 {
+            return Take::Took(j - i + 1);
+        }
+        if 63 < n {
+            return Take::Bad;
+        }
+        if 255 < j - i + 1 + n + 1 {
+            return Take::Bad;
+        }
+        if e - j <= n {
+            return Take::Short;
+        }
+        j = j + 1 + n;
+    }
+    Take::Short
+}
+
+// Counted strings to the end, one at least.
+fn strings(s: &[u8], i: usize, e: usize) -> Take
+    requires { ⌜ (i ≤ e) × (e ≤ length (now s)) ⌝ }
+    ensures { λ r. ⌜ takenIn r ≡ taken (stringCount false) (slice i e (now (s .entry))) ⌝ }
+{
+    if e <= i {
+        return Take::Short;
+    }
+    let mut j = i;
+    while j < e {
+        let n = s[j] as usize;
+        if e - j <= n {
+            return Take::Short;
+        }
+        j = j + 1 + n;
+    }
+    Take::Took(j - i)
+}
+
+// Blocks to the end: a window, higher than those before, a count of 1 to 32, and octets of which the last is not zero.
+fn bitmap(s: &[u8], i: usize, e: usize) -> Take
+    requires { ⌜ (i ≤ e) × (e ≤ length (now s)) ⌝ }
+    ensures { λ r. ⌜ takenIn r ≡ taken (window 0) (slice i e (now (s .entry))) ⌝ }
+{
+    let mut lo: usize = 0;
+    let mut j = i;
+    while j < e {
+        let w = s[j] as usize;
+        if w < lo {
+            return Take::Bad;
+        }
+        if e - j < 2 {
+            return Take::Short;
+        }
+        let n = s[j + 1] as usize;
+        if n < 1 {
+            return Take::Bad;
+        }
+        if 32 < n {
+            return Take::Bad;
+        }
+        if e - j < 2 + n {
+            return Take::Short;
+        }
+        if s[j + 1 + n] == 0 {
+            return Take::Bad;
+        }
+        lo = w + 1;
+        j = j + 2 + n;
+    }
+    Take::Took(j - i)
+}
+
+// The octets of an integer or an EUI, where none means one.
+fn width(w: u8) -> usize
+    ensures { λ r. ⌜ (1 ≤ r) × (r - 1 ≡ w - 1) ⌝ }
+{
+    if w < 1 {
+        return 1;
+    }
+    w as usize
+}
+
+// The field of a form.
+pub fn take_field(f: Form, s: &[u8], i: usize, e: usize) -> Take
+    requires { ⌜ (i ≤ e) × (e ≤ length (now s)) ⌝ }
+    ensures { λ r. ⌜ ((l : List Symbol) → takenIn r ≡ taken (start (kindOf l f)) (slice i e (now (s .entry)))) ⌝ }
+{
+    match f {
+        Form::Int(w) => {
+            let n = width(w);
+            octets(i, e, n)
+        }
+        Form::Rrtype => octets(i, e, 2),
+        Form::Bitmap => bitmap(s, i, e),
+        Form::Dotted => octets(i, e, 4),
+        Form::Aa => octets(i, e, 8),
+        Form::Aaaa => octets(i, e, 16),
+        Form::Name(m) => name(s, i, e, 8 <= m),
+        Form::Str => counted(s, i, e, 0),
+        Form::Strs => strings(s, i, e),
+        Form::Raw => rest(i, e),
+        Form::Base32 => counted(s, i, e, 1),
+        Form::Base64 => rest(i, e),
+        Form::Hex => rest(i, e),
+        Form::Hexc => counted(s, i, e, 1),
+        Form::Eui(w) => {
+            let n = width(w);
+            octets(i, e, n)
+        }
+        Form::Time => octets(i, e, 4),
+    }
+}

@@ -1,0 +1,96 @@
+use Rattle.name.proofs.Names.{no-label, dot-after, dot-count, dot-begun, last-count, with-origin, with-zero, limited-begun}
+use Rattle.buffer.proofs.Values.{Begun, begun-none}
+use Rattle.name.specs.Name.{spelled}
+use lib.Seq.{slice}
+use lib.ListN.{length}
+use mathlib.Core.Path.{_≡_}
+use Prim.Native.Nat.{_+_, _-_, _≤_}
+use native.Mathlib.Omega.{arith}
+use borrow.Author.Needs.{needs}
+use Rattle.name.proofs.read.labels.Statement.{statement}
+use Rattle.name.proofs.read.labels.Tie as tie
+
+abbrev Inv-loop : tie.InvT-loop
+Inv-loop out₀ n t a e origin m₀ j₀ out m j = (a ≤ j) × (j ≤ e) × (n ≤ m) × (m ≤ n + 255) × (length out ≡ length out₀) × Begun out₀ out n m (spelled origin (slice a e t)) (spelled origin (slice j e t))
+
+abbrev μ-loop : tie.MeasureT-loop
+μ-loop out₀ n t a e origin m₀ j₀ out m j = e - j
+
+loop-holds : tie.Need-loop-holds Inv-loop μ-loop
+loop-holds c = (search needs, search needs, search needs, search needs, search needs, begun-none _ _ _)
+
+label-requires : tie.Need-label-requires Inv-loop μ-loop
+label-requires c κs = search needs
+
+enum-told : tie.Need-enum-told Inv-loop μ-loop
+enum-told c = search needs
+
+same-length : tie.Need-same-length Inv-loop μ-loop
+same-length c = search needs
+
+returns : tie.Need-returns Inv-loop μ-loop
+returns c = no-label (c .before .before .before .before .before .before .before .before .before .before .before .args .origin .now) (c .before .before .before .before .before .before .before .before .before .before .before .args .t .now) (c .before .before .before .before .before .before .before .loop .j) (c .before .before .before .before .before .before .before .before .before .before .before .args .e) (c .before .before .before .before .before .before .before .loop .inv .5) _ (c .before .before .before .before .label .result) (c .before .before .before .before .label .ensures) (c .enum-told .given .1)
+
+enum-known-x : tie.Need-enum-known-x Inv-loop μ-loop
+enum-known-x c = search needs
+
+finish-requires : tie.Need-finish-requires Inv-loop μ-loop
+finish-requires c κs = let w = last-count (c .before .before .before .before .before .before .before .before .before .before .before .before .before .args .origin .now) (c .before .before .before .before .before .before .before .before .before .before .before .before .before .args .t .now) (c .before .before .before .before .before .before .before .before .before .loop .j) (c .before .before .before .before .before .before .before .before .before .before .before .before .before .args .e) (c .before .before .before .before .before .before .before .before .before .loop .inv .5) _ (c .before .before .before .before .before .before .label .result) (c .before .before .before .before .before .before .label .ensures) _ (c .before .before .x .given .1) in (omega (arith, w, c .before .before .before .before .before .before .before .before .before .loop .inv .2), omega (arith, w, c .before .before .before .before .before .before .before .before .before .loop .inv .3, c .before .before .before .before .before .before .before .before .before .before .before .before .before .pre .0), c .before .before .before .before .before .before .before .before .before .before .before .before .before .pre .3)
+
+same-length-2 : tie.Need-same-length-2 Inv-loop μ-loop
+same-length-2 c = search needs
+
+returns-2 : tie.Need-returns-2 Inv-loop μ-loop
+returns-2 c = with-origin (c .before .before .before .before .before .before .before .before .before .before .before .before .before .before .before .before .args .origin .now) (c .before .before .before .before .before .before .before .before .before .before .before .before .before .before .before .before .args .t .now) (c .before .before .before .before .before .before .before .before .before .before .before .before .loop .j) (c .before .before .before .before .before .before .before .before .before .before .before .before .before .before .before .before .args .e) (c .before .before .before .before .before .before .before .before .before .before .before .before .loop .inv .5) _ (c .before .before .before .before .before .before .before .before .before .label .result) (c .before .before .before .before .before .before .before .before .before .label .ensures) _ (c .before .before .before .before .before .x .given .1) _ (c .before .before .finish .result) (c .before .before .finish .ensures)
+
+enum-known-x-2 : tie.Need-enum-known-x-2 Inv-loop μ-loop
+enum-known-x-2 c = search needs
+
+sub-if1 : tie.Need-sub-if1 Inv-loop μ-loop
+sub-if1 c = let w = dot-count (c .before .before .before .before .before .before .before .before .before .before .before .before .args .origin .now) (c .before .before .before .before .before .before .before .before .before .before .before .before .args .t .now) (c .before .before .before .before .before .before .before .before .loop .j) (c .before .before .before .before .before .before .before .before .before .before .before .before .args .e) (c .before .before .before .before .before .before .before .before .loop .inv .5) _ (c .before .before .before .before .before .label .result) (c .before .before .before .before .before .label .ensures) _ _ (c .before .x2 .given .1) in omega (arith, w, c .before .before .before .before .before .before .before .before .loop .inv .2)
+
+same-length-3 : tie.Need-same-length-3 Inv-loop μ-loop
+same-length-3 c = search needs
+
+returns-3 : tie.Need-returns-3 Inv-loop μ-loop
+returns-3 c = limited-begun (dot-begun (c .before .before .before .before .before .before .before .before .before .before .before .before .before .args .origin .now) (c .before .before .before .before .before .before .before .before .before .before .before .before .before .args .t .now) (c .before .before .before .before .before .before .before .before .before .loop .j) (c .before .before .before .before .before .before .before .before .before .before .before .before .before .args .e) (c .before .before .before .before .before .before .before .before .before .loop .inv .5) _ (c .before .before .before .before .before .before .label .result) (c .before .before .before .before .before .before .label .ensures) _ _ (c .before .before .x2 .given .1)) (c .if1 .taken)
+
+loop-less : tie.Need-loop-less Inv-loop μ-loop
+loop-less c = let w = dot-after (c .before .before .before .before .before .before .before .before .before .before .before .before .before .args .origin .now) (c .before .before .before .before .before .before .before .before .before .before .before .before .before .args .t .now) (c .before .before .before .before .before .before .before .before .before .loop .j) (c .before .before .before .before .before .before .before .before .before .before .before .before .before .args .e) (c .before .before .before .before .before .before .before .before .before .loop .inv .5) _ (c .before .before .before .before .before .before .label .result) (c .before .before .before .before .before .before .label .ensures) _ _ (c .before .before .x2 .given .1) in omega (arith, w .on, w .within, c .before .before .before .before .before .before .before .before .loop-test .taken)
+
+loop-again : tie.Need-loop-again Inv-loop μ-loop
+loop-again c = let w = dot-after (c .before .before .before .before .before .before .before .before .before .before .before .before .before .args .origin .now) (c .before .before .before .before .before .before .before .before .before .before .before .before .before .args .t .now) (c .before .before .before .before .before .before .before .before .before .loop .j) (c .before .before .before .before .before .before .before .before .before .before .before .before .before .args .e) (c .before .before .before .before .before .before .before .before .before .loop .inv .5) _ (c .before .before .before .before .before .before .label .result) (c .before .before .before .before .before .before .label .ensures) _ _ (c .before .before .x2 .given .1) in (omega (arith, w .on, c .before .before .before .before .before .before .before .before .before .loop .inv .0), w .within, omega (arith, w .wrote .count, c .before .before .before .before .before .before .before .before .before .loop .inv .2), omega (arith, c .if1 .left), search needs, dot-begun (c .before .before .before .before .before .before .before .before .before .before .before .before .before .args .origin .now) (c .before .before .before .before .before .before .before .before .before .before .before .before .before .args .t .now) (c .before .before .before .before .before .before .before .before .before .loop .j) (c .before .before .before .before .before .before .before .before .before .before .before .before .before .args .e) (c .before .before .before .before .before .before .before .before .before .loop .inv .5) _ (c .before .before .before .before .before .before .label .result) (c .before .before .before .before .before .before .label .ensures) _ _ (c .before .before .x2 .given .1))
+
+finish-requires-2 : tie.Need-finish-requires-2 Inv-loop μ-loop
+finish-requires-2 c κs = search needs
+
+same-length-4 : tie.Need-same-length-4 Inv-loop μ-loop
+same-length-4 c = search needs
+
+returns-4 : tie.Need-returns-4 Inv-loop μ-loop
+returns-4 c = with-zero (c .before .before .before .before .before .before .before .before .before .args .origin .now) (c .before .before .before .before .before .before .before .before .before .args .t .now) (c .before .before .before .before .before .loop .j) (c .before .before .before .before .before .before .before .before .before .args .e) (c .before .before .before .before .before .loop .inv .5) (c .before .before .before .before .loop-test .left) _ (c .before .before .finish2 .result) (c .before .before .finish2 .ensures)
+
+pub labels-spec : {M : Type 1} → statement M
+labels-spec =
+    tie.close
+    (tie.spec
+    Inv-loop
+    μ-loop
+    loop-holds
+    label-requires
+    enum-told
+    same-length
+    returns
+    enum-known-x
+    finish-requires
+    same-length-2
+    returns-2
+    enum-known-x-2
+    sub-if1
+    same-length-3
+    returns-3
+    loop-less
+    loop-again
+    finish-requires-2
+    same-length-4
+    returns-4)

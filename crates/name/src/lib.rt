@@ -1,0 +1,3 @@
+// N: domain names.
+pub mod print;
+pub mod read;

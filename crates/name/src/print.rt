@@ -1,0 +1,59 @@
+// Names.
+ghost use Prim.Native.Nat.{_-_, _^_, _<_, _≤_};
+ghost use mathlib.Core.Path.{_≡_};
+ghost use mathlib.Core.Bool.{true};
+ghost use mathlib.Core.List.{map};
+ghost use lib.ListN.{length};
+ghost use lib.Seq.{slice};
+ghost use Rattle.format.specs.Lists.{flatMap, parted};
+ghost use Rattle.format.specs.Octets.{ascii};
+ghost use Rattle.format.specs.Wire.{taken, took, labelLength};
+ghost use Rattle.format.specs.Text.{pieces};
+ghost use Rattle.format.specs.Name.{nameEscape, nameText};
+ghost use Rattle.buffer.specs.Writing.{Wrote};
+use buffer::put_octet;
+use escape::print::put_escaped_name;
+
+// The octets of p from i to e, escaped.
+fn escaped(out: &mut [u8], n: usize, p: &[u8], i: usize, e: usize) -> usize
+    requires { ⌜ (n ≤ 2 ^ 31) × (i ≤ e) × (e ≤ length (now p)) × (length (now p) ≤ 65535) ⌝ }
+    ensures { λ r. ⌜ Wrote (now (out .entry)) (now (out .exit)) n r (flatMap nameEscape (slice i e (now (p .entry)))) ⌝ }
+{
+    let mut m = n;
+    let mut j = i;
+    while j < e {
+        m = put_escaped_name(out, m, p[j]);
+        j = j + 1;
+    }
+    m
+}
+
+// The labels of a name from i to e, a dot after each.
+fn labels(out: &mut [u8], n: usize, p: &[u8], i: usize, e: usize) -> usize
+    requires { ⌜ (n < 2 ^ 30) × (i < e) × (e ≤ length (now p)) × (length (now p) ≤ 65535) × (taken (labelLength true 0) (slice i e (now p)) ≡ took (e - i)) ⌝ }
+    ensures { λ r. ⌜ Wrote (now (out .entry)) (now (out .exit)) n r (parted (ascii ".") (map (flatMap nameEscape) (pieces (slice i e (now (p .entry)))))) ⌝ }
+{
+    let mut m = n;
+    let mut j = i;
+    while j + 1 < e {
+        let k = j + 1 + p[j] as usize;
+        let a = escaped(out, m, p, j + 1, k);
+        m = put_octet(out, a, b'.');
+        j = k;
+    }
+    m
+}
+
+// The name of p from i to e, or nothing where no octets are.
+pub fn name(out: &mut [u8], n: usize, p: &[u8], i: usize, e: usize) -> usize
+    requires { ⌜ (n < 2 ^ 30) × (i ≤ e) × (e ≤ length (now p)) × (length (now p) ≤ 65535) × (taken (labelLength true 0) (slice i e (now p)) ≡ took (e - i)) ⌝ }
+    ensures { λ r. ⌜ Wrote (now (out .entry)) (now (out .exit)) n r (nameText (slice i e (now (p .entry)))) ⌝ }
+{
+    if e <= i {
+        return n;
+    }
+    if e <= i + 1 {
+        return put_octet(out, n, b'.');
+    }
+    labels(out, n, p, i, e)
+}

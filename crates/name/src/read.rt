@@ -1,0 +1,145 @@
+// Names.
+ghost use Prim.Native.Nat.{_^_, _<_, _≤_};
+ghost use mathlib.Core.Path.{_≡_};
+ghost use mathlib.Core.Bool.{true};
+ghost use lib.ListN.{length};
+ghost use lib.Seq.{slice};
+ghost use Rattle.format.specs.Name.{isWireName, readName};
+ghost use Rattle.buffer.specs.Writing.{Values};
+ghost use Rattle.name.specs.Name.{sole, spelled, limited, limitedEnd, OneItem, Labelled, nameEnd, Finished};
+use buffer::Value;
+use buffer::put;
+use buffer::put_all;
+use buffer::put_octet;
+use escape::read::Escape;
+
+// What stands after a label: a fault in it; a dot, with the places after it in the text and after the label in the buffer; or
+// the end of the text, with the latter.
+enum LabelEnd {
+    Fault,
+    Dot(usize, usize),
+    Last(usize),
+}
+
+// The octet of a text of one, else 0.
+fn sole_octet(t: &[u8], a: usize, e: usize) -> u8
+    requires { ⌜ (a ≤ e) × (e ≤ length (now t)) ⌝ }
+    ensures { λ r. ⌜ r ≡ sole (slice a e (now (t .entry))) ⌝ }
+{
+    if e - a == 1 {
+        return t[a];
+    }
+    0
+}
+
+// The place m, where at most 255 octets stand from n up to it.
+fn limited_end(n: usize, m: usize) -> Value
+    requires { ⌜ n ≤ m ⌝ }
+    ensures { λ r. ⌜ r ≡ limitedEnd n m ⌝ }
+{
+    if 255 < m - n {
+        return Value::Fault;
+    }
+    Value::Upto(m)
+}
+
+// The octet at i, or that of the escape that begins there.
+fn octet(t: &[u8], i: usize, e: usize) -> Escape
+    requires { ⌜ (i < e) × (e ≤ length (now t)) ⌝ }
+    ensures { λ r. ⌜ OneItem (now (t .entry)) i e r ⌝ }
+{
+    let b = t[i];
+    if b == b'\\' {
+        return escape::read::read(t, i + 1, e);
+    }
+    Escape::Octet(b, i + 1)
+}
+
+// The label that begins at i: its octets, then its count before them.
+fn label(out: &mut [u8], n: usize, t: &[u8], i: usize, e: usize) -> LabelEnd
+    requires { ⌜ (n < 2 ^ 31) × (i < e) × (e ≤ length (now t)) ⌝ }
+    ensures { λ r. ⌜ Labelled (now (out .entry)) (now (out .exit)) n (now (t .entry)) i e r ⌝ }
+{
+    let mut m = n + 1;
+    let mut j = i;
+    while j < e {
+        if t[j] == b'.' {
+            if m <= n + 1 {
+                return LabelEnd::Fault;
+            }
+            put(out, n, (m - (n + 1)) as u8);
+            return LabelEnd::Dot(j + 1, m);
+        }
+        let x = octet(t, j, e);
+        match x {
+            Escape::Fault => {
+                return LabelEnd::Fault;
+            }
+            Escape::Octet(b, k) => {
+                if n + 63 < m {
+                    return LabelEnd::Fault;
+                }
+                put(out, m, b);
+                m = m + 1;
+                j = k;
+            }
+        }
+    }
+    put(out, n, (m - (n + 1)) as u8);
+    LabelEnd::Last(m)
+}
+
+// The end of a name whose labels stand from n up to m: a zero octet, or the origin.
+fn finish(out: &mut [u8], n: usize, m: usize, origin: &[u8], absolute: bool) -> Value
+    requires { ⌜ (n ≤ m) × (m < 2 ^ 31) × (length (now origin) ≤ 255) ⌝ }
+    ensures { λ r. ⌜ Finished (now (out .entry)) (now (out .exit)) n m (nameEnd absolute (now (origin .entry))) r ⌝ }
+{
+    if absolute {
+        return limited_end(n, put_octet(out, m, 0));
+    }
+    limited_end(n, put_all(out, m, origin))
+}
+
+// The labels from a on, then a zero octet after a final dot, else the origin.
+fn labels(out: &mut [u8], n: usize, t: &[u8], a: usize, e: usize, origin: &[u8]) -> Value
+    requires { ⌜ (n < 2 ^ 30) × (a ≤ e) × (e ≤ length (now t)) × (length (now origin) ≤ 255) ⌝ }
+    ensures { λ r. ⌜ Values (now (out .entry)) (now (out .exit)) n r (limited (spelled (now (origin .entry)) (slice a e (now (t .entry))))) ⌝ }
+{
+    let mut m = n;
+    let mut j = a;
+    while j < e {
+        let x = label(out, m, t, j, e);
+        match x {
+            LabelEnd::Fault => {
+                return Value::Fault;
+            }
+            LabelEnd::Last(r) => {
+                return finish(out, n, r, origin, false);
+            }
+            LabelEnd::Dot(k, r) => {
+                if 255 < r - n {
+                    return Value::Fault;
+                }
+                j = k;
+                m = r;
+            }
+        }
+    }
+    finish(out, n, m, origin, true)
+}
+
+// The name that the octets of t from a to e spell: the root, the origin, an absolute name, or a relative one with the origin
+// after it.
+pub fn name(out: &mut [u8], n: usize, t: &[u8], a: usize, e: usize, origin: &[u8]) -> Value
+    requires { ⌜ (n < 2 ^ 30) × (a ≤ e) × (e ≤ length (now t)) × (length (now t) ≤ 1048576) × (isWireName (now origin) ≡ true) ⌝ }
+    ensures { λ r. ⌜ Values (now (out .entry)) (now (out .exit)) n r (readName (now (origin .entry)) (slice a e (now (t .entry)))) ⌝ }
+{
+    let b = sole_octet(t, a, e);
+    if b == b'@' {
+        return Value::Upto(put_all(out, n, origin));
+    }
+    if b == b'.' {
+        return Value::Upto(put_octet(out, n, 0));
+    }
+    labels(out, n, t, a, e, origin)
+}

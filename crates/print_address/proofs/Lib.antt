@@ -1,2 +1,0 @@
-pub mod GroupTexts
-pub mod ZeroRuns

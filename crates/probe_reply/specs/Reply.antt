@@ -1,0 +1,45 @@
+-- What answers a request.
+use Prim.Native.Nat.{ℕ, min}
+use Prim.Native.Char.{code}
+use mathlib.Core.Bool.{cond}
+use mathlib.Core.List.{List, [], _++_}
+use mathlib.Core.Option.{Option, none, some}
+use lib.ListN.{length, take}
+use lib.Dec.{eqb}
+use Rattle.format.specs.Octets.{ascii}
+use Rattle.format.specs.Entries.{Answer, done, refusal, maxText, printing, reading, ifRoom, Outcome, judge}
+use Rattle.format.specs.Job.{job}
+use Rattle.probe_request.specs.Request.{Asked}
+use Rattle.probe_line.specs.Replies.{octetsText, judgedLine, resultLine, unknownLine}
+
+-- "PLACE is the count where NUMBER is 0, and the last word is '-' on a refusal."
+abbrev pub answerLine : Answer → List ℕ
+answerLine (done t) = resultLine 0 (length t) t
+answerLine (refusal n i) = resultLine n i []
+
+abbrev pub outcomeLine : Outcome → List ℕ
+outcomeLine o = judgedLine (o .number) (o .place)
+
+-- "LINES are those that the program job writes"
+abbrev pub jobLine : List ℕ → List ℕ
+jobLine j = octetsText (job j) ++ ascii "\n"
+
+-- the room for a result is that of the longest text at most
+abbrev pub roomOf : ℕ → ℕ
+roomOf n = min n maxText
+
+abbrev pub lineOf : Asked → List ℕ
+lineOf a =
+    cond (eqb (a .letter) (code "J")) (outcomeLine (judge (a .stanza)))
+    (cond (eqb (a .letter) (code "P")) (answerLine (ifRoom (roomOf (a .room)) (printing (a .stanza) (a .first) (a .many) (a .octets))))
+    (cond (eqb (a .letter) (code "R")) (answerLine (ifRoom (roomOf (a .room)) (reading (a .stanza) (a .first) (a .many) (a .origin) (a .octets))))
+    (cond (eqb (a .letter) (code "W")) (jobLine (a .stanza)) unknownLine)))
+
+-- "A line that is no request .. answers '?'."
+abbrev pub replyTo : Option Asked → List ℕ
+replyTo none = unknownLine
+replyTo (some a) = lineOf a
+
+-- the octets of a result, which stand at the start of a buffer
+abbrev pub resultOf : ℕ → ℕ → List ℕ → List ℕ
+resultOf n i xs = cond (eqb n 0) (take i xs) []

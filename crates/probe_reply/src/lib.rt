@@ -1,0 +1,106 @@
+// What answers a request.
+ghost use Prim.Native.Nat.{_^_, _≤_};
+ghost use mathlib.Core.Path.{_≡_};
+ghost use lib.ListN.{length};
+ghost use Rattle.format.specs.Entries.{ifRoom, printing, reading};
+ghost use Rattle.format.specs.Entries.{judge as Entries·judge};
+ghost use Rattle.buffer.specs.Writing.{Wrote};
+ghost use Rattle.probe_line.specs.Replies.{resultLine};
+ghost use Rattle.probe_request.specs.Words.{Within, asked};
+ghost use Rattle.probe_reply.specs.Reply.{answerLine, outcomeLine, replyTo, resultOf};
+use probe_line::put_judged;
+use probe_line::put_result;
+use probe_line::put_unknown;
+use probe_request::Request;
+
+// Judging.
+fn judge(stanza: &[u8], out: &mut [u8]) -> usize
+    ensures { λ r. ⌜ Wrote (now (out .entry)) (now (out .exit)) 0 r (outcomeLine (Entries·judge (now (stanza .entry)))) ⌝ }
+{
+    let reply = entry::judge(stanza);
+    put_judged(out, reply.number, reply.place)
+}
+
+// An answer, whose octets stand at the start of a buffer.
+fn put_reply(out: &mut [u8], number: u32, place: u32, text: &[u8]) -> usize
+    requires { ⌜ (number ≡ 0 → place ≤ length (now text)) × (length (now text) ≤ 2 ^ 30) ⌝ }
+    ensures { λ r. ⌜ Wrote (now (out .entry)) (now (out .exit)) 0 r (resultLine number place (resultOf number place (now (text .entry)))) ⌝ }
+{
+    if number == 0 {
+        let n = place as usize;
+        return put_result(out, number, place, &text[0..n]);
+    }
+    put_result(out, number, place, &text[0..0])
+}
+
+// Printing into a buffer that is as long as the room.
+fn print(
+    stanza: &[u8],
+    first: usize,
+    many: usize,
+    rdata: &[u8],
+    text: &mut [u8],
+    out: &mut [u8],
+) -> usize
+    requires { ⌜ length (now text) ≤ 1048576 ⌝ }
+    ensures { λ r. ⌜ Wrote (now (out .entry)) (now (out .exit)) 0 r (answerLine (ifRoom (length (now (text .entry))) (printing (now (stanza .entry)) first many (now (rdata .entry))))) ⌝ }
+{
+    let reply = entry_print::print(stanza, first, many, rdata, text, 0);
+    put_reply(out, reply.number, reply.place, text)
+}
+
+// Reading into a buffer that is as long as the room.
+fn read(
+    stanza: &[u8],
+    first: usize,
+    many: usize,
+    origin: &[u8],
+    text: &[u8],
+    rdata: &mut [u8],
+    out: &mut [u8],
+) -> usize
+    requires { ⌜ length (now rdata) ≤ 1048576 ⌝ }
+    ensures { λ r. ⌜ Wrote (now (out .entry)) (now (out .exit)) 0 r (answerLine (ifRoom (length (now (rdata .entry))) (reading (now (stanza .entry)) first many (now (origin .entry)) (now (text .entry))))) ⌝ }
+{
+    let reply = entry_read::read(stanza, first, many, origin, text, rdata, 0);
+    put_reply(out, reply.number, reply.place, rdata)
+}
+
+// The answer to a request but a job.
+pub fn put_answer(octets: &[u8], q: Request, text: &mut [u8], out: &mut [u8]) -> usize
+    requires { ⌜ Within (length (now octets)) q × (q .letter ≡ 87 → ⊥) × (length (now text) ≡ 1048576) ⌝ }
+    ensures { λ r. ⌜ Wrote (now (out .entry)) (now (out .exit)) 0 r (replyTo (asked q (now (octets .entry)))) × (r ≤ 2097176) ⌝ }
+{
+    let a = q.stanza.from;
+    let b = q.stanza.to;
+    if q.letter == b'J' {
+        return judge(&octets[a..b], out);
+    }
+    let c = q.octets.from;
+    let d = q.octets.to;
+    let most = buffer::least(q.room, text.len());
+    if q.letter == b'P' {
+        return print(
+            &octets[a..b],
+            q.first,
+            q.many,
+            &octets[c..d],
+            &mut text[0..most],
+            out,
+        );
+    }
+    let e = q.origin.from;
+    let f = q.origin.to;
+    if q.letter == b'R' {
+        return read(
+            &octets[a..b],
+            q.first,
+            q.many,
+            &octets[e..f],
+            &octets[c..d],
+            &mut text[0..most],
+            out,
+        );
+    }
+    put_unknown(out)
+}

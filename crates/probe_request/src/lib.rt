@@ -1,0 +1,319 @@
+// The request lines of the program probe, and their words.
+ghost use mathlib.Core.Path.{_≡_};
+ghost use mathlib.Core.Bool.{false, cond};
+ghost use Prim.Native.Nat.{_-_, _^_, _<_, _≤_, min};
+ghost use lib.ListN.{length, take, drop};
+ghost use lib.Seq.{slice};
+ghost use Rattle.octets.specs.Octets.{lineEnd};
+ghost use Rattle.buffer.specs.Writing.{Values};
+ghost use Rattle.probe_request.specs.Request.{octetsOf, said, oneWord, originWord, runWords, requestOf};
+ghost use Rattle.probe_request.specs.Words.{Within, asked, wordsAt, NextWord, Spells, Counts, Runs};
+use buffer::Value;
+use buffer::least;
+
+// The longest line that may be a request, without its LF.
+const LONGEST: usize = 2200000;
+
+// Where a word stands in its line, or in a buffer the octets that one spelled.
+pub struct Span {
+    pub from: usize,
+    pub to: usize,
+}
+
+// What a line asks for, by its letter, which is 0 where it is no request. A job stands in the place of a stanza.
+pub struct Request {
+    pub letter: u8,
+    pub stanza: Span,
+    pub first: usize,
+    pub many: usize,
+    pub origin: Span,
+    pub octets: Span,
+    pub room: usize,
+}
+
+// Where the octets that a word spells end in the buffer, and where the word ends.
+struct Spelled {
+    good: bool,
+    to: usize,
+    end: usize,
+}
+
+// The number that a word spells, and where the word ends.
+struct Count {
+    good: bool,
+    value: usize,
+    end: usize,
+}
+
+// The words of a request up to its run of fields, and where they end; the stanza's octets end at `to`.
+struct Run {
+    good: bool,
+    to: usize,
+    first: usize,
+    many: usize,
+    end: usize,
+}
+
+// The word after the one that ends at `end`: none where the line ends there.
+fn next_word(line: &[u8], end: usize) -> Span
+    requires { ⌜ end ≤ length (now line) ⌝ }
+    ensures { λ r. ⌜ NextWord (now (line .entry)) end r ⌝ }
+{
+    if end == line.len() {
+        return Span { from: end, to: end };
+    }
+    let from = end + 1;
+    let mut to = from;
+    while to < line.len() {
+        if line[to] == b' ' {
+            return Span { from: from, to: to };
+        }
+        to = to + 1;
+    }
+    Span { from: from, to: to }
+}
+
+// The octets that a word from i to e spells: '-' spells none.
+fn word_octets(out: &mut [u8], n: usize, t: &[u8], i: usize, e: usize) -> Value
+    requires { ⌜ (n ≤ 2 ^ 30) × (i ≤ e) × (e ≤ length (now t)) × (length (now t) ≤ 2 ^ 24) ⌝ }
+    ensures { λ r. ⌜ Values (now (out .entry)) (now (out .exit)) n r (octetsOf (slice i e (now (t .entry)))) ⌝ }
+{
+    if e - i < 1 {
+        return Value::Fault;
+    }
+    if e - i < 2 {
+        if t[i] == b'-' {
+            return Value::Upto(n);
+        }
+        return Value::Fault;
+    }
+    // no octet has the number 100, so none is left out
+    base_group::lettered(out, n, t, i, e, 100, 4, 16, 8, 4)
+}
+
+// The octets that the next word spells, stored from n on.
+fn next_octets(line: &[u8], end: usize, out: &mut [u8], n: usize) -> Spelled
+    requires { ⌜ (end ≤ length (now line)) × (length (now line) ≤ 2 ^ 24) × (n ≤ 2 ^ 30) ⌝ }
+    ensures { λ r. ⌜ Spells (said octetsOf (wordsAt (now (line .entry)) end)) (now (line .entry)) end (now (out .entry)) (now (out .exit)) n r ⌝ }
+{
+    let word = next_word(line, end);
+    let from = word.from;
+    let to = word.to;
+    let v = word_octets(out, n, line, from, to);
+    match v {
+        Value::Fault => Spelled {
+            good: false,
+            to: n,
+            end: to,
+        },
+        Value::Upto(m) => Spelled {
+            good: true,
+            to: m,
+            end: to,
+        },
+    }
+}
+
+// What a word that is no number comes to.
+fn no_number(end: usize) -> Count
+    ensures { λ r. ⌜ r ≡ record { good = false; value = 0; end = end } ⌝ }
+{
+    Count {
+        good: false,
+        value: 0,
+        end: end,
+    }
+}
+
+// The number that the next word's digits spell, of at most 64 bits.
+fn next_number(line: &[u8], end: usize) -> Count
+    requires { ⌜ end ≤ length (now line) ⌝ }
+    ensures { λ r. ⌜ Counts (now (line .entry)) end r ⌝ }
+{
+    let word = next_word(line, end);
+    let from = word.from;
+    let to = word.to;
+    let mut value: usize = 0;
+    let mut i = from;
+    while i < to {
+        let b = line[i];
+        if b < b'0' {
+            return no_number(to);
+        }
+        if b'9' < b {
+            return no_number(to);
+        }
+        let d = (b - b'0') as usize;
+        if (usize::MAX - d) / 10 < value {
+            return no_number(to);
+        }
+        value = value * 10 + d;
+        i = i + 1;
+    }
+    Count {
+        good: from < to,
+        value: value,
+        end: to,
+    }
+}
+
+// The origin's octets, which only a request to read has.
+fn next_origin(line: &[u8], letter: u8, end: usize, out: &mut [u8], n: usize) -> Spelled
+    requires { ⌜ (end ≤ length (now line)) × (length (now line) ≤ 2 ^ 24) × (n ≤ 2 ^ 30) ⌝ }
+    ensures { λ r. ⌜ Spells (originWord letter (wordsAt (now (line .entry)) end)) (now (line .entry)) end (now (out .entry)) (now (out .exit)) n r ⌝ }
+{
+    if letter == b'R' {
+        return next_octets(line, end, out, n);
+    }
+    Spelled {
+        good: true,
+        to: n,
+        end: end,
+    }
+}
+
+// The letter of a good request, else 0.
+fn letter_if(good: bool, letter: u8) -> u8
+    ensures { λ r. ⌜ r ≡ cond good letter 0 ⌝ }
+{
+    if good { letter } else { 0 }
+}
+
+// A request to judge, or a job.
+fn read_one(line: &[u8], octets: &mut [u8], letter: u8) -> Request
+    requires { ⌜ (1 ≤ length (now line)) × (length (now line) ≤ 2200000) × (1100000 ≤ length (now octets)) × (0 < letter) ⌝ }
+    ensures { λ r. ⌜ Within (length (now (octets .entry))) r × (asked r (now (octets .exit)) ≡ oneWord letter (wordsAt (now (line .entry)) 1)) ⌝ }
+{
+    let word = next_octets(line, 1, octets, 0);
+    Request {
+        letter: letter_if(word.good & (word.end == line.len()), letter),
+        stanza: Span {
+            from: 0,
+            to: word.to,
+        },
+        first: 0,
+        many: 0,
+        origin: Span { from: 0, to: 0 },
+        octets: Span { from: 0, to: 0 },
+        room: 0,
+    }
+}
+
+// The stanza and the run of a request.
+fn next_run(line: &[u8], octets: &mut [u8]) -> Run
+    requires { ⌜ (1 ≤ length (now line)) × (length (now line) ≤ 2200000) ⌝ }
+    ensures { λ r. ⌜ Runs (now (line .entry)) (now (octets .entry)) (now (octets .exit)) r ⌝ }
+{
+    let s = next_octets(line, 1, octets, 0);
+    let first = next_number(line, s.end);
+    let many = next_number(line, first.end);
+    Run {
+        good: s.good & first.good & many.good,
+        to: s.to,
+        first: first.value,
+        many: many.value,
+        end: many.end,
+    }
+}
+
+// A request to print, or to read.
+fn read_run(line: &[u8], octets: &mut [u8], letter: u8) -> Request
+    requires { ⌜ (1 ≤ length (now line)) × (length (now line) ≤ 2200000) × (1100000 ≤ length (now octets)) × (0 < letter) ⌝ }
+    ensures { λ r. ⌜ Within (length (now (octets .entry))) r × (asked r (now (octets .exit)) ≡ runWords letter (wordsAt (now (line .entry)) 1)) ⌝ }
+{
+    let run = next_run(line, octets);
+    let o = next_origin(line, letter, run.end, octets, run.to);
+    let t = next_octets(line, o.end, octets, o.to);
+    let room = next_number(line, t.end);
+    let good = run.good & o.good & t.good & room.good;
+    Request {
+        letter: letter_if(good & (room.end == line.len()), letter),
+        stanza: Span {
+            from: 0,
+            to: run.to,
+        },
+        first: run.first,
+        many: run.many,
+        origin: Span {
+            from: run.to,
+            to: o.to,
+        },
+        octets: Span {
+            from: o.to,
+            to: t.to,
+        },
+        room: room.value,
+    }
+}
+
+// What a line that is no request comes to.
+fn no_request() -> Request
+    ensures { λ r. ⌜ Within 0 r × (r .letter ≡ 0) ⌝ }
+{
+    Request {
+        letter: 0,
+        stanza: Span { from: 0, to: 0 },
+        first: 0,
+        many: 0,
+        origin: Span { from: 0, to: 0 },
+        octets: Span { from: 0, to: 0 },
+        room: 0,
+    }
+}
+
+// What a line, which is without its LF, asks for. The octets of its words are stored one after another.
+pub fn read(line: &[u8], octets: &mut [u8]) -> Request
+    requires { ⌜ 1100000 ≤ length (now octets) ⌝ }
+    ensures { λ r. ⌜ Within (length (now (octets .entry))) r × (asked r (now (octets .exit)) ≡ requestOf (now (line .entry))) ⌝ }
+{
+    if line.len() < 2 {
+        return no_request();
+    }
+    if LONGEST < line.len() {
+        return no_request();
+    }
+    if line[1] != b' ' {
+        return no_request();
+    }
+    let letter = line[0];
+    if letter == b'J' {
+        return read_one(line, octets, letter);
+    }
+    if letter == b'W' {
+        return read_one(line, octets, letter);
+    }
+    if letter == b'P' {
+        return read_run(line, octets, letter);
+    }
+    if letter == b'R' {
+        return read_run(line, octets, letter);
+    }
+    no_request()
+}
+
+// The place of the first LF from i on, or the length where there is none.
+pub fn line_end(s: &[u8], i: usize) -> usize
+    requires { ⌜ i ≤ length (now s) ⌝ }
+    ensures { λ r. ⌜ (i ≤ r) × (r ≤ length (now (s .entry))) × (r ≡ lineEnd (now (s .entry)) i) ⌝ }
+{
+    octets::line_end(s, i)
+}
+
+// Moves the octets from a place on, which are the start of a line, to the front, and answers how many are kept: of a line that
+// is too long to be a request, one octet more than one may have. Where they stand there already nothing is moved, so that a
+// long line, which comes in many pieces, is not copied again with each.
+pub fn keep(buf: &mut [u8], start: usize) -> usize
+    requires { ⌜ start ≤ length (now buf) ⌝ }
+    ensures { λ r. ⌜ (r ≡ min (length (now (buf .entry)) - start) 2200001) × (r ≤ length (now (buf .entry))) × (r ≤ 2200001) × (take r (now (buf .exit)) ≡ take r (drop start (now (buf .entry)))) ⌝ }
+{
+    let n = least(buf.len() - start, LONGEST + 1);
+    if start == 0 {
+        return n;
+    }
+    let mut i = 0;
+    while i < n {
+        buf[i] = buf[start + i];
+        i = i + 1;
+    }
+    n
+}

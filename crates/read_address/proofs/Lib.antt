@@ -1,5 +1,0 @@
-pub mod Numbers
-pub mod Parts
-pub mod Read
-pub mod Doubled
-pub mod Groups

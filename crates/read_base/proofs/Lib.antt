@@ -1,3 +1,0 @@
-pub mod Joined
-pub mod HexRest
-pub mod Base64Rest

@@ -1,0 +1,28 @@
+// RR types, `TYPE` and a number.
+ghost use Prim.Native.Nat.{_+_, _^_, _<_, _≤_};
+ghost use mathlib.Core.Path.{_≡_};
+ghost use lib.ListN.{length};
+ghost use lib.Seq.{slice};
+ghost use Rattle.format.specs.Digits;
+ghost use Rattle.format.specs.Rrtype.{typeText};
+ghost use Rattle.buffer.specs.Writing.{Wrote};
+use buffer::put_all;
+use digits::put_decimal;
+use octets::integer::two;
+
+// A type by its number.
+pub fn number(out: &mut [u8], n: usize, v: u64) -> usize
+    requires { ⌜ (n ≤ 2 ^ 31) × (v < 65536) ⌝ }
+    ensures { λ r. ⌜ Wrote (now (out .entry)) (now (out .exit)) n r (typeText v) ⌝ }
+{
+    let m = put_all(out, n, b"TYPE");
+    put_decimal(out, m, v)
+}
+
+// A type that is two octets.
+pub fn field(out: &mut [u8], n: usize, p: &[u8], i: usize, e: usize) -> usize
+    requires { ⌜ (n < 2 ^ 30) × (e ≡ i + 2) × (e ≤ length (now p)) ⌝ }
+    ensures { λ r. ⌜ Wrote (now (out .entry)) (now (out .exit)) n r (typeText (Digits.number 256 (slice i e (now (p .entry))))) ⌝ }
+{
+    number(out, n, two(p, i))
+}

@@ -1,0 +1,121 @@
+// RR types, `TYPE` and a number.
+ghost use Prim.Native.Nat.{_+_, _^_, _<_, _≤_};
+ghost use mathlib.Core.Path.{_≡_};
+ghost use lib.Dec.{eqb};
+ghost use lib.ListN.{length};
+ghost use lib.Seq.{slice};
+ghost use Rattle.format.specs.Octets.{ascii, lowered, sameWord};
+ghost use Rattle.format.specs.Number.{decimalOf};
+ghost use Rattle.format.specs.Rrtype.{typeNumber, readType};
+ghost use mathlib.Core.Option.{some};
+ghost use Rattle.octets.specs.Octets.{numberOf};
+ghost use Rattle.rrtype.specs.Front.{FrontAt};
+ghost use Rattle.buffer.specs.Writing.{Values};
+use buffer::Value;
+use number::read::decimal_below;
+use number::read::value;
+use octets::Number;
+
+// Whether an octet is the capital letter c, or that letter in lower case.
+fn same_letter(b: u8, c: u8) -> bool
+    requires { ⌜ (65 ≤ c) × (c ≤ 90) ⌝ }
+    ensures { λ r. ⌜ r ≡ eqb (lowered b) (lowered c) ⌝ }
+{
+    if b == c {
+        return true;
+    }
+    b == c + 32
+}
+
+// Whether `TYPE` stands at i, letters' case ignored.
+fn named_type(t: &[u8], i: usize) -> bool
+    requires { ⌜ i + 4 ≤ length (now t) ⌝ }
+    ensures { λ r. ⌜ r ≡ sameWord (slice i (i + 4) (now (t .entry))) (ascii "TYPE") ⌝ }
+{
+    if !same_letter(t[i], b'T') {
+        return false;
+    }
+    if !same_letter(t[i + 1], b'Y') {
+        return false;
+    }
+    if !same_letter(t[i + 2], b'P') {
+        return false;
+    }
+    same_letter(t[i + 3], b'E')
+}
+
+// Digits up to a place, and their number.
+struct Digits {
+    end: usize,
+    value: u64,
+}
+
+// At most five digits from i on.
+fn five_digits(t: &[u8], i: usize) -> Digits
+    requires { ⌜ i + 5 ≤ length (now t) ⌝ }
+    ensures { λ r. ⌜ (i ≤ r .end) × (r .end ≤ i + 5) × (i < r .end → decimalOf (slice i (r .end) (now (t .entry))) ≡ some (r .value)) ⌝ }
+{
+    let mut v: u64 = 0;
+    let mut j = i;
+    while j < i + 5 {
+        let b = t[j];
+        if b < b'0' {
+            return Digits { end: j, value: v };
+        }
+        if b'9' < b {
+            return Digits { end: j, value: v };
+        }
+        v = v * 10 + (b - b'0') as u64;
+        j = j + 1;
+    }
+    Digits { end: j, value: v }
+}
+
+// A type that octets begin with: none that is plain; or its number, and where its digits end.
+pub enum Front {
+    Other,
+    Found(u64, usize),
+}
+
+// The type from i on, of at most five digits: they are read in one walk.
+pub fn plain_front(t: &[u8], i: usize) -> Front
+    requires { ⌜ i + 9 ≤ length (now t) ⌝ }
+    ensures { λ r. ⌜ FrontAt (now (t .entry)) i r ⌝ }
+{
+    if named_type(t, i) {
+        let d = five_digits(t, i + 4);
+        let e = d.end;
+        let v = d.value;
+        if e < i + 5 {
+            return Front::Other;
+        }
+        if 65535 < v {
+            return Front::Other;
+        }
+        return Front::Found(v, e);
+    }
+    Front::Other
+}
+
+// The number of a type.
+pub fn number(t: &[u8], i: usize, e: usize) -> Number
+    requires { ⌜ (i ≤ e) × (e ≤ length (now t)) ⌝ }
+    ensures { λ r. ⌜ r ≡ numberOf (typeNumber (slice i e (now (t .entry)))) ⌝ }
+{
+    if e - i < 4 {
+        return Number::Fault;
+    }
+    if named_type(t, i) {
+        return decimal_below(65536, t, i + 4, e);
+    }
+    Number::Fault
+}
+
+// A type in two octets.
+pub fn field(out: &mut [u8], n: usize, t: &[u8], i: usize, e: usize) -> Value
+    requires { ⌜ (n < 2 ^ 30) × (i ≤ e) × (e ≤ length (now t)) ⌝ }
+    ensures { λ r. ⌜ Values (now (out .entry)) (now (out .exit)) n r (readType (slice i e (now (t .entry)))) ⌝ }
+{
+    let v = number(t, i, e);
+    value(out, n, 2, v)
+}

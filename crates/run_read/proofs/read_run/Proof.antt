@@ -1,0 +1,148 @@
+use mathlib.Core.Path.{_≡_, sym, subst, _∙_}
+use mathlib.Core.List.{List, [], _++_}
+use Prim.Native.Nat.{ℕ, _+_, _-_, _≤_}
+use lib.ListN.{length, drop}
+use Rattle.format.specs.Token.{tokens}
+use Rattle.format.specs.Run.{readField, readRun, refused}
+use Rattle.run_wire.specs.Run.{kindsFrom}
+use Rattle.stanza_types.specs.Fields.{Usable}
+use Rattle.run_wire.proofs.Laws.{all-kinds, no-kind, next-kind}
+use Rattle.run_read.specs.Reading.{Stands}
+use Rattle.run_read.proofs.Runs.{Ahead, ahead-start, ahead-missing, ahead-bad, ahead-got, ahead-over, ahead-done, stands-none, stands-next}
+use Rattle.stanza_code.specs.Code.{fieldsOf}
+use Rattle.stanza_code.proofs.Codes.{read-at}
+use native.Mathlib.Omega.{arith}
+use borrow.Author.Needs.{needs}
+use Rattle.run_read.proofs.read_run.Statement.{statement}
+use Rattle.run_read.proofs.read_run.Tie as tie
+use Rattle.run_read.proofs.read_run.Reads as reads
+use Rattle.run_read.proofs.read_run.Lts as lts
+use Rattle.stanza_code.proofs.field.Reads as field-reads
+use Rattle.run_read.proofs.none_from.Reads as none-from-reads
+use Rattle.field_read.proofs.read_field.Reads as read-field-reads
+use Rattle.buffer.proofs.least.Reads as least-reads
+
+abbrev Inv-loop : tie.InvT-loop
+Inv-loop out₀ codes first many s origin t n₀ i₀ k₀ out n i k = (k ≤ many) × (i ≤ length t) × (n ≤ 65536) × (length out ≡ length out₀) × ((xs : List ℕ) × Stands out₀ out n xs × Ahead (λ j ts. readField j origin ts) (kindsFrom s (fieldsOf codes) first many) (tokens t) (kindsFrom s (fieldsOf codes) (first + k) (many - k)) (tokens (drop i t)) k xs)
+
+abbrev μ-loop : tie.MeasureT-loop
+μ-loop out₀ codes first many s origin t n₀ i₀ k₀ out n i k = many - k
+
+loop-holds : tie.Need-loop-holds Inv-loop μ-loop
+loop-holds c = (search needs, search needs, search needs, search needs, ([], stands-none _, subst (λ ks. Ahead (λ j ts. readField j (c .before .before .before .before .args .origin .now) ts) (kindsFrom (c .before .before .before .before .args .s .now) (fieldsOf (c .before .before .before .before .args .codes .now)) (c .before .before .before .before .args .first) (c .before .before .before .before .args .many)) (tokens (c .before .before .before .before .args .t .now)) ks (tokens (c .before .before .before .before .args .t .now)) 0 []) (sym (all-kinds (c .before .before .before .before .args .s .now) (fieldsOf (c .before .before .before .before .args .codes .now)) (c .before .before .before .before .args .first) (c .before .before .before .before .args .many))) (ahead-start _ _ _)))
+
+add-field : tie.Need-add-field Inv-loop μ-loop
+add-field c = omega (arith, c .before .before .before .before .before .before .pre .0 .within)
+
+mul-field : tie.Need-mul-field Inv-loop μ-loop
+mul-field c = search needs
+
+element-copy-out-field : tie.Need-element-copy-out-field Inv-loop μ-loop
+element-copy-out-field c = omega (arith, c .before .before .before .before .before .before .pre .0 .within)
+
+field-requires : tie.Need-field-requires Inv-loop μ-loop
+field-requires c κs = search needs
+
+read-field-requires : tie.Need-read-field-requires Inv-loop μ-loop
+read-field-requires c κs = (omega (arith, c .before .before .before .before .loop .inv .2), subst (Usable (c .before .before .before .before .before .before .before .before .before .args .s .now)) (sym (read-at (c .before .before .before .before .before .before .before .before .before .args .codes .now) _ (c .before .field .ensures))) (c .before .before .before .before .before .before .before .before .before .pre .0 .fields (c .before .before .before .before .loop .k) (c .before .before .before .loop-test .taken)), c .before .before .before .before .before .before .before .before .before .pre .0 .short, c .before .before .before .before .before .before .before .before .before .pre .1, c .before .before .before .before .loop .inv .1, c .before .before .before .before .before .before .before .before .before .pre .2)
+
+enum-told : tie.Need-enum-told Inv-loop μ-loop
+enum-told c = search needs
+
+cast-t23 : tie.Need-cast-t23 Inv-loop μ-loop
+cast-t23 c = search needs
+
+add-t24 : tie.Need-add-t24 Inv-loop μ-loop
+add-t24 c = search needs
+
+same-length : tie.Need-same-length Inv-loop μ-loop
+same-length c = search needs
+
+returns : tie.Need-returns Inv-loop μ-loop
+returns c = ahead-missing _ (c .before .before .before .before .before .before .before .before .before .loop .inv .4 .2) _ _ (next-kind (c .before .before .before .before .before .before .before .before .before .before .before .before .before .before .args .s .now) (fieldsOf (c .before .before .before .before .before .before .before .before .before .before .before .before .before .before .args .codes .now)) (c .before .before .before .before .before .before .before .before .before .before .before .before .before .before .args .first) (c .before .before .before .before .before .before .before .before .before .before .before .before .before .before .args .many) (c .before .before .before .before .before .before .before .before .before .loop .k) (c .before .before .before .before .before .before .before .before .loop-test .taken) (c .before .before .before .before .before .before .field .result) (read-at (c .before .before .before .before .before .before .before .before .before .before .before .before .before .before .args .codes .now) _ (c .before .before .before .before .before .before .field .ensures))) (rw (c .enum-told .given .1) at (c .before .before .before .before .read-field .ensures))
+
+enum-told-2 : tie.Need-enum-told-2 Inv-loop μ-loop
+enum-told-2 c = search needs
+
+cast-t25 : tie.Need-cast-t25 Inv-loop μ-loop
+cast-t25 c = search needs
+
+add-t26 : tie.Need-add-t26 Inv-loop μ-loop
+add-t26 c = search needs
+
+same-length-2 : tie.Need-same-length-2 Inv-loop μ-loop
+same-length-2 c = search needs
+
+returns-2 : tie.Need-returns-2 Inv-loop μ-loop
+returns-2 c = ahead-bad _ (c .before .before .before .before .before .before .before .before .before .loop .inv .4 .2) _ _ (next-kind (c .before .before .before .before .before .before .before .before .before .before .before .before .before .before .args .s .now) (fieldsOf (c .before .before .before .before .before .before .before .before .before .before .before .before .before .before .args .codes .now)) (c .before .before .before .before .before .before .before .before .before .before .before .before .before .before .args .first) (c .before .before .before .before .before .before .before .before .before .before .before .before .before .before .args .many) (c .before .before .before .before .before .before .before .before .before .loop .k) (c .before .before .before .before .before .before .before .before .loop-test .taken) (c .before .before .before .before .before .before .field .result) (read-at (c .before .before .before .before .before .before .before .before .before .before .before .before .before .before .args .codes .now) _ (c .before .before .before .before .before .before .field .ensures))) (rw (c .enum-told2 .given .1) at (c .before .before .before .before .read-field .ensures))
+
+enum-known-r : tie.Need-enum-known-r Inv-loop μ-loop
+enum-known-r c = search needs
+
+least-requires : tie.Need-least-requires Inv-loop μ-loop
+least-requires c κs = search needs
+
+add-k : tie.Need-add-k Inv-loop μ-loop
+add-k c = search needs
+
+loop-less : tie.Need-loop-less Inv-loop μ-loop
+loop-less c = search needs
+
+loop-again : tie.Need-loop-again Inv-loop μ-loop
+loop-again c = let g = rw (c .before .before .r .given .1) at (c .before .before .before .before .before .before .read-field .ensures) in (search needs, g .3, omega (arith, c .least .ensures), search needs, (c .before .before .before .before .before .before .before .before .before .before .before .loop .inv .4 .0 ++ g .0, stands-next {p = g .0} _ (c .before .before .before .before .before .before .before .before .before .before .before .loop .inv .4 .1) (g .2) (c .least .ensures), ahead-got _ (c .before .before .before .before .before .before .before .before .before .before .before .loop .inv .4 .2) _ _ (next-kind (c .before .before .before .before .before .before .before .before .before .before .before .before .before .before .before .before .args .s .now) (fieldsOf (c .before .before .before .before .before .before .before .before .before .before .before .before .before .before .before .before .args .codes .now)) (c .before .before .before .before .before .before .before .before .before .before .before .before .before .before .before .before .args .first) (c .before .before .before .before .before .before .before .before .before .before .before .before .before .before .before .before .args .many) (c .before .before .before .before .before .before .before .before .before .before .before .loop .k) (c .before .before .before .before .before .before .before .before .before .before .loop-test .taken) (c .before .before .before .before .before .before .before .before .field .result) (read-at (c .before .before .before .before .before .before .before .before .before .before .before .before .before .before .before .before .args .codes .now) _ (c .before .before .before .before .before .before .before .before .field .ensures))) (g .0) _ (g .1)))
+
+none-from-requires : tie.Need-none-from-requires Inv-loop μ-loop
+none-from-requires c κs = search needs
+
+same-length-3 : tie.Need-same-length-3 Inv-loop μ-loop
+same-length-3 c = search needs
+
+returns-3 : tie.Need-returns-3 Inv-loop μ-loop
+returns-3 c = let (qs, e, f) = ahead-done _ (c .before .before .before .loop .inv .4 .2) (no-kind (c .before .before .before .before .before .before .before .before .args .s .now) (fieldsOf (c .before .before .before .before .before .before .before .before .args .codes .now)) (c .before .before .before .before .before .before .before .before .args .first) (c .before .before .before .before .before .before .before .before .args .many) (c .before .before .before .loop .k) (c .before .before .loop-test .left)) (sym (c .before .none-from .ensures) ∙ c .if1 .taken) in (qs, e, subst (λ xs. Stands (c .before .before .before .before .before .before .before .before .args .out .now) (c .before .before .before .loop .out) (c .before .before .before .loop .n) xs) (sym f) (c .before .before .before .loop .inv .4 .1))
+
+cast-t28 : tie.Need-cast-t28 Inv-loop μ-loop
+cast-t28 c = search needs
+
+add-t29 : tie.Need-add-t29 Inv-loop μ-loop
+add-t29 c = search needs
+
+same-length-4 : tie.Need-same-length-4 Inv-loop μ-loop
+same-length-4 c = search needs
+
+returns-4 : tie.Need-returns-4 Inv-loop μ-loop
+returns-4 c = let q : c .before .before .before .loop .k ≡ c .before .before .before .before .before .before .before .before .args .many = omega arith in subst (λ n. readRun (λ k ts. readField k (c .before .before .before .before .before .before .before .before .args .origin .now) ts) (kindsFrom (c .before .before .before .before .before .before .before .before .args .s .now) (fieldsOf (c .before .before .before .before .before .before .before .before .args .codes .now)) (c .before .before .before .before .before .before .before .before .args .first) (c .before .before .before .before .before .before .before .before .args .many)) (tokens (c .before .before .before .before .before .before .before .before .args .t .now)) ≡ refused 10 (n + 1)) q (ahead-over _ (c .before .before .before .loop .inv .4 .2) (no-kind (c .before .before .before .before .before .before .before .before .args .s .now) (fieldsOf (c .before .before .before .before .before .before .before .before .args .codes .now)) (c .before .before .before .before .before .before .before .before .args .first) (c .before .before .before .before .before .before .before .before .args .many) (c .before .before .before .loop .k) (c .before .before .loop-test .left)) (sym (c .before .none-from .ensures) ∙ c .if1 .left))
+
+pub read-run-spec : {M : Type 1} → statement M
+read-run-spec =
+    tie.close
+    (tie.spec
+    Inv-loop
+    μ-loop
+    loop-holds
+    add-field
+    mul-field
+    element-copy-out-field
+    field-requires
+    read-field-requires
+    enum-told
+    cast-t23
+    add-t24
+    same-length
+    returns
+    enum-told-2
+    cast-t25
+    add-t26
+    same-length-2
+    returns-2
+    enum-known-r
+    least-requires
+    add-k
+    loop-less
+    loop-again
+    none-from-requires
+    same-length-3
+    returns-3
+    cast-t28
+    add-t29
+    same-length-4
+    returns-4)

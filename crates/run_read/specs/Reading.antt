@@ -1,0 +1,20 @@
+-- What the code's answer for a run of fields means, by the definitions of document 01.
+use Prim.Native.Nat.{ℕ, _<_, _≤_}
+use mathlib.Core.Path.{_≡_}
+use mathlib.Core.List.{List}
+use lib.ListN.{length}
+use Rattle.format.specs.Lists.{flat}
+use Rattle.format.specs.Run.{Parts, refused, parts, maxRdata}
+use Rattle.buffer.specs.Writing.{Wrote}
+use Rattle.run_read.specs.declared.Run.{Run}
+use Rattle.run_read.specs.declared.Run.the-variants.{Refused, Done}
+
+-- the octets of a run's fields stand in the buffer, and the count is theirs, up to 65,535; a higher one says that they are more
+pub record Stands (before after : List ℕ) (count : ℕ) (xs : List ℕ) : Type 0 where
+  pub whole : count ≤ maxRdata → Wrote before after 0 count xs
+  pub over : maxRdata < count → maxRdata < length xs
+
+-- they do; or a refusal's number and place
+abbrev pub Reads : List ℕ → List ℕ → Run → Parts → Type 0
+Reads before after (Refused n i) p = p ≡ refused n i
+Reads before after (Done m) p = (ps : List (List ℕ)) × (p ≡ parts ps) × Stands before after m (flat ps)

@@ -1,0 +1,20 @@
+use mathlib.Core.Path.{ap}
+use mathlib.Core.Bool.{not}
+use Rattle.octets.proofs.Slices.{front-end, front-off}
+use Rattle.stanza_words.proofs.Laws.{notComma}
+use native.Mathlib.Omega.{arith}
+use borrow.Author.Needs.{needs}
+use Rattle.stanza_distinct.proofs.ends_at.Statement.{statement}
+use Rattle.stanza_distinct.proofs.ends_at.Tie as tie
+
+returns : tie.Need-returns
+returns c = λ e. front-end notComma (c .before .args .s .now) (c .before .args .z) (c .before .args .b) (omega arith)
+
+shared-slice-read-result : tie.Need-shared-slice-read-result
+shared-slice-read-result c = search needs
+
+returns-2 : tie.Need-returns-2
+returns-2 c = λ e. front-off notComma (c .before .before .args .s .now) (c .before .before .args .z) (c .before .before .args .b) (omega (arith, c .before .if1 .left)) (c .before .before .pre .1) (ap not e)
+
+pub ends-at-spec : {M : Type 1} → statement M
+ends-at-spec = tie.close (tie.spec returns shared-slice-read-result returns-2)

@@ -1,0 +1,85 @@
+use Rattle.octets.specs.Octets.{partIn}
+use Prim.Native.Nat.{_-_, _≤_}
+use mathlib.Core.Path.{_≡_, refl, sym, _∙_}
+use mathlib.Core.Bool.{true, false, true≢false}
+use lib.ListN.{length}
+use lib.Seq.{slice}
+use Rattle.format.specs.Grammar.{qualifier}
+use Rattle.stanza_words.specs.declared.Test.the-variants.{NotSymbol}
+use Rattle.stanza_words.specs.Qualifiers.{piecesIn, holdsOf, anyIn, twiceIn}
+use Rattle.stanza_words.proofs.Laws.{within, name-within, any-last, any-next}
+use Rattle.stanza_distinct.proofs.Buckets.{Clear, bucket-below, apart-last, apart-next}
+use Rattle.stanza_distinct.proofs.Symbols.{below-limit}
+use native.Mathlib.Omega.{arith}
+use borrow.Author.Needs.{needs}
+use Rattle.stanza_distinct.proofs.plain_symbols.Statement.{statement}
+use Rattle.stanza_distinct.proofs.plain_symbols.Tie as tie
+
+abbrev Inv-loop : tie.InvT-loop
+Inv-loop limit s a b met₀ i₀ met i = (i ≤ b) × (length met ≡ 256) × (anyIn (NotSymbol limit) s i b ≡ anyIn (NotSymbol limit) s a b) × (Clear true met (piecesIn s i b) → twiceIn true s i b ≡ false → twiceIn true s a b ≡ false)
+
+abbrev μ-loop : tie.MeasureT-loop
+μ-loop limit s a b met₀ i₀ met i = b - i
+
+loop-holds : tie.Need-loop-holds Inv-loop μ-loop
+loop-holds c = (search needs, search needs, refl, λ x y. y)
+
+symbol-at-requires : tie.Need-symbol-at-requires Inv-loop μ-loop
+symbol-at-requires c κs = search needs
+
+enum-told : tie.Need-enum-told Inv-loop μ-loop
+enum-told c = search needs
+
+returns : tie.Need-returns Inv-loop μ-loop
+returns c = λ e. absurd (true≢false (sym e))
+
+enum-known-p : tie.Need-enum-known-p Inv-loop μ-loop
+enum-known-p c = search needs
+
+returns-2 : tie.Need-returns-2 Inv-loop μ-loop
+returns-2 c = λ e. absurd (true≢false (sym e))
+
+bucket-requires : tie.Need-bucket-requires Inv-loop μ-loop
+bucket-requires c κs = let y = (rw (c .before .before .p .given .1) at (c .before .before .before .before .symbol-at .ensures)) in let v = within _ _ _ _ (c .before .before .before .before .before .loop .inv .0) (c .before .before .before .before .before .before .before .pre .1) (y .0) in let u = name-within _ _ _ _ (c .before .before .before .before .before .loop .inv .0) (c .before .before .before .before .before .before .before .pre .1) (y .0) _ (y .1) in (omega arith, omega (arith, v, u))
+
+array-read-if2 : tie.Need-array-read-if2 Inv-loop μ-loop
+array-read-if2 c = rw (c .bucket .ensures) (bucket-below true (slice (c .before .before .before .before .before .before .loop .i) (c .before .before .before .p .given .0 .0) (c .before .before .before .before .before .before .before .before .args .s .now)))
+
+returns-3 : tie.Need-returns-3 Inv-loop μ-loop
+returns-3 c = λ e. absurd (true≢false (sym e))
+
+returns-4 : tie.Need-returns-4 Inv-loop μ-loop
+returns-4 c = let y = (rw (c .before .before .before .before .before .p .given .1) at (c .before .before .before .before .before .before .before .symbol-at .ensures)) in λ x. (sym (c .before .before .before .before .before .before .before .before .loop .inv .2) ∙ any-last (c .before .before .before .before .before .before .before .before .before .before .args .s .now) (c .before .before .before .before .before .before .before .before .loop .i) (c .before .before .before .before .before .before .before .before .before .before .args .b) _ (c .before .before .before .before .before .before .before .before .loop .inv .0) (c .before .before .before .before .before .before .before .before .before .before .pre .1) (y .0) (λ p. holdsOf (NotSymbol (c .before .before .before .before .before .before .before .before .before .before .args .limit)) (qualifier p)) (c .if3 .taken) (below-limit (c .before .before .before .before .before .before .before .before .before .before .args .limit) (partIn (c .before .before .before .before .before .before .before .before .before .before .args .s .now) (c .before .before .before .before .before .before .before .before .loop .i) (c .before .before .before .before .before .p .given .0 .1 .0)) (partIn (c .before .before .before .before .before .before .before .before .before .before .args .s .now) (c .before .before .before .before .before .before .before .before .loop .i) (c .before .before .before .before .before .p .given .0 .0)) (c .before .before .before .before .before .p .given .0 .1 .1 .0) (y .2) (omega (arith, c .before .before .before .if1 .left))), apart-last true (c .before .before .before .before .before .before .before .before .before .before .args .s .now) (c .before .before .before .before .before .before .before .before .loop .i) (c .before .before .before .before .before .before .before .before .before .before .args .b) _ _ (c .before .before .before .before .before .before .before .before .loop .inv .0) (c .before .before .before .before .before .before .before .before .before .before .pre .1) (y .0) (y .1) (c .before .before .before .before .before .before .before .before .loop .met) _ (c .before .before .bucket .ensures) (c .before .if2 .left) (c .before .before .before .before .before .before .before .before .before .before .args .a) (c .before .before .before .before .before .before .before .before .loop .inv .3) (c .if3 .taken))
+
+array-write-met : tie.Need-array-write-met Inv-loop μ-loop
+array-write-met c = rw (c .before .before .bucket .ensures) (bucket-below true (slice (c .before .before .before .before .before .before .before .before .loop .i) (c .before .before .before .before .before .p .given .0 .0) (c .before .before .before .before .before .before .before .before .before .before .args .s .now)))
+
+add-i : tie.Need-add-i Inv-loop μ-loop
+add-i c = let y = (rw (c .before .before .before .before .before .p .given .1) at (c .before .before .before .before .before .before .before .symbol-at .ensures)) in omega (arith, within _ _ _ _ (c .before .before .before .before .before .before .before .before .loop .inv .0) (c .before .before .before .before .before .before .before .before .before .before .pre .1) (y .0))
+
+loop-less : tie.Need-loop-less Inv-loop μ-loop
+loop-less c = let y = (rw (c .before .before .before .before .before .p .given .1) at (c .before .before .before .before .before .before .before .symbol-at .ensures)) in omega (arith, within _ _ _ _ (c .before .before .before .before .before .before .before .before .loop .inv .0) (c .before .before .before .before .before .before .before .before .before .before .pre .1) (y .0))
+
+loop-again : tie.Need-loop-again Inv-loop μ-loop
+loop-again c = let y = (rw (c .before .before .before .before .before .p .given .1) at (c .before .before .before .before .before .before .before .symbol-at .ensures)) in (omega (arith, within _ _ _ _ (c .before .before .before .before .before .before .before .before .loop .inv .0) (c .before .before .before .before .before .before .before .before .before .before .pre .1) (y .0)), search needs, any-next (c .before .before .before .before .before .before .before .before .before .before .args .s .now) (c .before .before .before .before .before .before .before .before .loop .i) (c .before .before .before .before .before .before .before .before .before .before .args .b) _ (c .before .before .before .before .before .before .before .before .loop .inv .0) (c .before .before .before .before .before .before .before .before .before .before .pre .1) (y .0) (λ p. holdsOf (NotSymbol (c .before .before .before .before .before .before .before .before .before .before .args .limit)) (qualifier p)) (c .if3 .left) (below-limit (c .before .before .before .before .before .before .before .before .before .before .args .limit) (partIn (c .before .before .before .before .before .before .before .before .before .before .args .s .now) (c .before .before .before .before .before .before .before .before .loop .i) (c .before .before .before .before .before .p .given .0 .1 .0)) (partIn (c .before .before .before .before .before .before .before .before .before .before .args .s .now) (c .before .before .before .before .before .before .before .before .loop .i) (c .before .before .before .before .before .p .given .0 .0)) (c .before .before .before .before .before .p .given .0 .1 .1 .0) (y .2) (omega (arith, c .before .before .before .if1 .left))) ∙ c .before .before .before .before .before .before .before .before .loop .inv .2, apart-next true (c .before .before .before .before .before .before .before .before .before .before .args .s .now) (c .before .before .before .before .before .before .before .before .loop .i) (c .before .before .before .before .before .before .before .before .before .before .args .b) _ _ (c .before .before .before .before .before .before .before .before .loop .inv .0) (c .before .before .before .before .before .before .before .before .before .before .pre .1) (y .0) (y .1) (c .before .before .before .before .before .before .before .before .loop .met) _ (c .before .before .bucket .ensures) (c .before .if2 .left) (c .before .before .before .before .before .before .before .before .before .before .args .a) (c .before .before .before .before .before .before .before .before .loop .inv .3) (c .if3 .left) (omega (arith, c .before .before .before .before .before .before .before .before .loop .inv .1)))
+
+pub plain-symbols-spec : {M : Type 1} → statement M
+plain-symbols-spec =
+    tie.close
+    (tie.spec
+    Inv-loop
+    μ-loop
+    loop-holds
+    symbol-at-requires
+    enum-told
+    returns
+    enum-known-p
+    returns-2
+    bucket-requires
+    array-read-if2
+    returns-3
+    returns-4
+    array-write-met
+    add-i
+    loop-less
+    loop-again)

@@ -1,0 +1,272 @@
+// The grammar of a header and of a field line, its qualifiers apart.
+ghost use Prim.Native.Nat.{_≤_};
+ghost use lib.ListN.{length};
+ghost use lib.Seq.{slice};
+ghost use mathlib.Core.Path.{_≡_};
+ghost use Rattle.format.specs.Grammar.{headerLine, fieldLine, startsWithLetter, nameAt, afterOptions, freeTextAt, qualifiersAt, fieldNameAt};
+ghost use Rattle.stanza_grammar.specs.Grammar.{headerIn, shapeIn, HeaderWithin, ShapeWithin};
+ghost use Rattle.stanza_grammar.specs.Parts.{
+  Within,
+  cutIn,
+  restIn,
+  textIn,
+  numberAfter,
+  textAfter,
+  numberIn,
+  DigitsWithin,
+  bracketsIn,
+  BracketsWithin,
+  namedIn,
+  NamedWithin,
+  afterType,
+};
+use octets::Class;
+use octets::Number;
+
+// A header: the end of its name, its number, and where its free text begins.
+pub struct HeaderShape {
+    pub name_end: usize,
+    pub number: u64,
+    pub text_at: usize,
+}
+
+// A header's line: no header, or one.
+pub enum HeaderLine {
+    NoHeader,
+    IsHeader(HeaderShape),
+}
+
+// A field line: the end of its type, its qualifiers (none where the two places are equal), its name, and where its free text begins.
+pub struct FieldShape {
+    pub type_end: usize,
+    pub qualifiers_at: usize,
+    pub qualifiers_end: usize,
+    pub name_at: usize,
+    pub name_end: usize,
+    pub text_at: usize,
+}
+
+// A field's line: no field, or one.
+pub enum Shape {
+    NoField,
+    IsField(FieldShape),
+}
+
+// A place in a line, or none.
+enum Place {
+    NoPlace,
+    At(usize),
+}
+
+// The end of digits, and their number.
+enum Digits {
+    NoDigits,
+    UpTo(usize, u64),
+}
+
+// The qualifiers' two places, which are equal where there are none, and where the rest begins.
+enum Brackets {
+    Unclosed,
+    Between(usize, usize, usize),
+}
+
+// A field's name, of no octets where it has none.
+enum Named {
+    Broken,
+    From(usize, usize),
+}
+
+// Whether a letter stands first from at to end.
+fn starts_with_letter(s: &[u8], at: usize, end: usize) -> bool
+    requires { ⌜ (at ≤ end) × (end ≤ length (now s)) ⌝ }
+    ensures { λ r. ⌜ r ≡ startsWithLetter (slice at end (now (s .entry))) ⌝ }
+{
+    if at < end {
+        return octets::is_in(Class::Letter, s[at]);
+    }
+    false
+}
+
+// The end of the name at the front.
+fn name_end(s: &[u8], at: usize, end: usize) -> Place
+    requires { ⌜ (at ≤ end) × (end ≤ length (now s)) ⌝ }
+    ensures { λ r. ⌜ (cutIn (now (s .entry)) at end r ≡ nameAt (slice at end (now (s .entry)))) × Within at end r ⌝ }
+{
+    if starts_with_letter(s, at, end) {
+        let e = octets::skip(s, at, end, Class::NameOctet);
+        if e - at <= 63 {
+            return Place::At(e);
+        }
+    }
+    Place::NoPlace
+}
+
+// Where the free text begins: after one blank, or at the end of the line where there is none.
+fn free_text(s: &[u8], i: usize, end: usize) -> Place
+    requires { ⌜ (i ≤ end) × (end ≤ length (now s)) ⌝ }
+    ensures { λ r. ⌜ (textIn (now (s .entry)) end r ≡ freeTextAt end (slice i end (now (s .entry)))) × Within i end r ⌝ }
+{
+    if i < end {
+        if octets::is_in(Class::Blank, s[i]) {
+            if octets::all_free(s, i + 1, end) {
+                return Place::At(i + 1);
+            }
+        }
+        return Place::NoPlace;
+    }
+    Place::At(end)
+}
+
+// Where the rest begins after `:` and digits, and their number.
+fn number_after(s: &[u8], i: usize, end: usize) -> Digits
+    requires { ⌜ (i ≤ end) × (end ≤ length (now s)) ⌝ }
+    ensures { λ r. ⌜ (numberIn (now (s .entry)) end r ≡ numberAfter (slice i end (now (s .entry)))) × DigitsWithin end r ⌝ }
+{
+    if octets::octet_at(s, i, end) == b':' as u16 {
+        let e = octets::skip(s, i + 1, end, Class::Digit);
+        let n = octets::decimal(s, i + 1, e);
+        match n {
+            Number::Value(v) => {
+                return Digits::UpTo(e, v);
+            }
+            Number::Fault => {
+                return Digits::NoDigits;
+            }
+        }
+    }
+    Digits::NoDigits
+}
+
+// Where the rest begins after optional `:` and letters.
+fn after_options(s: &[u8], i: usize, end: usize) -> Place
+    requires { ⌜ (i ≤ end) × (end ≤ length (now s)) ⌝ }
+    ensures { λ r. ⌜ (restIn (now (s .entry)) end r ≡ afterOptions (slice i end (now (s .entry)))) × Within i end r ⌝ }
+{
+    if octets::octet_at(s, i, end) == b':' as u16 {
+        let e = octets::skip(s, i + 1, end, Class::Letter);
+        if i + 1 < e {
+            return Place::At(e);
+        }
+        return Place::NoPlace;
+    }
+    Place::At(i)
+}
+
+// Where a header's free text begins, after its options.
+fn text_after(s: &[u8], i: usize, end: usize) -> Place
+    requires { ⌜ (i ≤ end) × (end ≤ length (now s)) ⌝ }
+    ensures { λ r. ⌜ (textIn (now (s .entry)) end r ≡ textAfter end (slice i end (now (s .entry)))) × Within i end r ⌝ }
+{
+    let p = after_options(s, i, end);
+    match p {
+        Place::NoPlace => Place::NoPlace,
+        Place::At(j) => free_text(s, j, end),
+    }
+}
+
+// The header in a line from at to end.
+pub fn header_line(s: &[u8], at: usize, end: usize) -> HeaderLine
+    requires { ⌜ (at ≤ end) × (end ≤ length (now s)) ⌝ }
+    ensures { λ r. ⌜ (headerIn (now (s .entry)) at end r ≡ headerLine end (slice at end (now (s .entry)))) × HeaderWithin end r ⌝ }
+{
+    let p = name_end(s, at, end);
+    match p {
+        Place::NoPlace => HeaderLine::NoHeader,
+        Place::At(name_end) => {
+            let d = number_after(s, name_end, end);
+            match d {
+                Digits::NoDigits => HeaderLine::NoHeader,
+                Digits::UpTo(e, number) => {
+                    let t = text_after(s, e, end);
+                    match t {
+                        Place::NoPlace => HeaderLine::NoHeader,
+                        Place::At(text_at) => HeaderLine::IsHeader(HeaderShape {
+                            name_end,
+                            number,
+                            text_at,
+                        }),
+                    }
+                }
+            }
+        }
+    }
+}
+
+// The places of the qualifiers, and where the rest begins. Nothing between brackets is no qualifier.
+fn bracketed(s: &[u8], i: usize, end: usize) -> Brackets
+    requires { ⌜ (i ≤ end) × (end ≤ length (now s)) ⌝ }
+    ensures { λ r. ⌜ (bracketsIn (now (s .entry)) end r ≡ qualifiersAt end (slice i end (now (s .entry)))) × BracketsWithin end r ⌝ }
+{
+    if octets::octet_at(s, i, end) == b'[' as u16 {
+        let e = octets::skip(s, i + 1, end, Class::NotBracket);
+        if i + 1 < e {
+            if octets::octet_at(s, e, end) == b']' as u16 {
+                return Brackets::Between(i + 1, e, e + 1);
+            }
+        }
+        return Brackets::Unclosed;
+    }
+    Brackets::Between(i, i, i)
+}
+
+// The name after `:`, or none where the rest begins otherwise.
+fn field_name(s: &[u8], i: usize, end: usize) -> Named
+    requires { ⌜ (i ≤ end) × (end ≤ length (now s)) ⌝ }
+    ensures { λ r. ⌜ (namedIn (now (s .entry)) end r ≡ fieldNameAt (slice i end (now (s .entry)))) × NamedWithin end r ⌝ }
+{
+    if octets::octet_at(s, i, end) == b':' as u16 {
+        let p = name_end(s, i + 1, end);
+        match p {
+            Place::NoPlace => {
+                return Named::Broken;
+            }
+            Place::At(e) => {
+                return Named::From(i + 1, e);
+            }
+        }
+    }
+    Named::From(i, i)
+}
+
+// The field line whose type ends at e.
+fn after_type(s: &[u8], at: usize, e: usize, end: usize) -> Shape
+    requires { ⌜ (e ≤ end) × (end ≤ length (now s)) × (at ≤ e) ⌝ }
+    ensures { λ r. ⌜ (shapeIn (now (s .entry)) at end r ≡ afterType end (slice at e (now (s .entry))) (slice e end (now (s .entry)))) × ShapeWithin at end r ⌝ }
+{
+    let b = bracketed(s, e, end);
+    match b {
+        Brackets::Unclosed => Shape::NoField,
+        Brackets::Between(qualifiers_at, qualifiers_end, i) => {
+            let n = field_name(s, i, end);
+            match n {
+                Named::Broken => Shape::NoField,
+                Named::From(name_at, name_end) => {
+                    let t = free_text(s, name_end, end);
+                    match t {
+                        Place::NoPlace => Shape::NoField,
+                        Place::At(text_at) => Shape::IsField(FieldShape {
+                            type_end: e,
+                            qualifiers_at,
+                            qualifiers_end,
+                            name_at,
+                            name_end,
+                            text_at,
+                        }),
+                    }
+                }
+            }
+        }
+    }
+}
+
+// The field line from at, after its leading blanks, to end.
+pub fn field_shape(s: &[u8], at: usize, end: usize) -> Shape
+    requires { ⌜ (at ≤ end) × (end ≤ length (now s)) ⌝ }
+    ensures { λ r. ⌜ (shapeIn (now (s .entry)) at end r ≡ fieldLine end (slice at end (now (s .entry)))) × ShapeWithin at end r ⌝ }
+{
+    if starts_with_letter(s, at, end) {
+        let e = octets::skip(s, at, end, Class::Alphanumeric);
+        return after_type(s, at, e, end);
+    }
+    Shape::NoField
+}

@@ -1,0 +1,393 @@
+-- The fields that the judge has kept, and the lines that are left.
+use Prim.Native.Nat.{ℕ, zero, suc, _+_, _-_, _≤_, _<_}
+use mathlib.Core.Path.{_≡_, refl, sym, ap, _∙_, subst}
+use mathlib.Core.Bool.{Bool, true, false, not, cond, _||_, true≢false}
+use mathlib.Core.List.{List, [], _∷_, _++_}
+use native.Mathlib.Omega.{arith}
+use native.Mathlib.Numerals.{add-one}
+use native.Mathlib.Decide.{decLt, decLe}
+use lib.ListN.{length, getD, set, length-set}
+use lib.Seq.{getD-set-same, getD-set-other}
+use lib.Dec.{leb}
+use borrow.Author.Tests.{le-leb, lt-leb, ne-eqb}
+use mathlib.Core.Option.{Option, none, some}
+use Rattle.format.specs.Lists.{anyOf, null, span}
+use Rattle.format.specs.Octets.{blank, inRange}
+use Rattle.format.specs.Grammar.{Header, FieldLine, headerLine, fieldLine}
+use Rattle.format.specs.Types.{Meaning, unknown, forbidden, means, meaning}
+use Rattle.format.specs.Field.{Part, Field, kinds, tail}
+use Rattle.format.specs.Lines.{lines}
+use Rattle.format.specs.Judge.{Description, Progress, beforeHeader, afterHeader, Verdict, faulty, goesOn, afterTail, sameName, withField, ofMeaning, ofFieldLine, ofHeader, contentLine, ignored, lineVerdict, rejected, described, atEnd, afterLine, judgedFrom, judged}
+use Rattle.octets.specs.Octets.{inClass, lineEnd, partIn}
+use Rattle.octets.specs.declared.Class.the-variants.{NotNewline}
+use Rattle.octets.proofs.Slices.{front-within}
+use Rattle.octets.proofs.Lines.{linesFrom, next-line, no-line}
+use Rattle.stanza_types.specs.declared.FieldDesc.{FieldDesc}
+use Rattle.stanza_types.specs.Types.{kindIn}
+use Rattle.stanza_types.specs.Fields.{fieldOf, Placed, noField, fieldsFrom}
+use Rattle.stanza_code.specs.Code.{fieldsOf}
+use Rattle.stanza_code.proofs.Codes.{withoutText, withoutTexts, coded-at}
+use Rattle.stanza_line.specs.declared.HeaderDesc.{HeaderDesc}
+use Rattle.stanza_line.specs.declared.NewField.{NewField}
+use Rattle.stanza_line.specs.declared.Step.{Step}
+use Rattle.stanza_line.specs.declared.Step.the-variants.{Skip, Refuse, Head, Add}
+use Rattle.stanza_line.specs.Verdict.{headerOf, namedFrom, progressOf, Stands, stepOf, Due}
+use Rattle.stanza_judge.specs.Stanza.{outlineOf, AllPlaced, Outlined}
+
+-- m fields from number k on
+module _ (s : List ℕ) (fs : List FieldDesc) (names ends : List ℕ) where
+  fields-many : (k m : ℕ) → length (fieldsFrom s fs names ends k m) ≡ m
+  fields-many k zero = refl
+  fields-many k (suc m) = ap suc (fields-many (k + 1) m)
+
+  fields-named : (k m : ℕ) (f : Field) (a e : ℕ) → f .fieldName ≡ partIn s a e → anyOf (λ g. sameName g f) (fieldsFrom s fs names ends k m) ≡ namedFrom s names ends a e k m
+  fields-named k zero f a e p = refl
+  fields-named k (suc m) f a e p = rw (fields-named (k + 1) m f a e p, p)
+
+-- one more field at the end
+module _ (s : List ℕ) (fs : List FieldDesc) (names ends : List ℕ) (n : ℕ) (f : FieldDesc) (x y : ℕ) (h : n < length fs) (i : n < length names) (j : n < length ends) where
+  new-field : fieldOf s (getD (set fs n f) n noField) (getD (set names n x) n 0) (getD (set ends n y) n 0) ≡ fieldOf s f x y
+  new-field = rw (getD-set-same fs n f noField h, getD-set-same names n x 0 i, getD-set-same ends n y 0 j)
+
+  old-field : (k : ℕ) → k < n → fieldOf s (getD (set fs n f) k noField) (getD (set names n x) k 0) (getD (set ends n y) k 0) ≡ fieldOf s (getD fs k noField) (getD names k 0) (getD ends k 0)
+  old-field k l = rw (getD-set-other fs n k f noField (λ q. omega arith), getD-set-other names n k x 0 (λ q. omega arith), getD-set-other ends n k y 0 (λ q. omega arith))
+
+  fields-more : (k m : ℕ) → k + m ≡ n → fieldsFrom s (set fs n f) (set names n x) (set ends n y) k (m + 1) ≡ fieldsFrom s fs names ends k m ++ fieldOf s f x y ∷ []
+  fields-more k zero q = let r : k ≡ n = omega arith in rw (r) (ap (λ z. z ∷ []) new-field)
+  fields-more k (suc m) q = let t : suc m + 1 ≡ suc (m + 1) = omega arith in rw (t, old-field k (omega arith), fields-more (k + 1) m (omega arith))
+
+  one-field-more : fieldsFrom s (set fs n f) (set names n x) (set ends n y) 0 (n + 1) ≡ fieldsFrom s fs names ends 0 n ++ fieldOf s f x y ∷ []
+  one-field-more = fields-more 0 n (omega arith)
+
+-- and its qualifiers are placed as theirs are
+more-placed : (s : List ℕ) (fs : List FieldDesc) (n : ℕ) (f : FieldDesc) → n < length fs → AllPlaced s fs n → Placed s f → AllPlaced s (set fs n f) (n + 1)
+more-placed s fs n f h p q k l = by (decLt k n)
+  where
+    by : Dec (k < n) → Placed s (getD (set fs n f) k noField)
+    by (yes a) = subst (Placed s) (sym (getD-set-other fs n k f noField (λ z. omega arith))) (p k a)
+    by (no a) = let z : k ≡ n = omega arith in subst (Placed s) (sym (ap (λ i. getD (set fs n f) i noField) z ∙ getD-set-same fs n f noField h)) q
+
+tail-snoc : (fs : List Field) (f : Field) → afterTail (fs ++ f ∷ []) ≡ afterTail fs || tail (f .kind)
+tail-snoc [] f = by (tail (f .kind))
+  where
+    by : (b : Bool) → b || false ≡ b
+    by true = refl
+    by false = refl
+tail-snoc (g ∷ fs) f = by (tail (g .kind)) (tail-snoc fs f)
+  where
+    by : (b : Bool) → afterTail (fs ++ f ∷ []) ≡ afterTail fs || tail (f .kind) → b || afterTail (fs ++ f ∷ []) ≡ (b || afterTail fs) || tail (f .kind)
+    by true e = refl
+    by false e = e
+
+-- How things stand after some lines: the description so far, and the lines from a place on come to what all of them do.
+abbrev soFar : List ℕ → HeaderDesc → List FieldDesc → List ℕ → List ℕ → ℕ → Description
+soFar s h fs names ends n = record { header = headerOf s h; fields = fieldsFrom s fs names ends 0 n }
+
+pub record Kept (s : List ℕ) (h : HeaderDesc) (fs : List FieldDesc) (names ends : List ℕ) (n : ℕ) (have last : Bool) (at line : ℕ) : Type 0 where
+  pub none-yet : have ≡ false → n ≡ 0
+  pub tails : afterTail (fieldsFrom s fs names ends 0 n) ≡ last
+  pub placed : AllPlaced s fs n
+  pub left : judgedFrom line (progressOf have (soFar s h fs names ends n)) (linesFrom s at) ≡ judgedFrom 1 beforeHeader (lines s)
+
+stands : {s : List ℕ} {h : HeaderDesc} {fs : List FieldDesc} {names ends : List ℕ} {n : ℕ} {have last : Bool} {at line : ℕ}
+    → Kept s h fs names ends n have last at line → Stands s (soFar s h fs names ends n) last names ends n
+stands {s} {h} {fs} {names} {ends} {n} k = record { many = fields-many s fs names ends 0 n; tails = k .tails; named = λ f a e p. fields-named s fs names ends 0 n f a e p }
+
+-- the first line of those that are left
+module _ (s : List ℕ) (p : Progress) (at line : ℕ) (l : at < length s) where
+  one-line : judgedFrom line p (linesFrom s at) ≡ afterLine (lineVerdict p (partIn s at (lineEnd s at))) line (λ t. judgedFrom (line + 1) t (linesFrom s (lineEnd s at + 1)))
+  unfolding judgedFrom
+  one-line = rw (next-line s at l, add-one line)
+
+  after-step : (r : Step) (q : Progress) → stepOf s p r ≡ lineVerdict p (partIn s at (lineEnd s at)) → stepOf s p r ≡ goesOn q → judgedFrom (line + 1) q (linesFrom s (lineEnd s at + 1)) ≡ judgedFrom line p (linesFrom s at)
+  after-step r q e g = sym (one-line ∙ ap (λ v. afterLine v line (λ t. judgedFrom (line + 1) t (linesFrom s (lineEnd s at + 1)))) (sym e ∙ g))
+
+  after-refusal : (n : ℕ) → stepOf s p (Refuse n) ≡ lineVerdict p (partIn s at (lineEnd s at)) → judgedFrom line p (linesFrom s at) ≡ rejected n line
+  after-refusal n e = one-line ∙ ap (λ v. afterLine v line (λ t. judgedFrom (line + 1) t (linesFrom s (lineEnd s at + 1)))) (sym e)
+
+-- a faulty line's number is not 0
+abbrev Numbered : Verdict → Type 0
+Numbered (faulty n) = 1 ≤ n
+Numbered (goesOn p) = Unit {0}
+
+numbered-cond : (b : Bool) (v w : Verdict) → Numbered v → Numbered w → Numbered (cond b v w)
+numbered-cond true v w h k = h
+numbered-cond false v w h k = k
+
+field-numbered : (d : Description) (f : Field) → Numbered (withField d f)
+field-numbered d f =
+    numbered-cond (afterTail (d .fields) || anyOf (λ g. sameName g f) (d .fields)) (faulty 4) _ (omega arith)
+    (numbered-cond (leb 64 (length (d .fields))) (faulty 5) _ (omega arith) tt)
+
+meaning-numbered : (d : Description) (l : FieldLine) (m : Meaning) → Numbered (ofMeaning d l m)
+meaning-numbered d l unknown = omega arith
+meaning-numbered d l forbidden = omega arith
+meaning-numbered d l (means k) = field-numbered d (record { kind = k; fieldName = l .fieldName; freeText = l .freeText })
+
+content-numbered : (p : Progress) (b : Bool) (e : ℕ) (t : List ℕ) → Numbered (contentLine p b e t)
+content-numbered beforeHeader true e t = omega arith
+content-numbered beforeHeader false e t = by (headerLine e t)
+  where
+    by : (o : Option Header) → Numbered (ofHeader o)
+    by none = omega arith
+    by (some h) = numbered-cond (inRange 1 65535 (h .typeNo)) _ (faulty 4) tt (omega arith)
+content-numbered (afterHeader d) true e t = by (fieldLine e t)
+  where
+    by : (o : Option FieldLine) → Numbered (ofFieldLine d o)
+    by none = omega arith
+    by (some l) = meaning-numbered d l (meaning (l .keyword) (l .qualifiers))
+content-numbered (afterHeader d) false e t = omega arith
+
+line-numbered : (p : Progress) (l : Part) → Numbered (lineVerdict p l)
+line-numbered p l =
+    numbered-cond (ignored (span blank (l .octets) .rest)) (goesOn p) _ tt
+    (content-numbered p (not (null (span blank (l .octets) .front))) (l .place + length (l .octets)) (span blank (l .octets) .rest))
+
+fault-number : (n : ℕ) (p : Progress) (l : Part) → faulty n ≡ lineVerdict p l → 1 ≤ n
+fault-number n p l e = by (lineVerdict p l) (line-numbered p l) e
+  where
+    by : (v : Verdict) → Numbered v → faulty n ≡ v → 1 ≤ n
+    by (faulty m) h q = let z : n ≡ m = cc in omega arith
+    by (goesOn t) h q = let z : _≡_ {A = ℕ} 0 1 = cc in absurd (omega arith)
+
+-- from one line to the next
+kept-start : (s : List ℕ) (h : HeaderDesc) (fs : List FieldDesc) (names ends : List ℕ) → Kept s h fs names ends 0 false false 0 1
+kept-start s h fs names ends = record { none-yet = λ q. refl; tails = refl; placed = λ k q. absurd (omega arith); left = refl }
+
+module _ {s : List ℕ} {h : HeaderDesc} {fs : List FieldDesc} {names ends : List ℕ} {n : ℕ} {have last : Bool} {at line : ℕ} (k : Kept s h fs names ends n have last at line) (l : at < length s) where
+  kept-skip : goesOn (progressOf have (soFar s h fs names ends n)) ≡ lineVerdict (progressOf have (soFar s h fs names ends n)) (partIn s at (lineEnd s at)) → Kept s h fs names ends n have last (lineEnd s at + 1) (line + 1)
+  kept-skip e = record {
+    none-yet = k .none-yet;
+    tails = k .tails;
+    placed = k .placed;
+    left = after-step s (progressOf have (soFar s h fs names ends n)) at line l Skip (progressOf have (soFar s h fs names ends n)) e refl ∙ k .left;
+  }
+
+  kept-head : (x : HeaderDesc) → have ≡ false → stepOf s (progressOf have (soFar s h fs names ends n)) (Head x) ≡ lineVerdict (progressOf have (soFar s h fs names ends n)) (partIn s at (lineEnd s at))
+      → Kept s x fs names ends n true last (lineEnd s at + 1) (line + 1)
+  kept-head x q e = record {
+    none-yet = λ z. absurd (true≢false z);
+    tails = k .tails;
+    placed = k .placed;
+    left = rw none-so-far (after-step s (progressOf have (soFar s h fs names ends n)) at line l (Head x) (afterHeader (record { header = headerOf s x; fields = [] })) e refl ∙ k .left);
+  }
+    where
+      none-so-far : fieldsFrom s fs names ends 0 n ≡ []
+      none-so-far = rw (k .none-yet q)
+
+  kept-add : (f : NewField) (b : Bool) → n < length fs → n < length names → n < length ends → have ≡ true → Placed s (f .field) → b ≡ last || tail (kindIn s (f .field .«qualifiers_at») (f .field .«qualifiers_end») (f .field .form))
+      → stepOf s (progressOf have (soFar s h fs names ends n)) (Add f) ≡ lineVerdict (progressOf have (soFar s h fs names ends n)) (partIn s at (lineEnd s at))
+      → Kept s h (set fs n (f .field)) (set names n (f .«name_at»)) (set ends n (f .«name_end»)) (n + 1) have b (lineEnd s at + 1) (line + 1)
+  kept-add f b x y z q g t e = record {
+    none-yet = λ c. absurd (true≢false (sym q ∙ c));
+    tails = ap afterTail more ∙ tail-snoc (fieldsFrom s fs names ends 0 n) new ∙ ap (λ c. c || tail (new .kind)) (k .tails) ∙ sym t;
+    placed = more-placed s fs n (f .field) x (k .placed) g;
+    left = ap (λ gs. judgedFrom (line + 1) (progressOf have (record { header = headerOf s h; fields = gs })) (linesFrom s (lineEnd s at + 1))) more
+        ∙ after-step s (progressOf have (soFar s h fs names ends n)) at line l (Add f) (progressOf have (record { header = headerOf s h; fields = fieldsFrom s fs names ends 0 n ++ new ∷ [] })) e added ∙ k .left;
+  }
+    where
+      new : Field
+      new = fieldOf s (f .field) (f .«name_at») (f .«name_end»)
+
+      more : fieldsFrom s (set fs n (f .field)) (set names n (f .«name_at»)) (set ends n (f .«name_end»)) 0 (n + 1) ≡ fieldsFrom s fs names ends 0 n ++ new ∷ []
+      more = one-field-more s fs names ends n (f .field) (f .«name_at») (f .«name_end») x y z
+
+      added : stepOf s (progressOf have (soFar s h fs names ends n)) (Add f) ≡ goesOn (progressOf have (record { header = headerOf s h; fields = fieldsFrom s fs names ends 0 n ++ new ∷ [] }))
+      added = rw q
+
+  kept-refused : (m : ℕ) → faulty m ≡ lineVerdict (progressOf have (soFar s h fs names ends n)) (partIn s at (lineEnd s at)) → rejected m line ≡ judgedFrom 1 beforeHeader (lines s)
+  kept-refused m e = sym (after-refusal s (progressOf have (soFar s h fs names ends n)) at line l m e) ∙ k .left
+
+-- at the end
+module _ {s : List ℕ} {h : HeaderDesc} {fs : List FieldDesc} {names ends : List ℕ} {n : ℕ} {have last : Bool} {at line : ℕ} (k : Kept s h fs names ends n have last at line) (l : length s ≤ at) where
+  at-the-end : atEnd (progressOf have (soFar s h fs names ends n)) ≡ judgedFrom 1 beforeHeader (lines s)
+  unfolding judgedFrom
+  at-the-end = rw (no-line s at l) at (k .left)
+
+  no-fields : n ≡ 0 → rejected 2 0 ≡ judgedFrom 1 beforeHeader (lines s)
+  no-fields q = by have (rw q at at-the-end)
+    where
+      by : (b : Bool) → atEnd (progressOf b (soFar s h fs names ends 0)) ≡ judgedFrom 1 beforeHeader (lines s) → rejected 2 0 ≡ judgedFrom 1 beforeHeader (lines s)
+      by true e = e
+      by false e = e
+
+  some-fields : (n ≡ 0 → ⊥) → described (soFar s h fs names ends n) ≡ judgedFrom 1 beforeHeader (lines s)
+  some-fields q = by have refl n refl
+    where
+      by : (b : Bool) → have ≡ b → (m : ℕ) → n ≡ m → described (soFar s h fs names ends n) ≡ judgedFrom 1 beforeHeader (lines s)
+      by false e m z = absurd (q (k .none-yet e))
+      by true e zero z = absurd (q z)
+      by true e (suc m) z = rw z (rw (e, z) at at-the-end)
+
+-- the whole stanza
+judged-lines : (s : List ℕ) → length s ≤ 8192 → judged s ≡ judgedFrom 1 beforeHeader (lines s)
+unfolding judged
+judged-lines s h = rw (le-leb (length s) 8192 h)
+
+judged-long : (s : List ℕ) → 8192 < length s → judged s ≡ rejected 1 0
+unfolding judged
+judged-long s h = rw (lt-leb (length s) 8192 h)
+
+-- the kinds of the codes' fields, and their places
+module _ (s codes : List ℕ) (fs : List FieldDesc) (e : fieldsOf codes ≡ withoutTexts fs) where
+  coded-field : (k : ℕ) → getD (fieldsOf codes) k noField ≡ withoutText (getD fs k noField)
+  coded-field k = ap (λ ds. getD ds k noField) e ∙ coded-at fs k
+
+  coded-kinds : (names ends : List ℕ) (k m : ℕ) → kinds (fieldsFrom s fs names ends k m) ≡ kinds (fieldsFrom s (fieldsOf codes) [] [] k m)
+  coded-kinds names ends k zero = refl
+  coded-kinds names ends k (suc m) = rw (coded-field k, coded-kinds names ends (k + 1) m)
+
+  coded-placed : (n : ℕ) → AllPlaced s fs n → AllPlaced s (fieldsOf codes) n
+  coded-placed n p k l = subst (Placed s) (sym (coded-field k)) (record { from = p k l .from; to = p k l .to; listed = p k l .listed })
+
+-- What is told after `line` lines: nothing so far, and how things stand; or a refusal's number and place, and no line is left.
+pub record Judging (s : List ℕ) (h : HeaderDesc) (fs : List FieldDesc) (names ends : List ℕ) (n : ℕ) (have last : Bool) (number place at line : ℕ) : Type 0 where
+  pub within : at ≤ length s + 1
+  pub few : n ≤ 64
+  pub counted : line ≤ at
+  pub all-fields : length fs ≡ 64
+  pub all-names : length names ≡ 64
+  pub all-ends : length ends ≡ 64
+  pub short : number ≡ 0 → length s ≤ 8192
+  pub no-place : number ≡ 0 → place ≡ 0
+  pub kept : number ≡ 0 → Kept s h fs names ends n have last at (line + 1)
+  pub told : 1 ≤ number → (rejected number place ≡ judged s) × (length s ≤ at)
+
+-- before any line there is no header
+abbrev pub noHeader : HeaderDesc
+noHeader = record { «name_at» = 0; «name_end» = 0; number = 0; «text_at» = 0; «text_end» = 0 }
+
+pub judging-start : (s : List ℕ) (h : HeaderDesc) (fs : List FieldDesc) (names ends : List ℕ) → length fs ≡ 64 → length names ≡ 64 → length ends ≡ 64
+    → (r : ℕ) → (length s ≤ 8192 → r ≡ 0) × (8192 < length s → r ≡ 1) → (a : ℕ) → (r ≡ 0 → a ≡ 0) × (1 ≤ r → a ≡ length s) → Judging s h fs names ends 0 false false r 0 a 0
+judging-start s h fs names ends x y z r (f, g) a (p, q) = by (decLt 8192 (length s))
+  where
+    by : Dec (8192 < length s) → Judging s h fs names ends 0 false false r 0 a 0
+    by (yes l) = record {
+      within = omega (arith, q (omega (arith, g l)));
+      few = omega arith;
+      counted = omega arith;
+      all-fields = x;
+      all-names = y;
+      all-ends = z;
+      short = λ e. absurd (omega (arith, g l));
+      no-place = λ e. refl;
+      kept = λ e. absurd (omega (arith, g l));
+      told = λ e. (rw (g l) (sym (judged-long s l)), omega (arith, q e));
+    }
+    by (no l) = record {
+      within = omega (arith, p (f (omega arith)));
+      few = omega arith;
+      counted = omega arith;
+      all-fields = x;
+      all-names = y;
+      all-ends = z;
+      short = λ e. omega arith;
+      no-place = λ e. refl;
+      kept = λ e. rw (p e) (kept-start s h fs names ends);
+      told = λ e. absurd (omega (arith, f (omega arith)));
+    }
+
+-- a turn of the loop, at a line that is left
+module _ {s : List ℕ} {h : HeaderDesc} {fs : List FieldDesc} {names ends : List ℕ} {n : ℕ} {have last : Bool} {number place at line : ℕ}
+    (j : Judging s h fs names ends n have last number place at line) (m : at < length s) where
+  nothing : number ≡ 0
+  nothing = by (decLe 1 number)
+    where
+      by : Dec (1 ≤ number) → number ≡ 0
+      by (yes l) = absurd (omega (arith, j .told l .1))
+      by (no l) = omega arith
+
+  so : Kept s h fs names ends n have last at (line + 1)
+  so = j .kept nothing
+
+  pub line-count : line + 1 ≤ 8192
+  line-count = omega (arith, j .short nothing, j .counted)
+
+  -- the line from `at` to e
+  module _ (e : ℕ) (w : e ≡ lineEnd s at) where
+    pub line-within : (at ≤ e) × (e ≤ length s) × (length s ≤ 8192) × (n ≤ length names) × (n ≤ length ends)
+    line-within =
+        (omega arith, rw w (front-within (inClass NotNewline) s at (length s) (omega arith) (omega arith)), j .short nothing, omega (arith, j .few, j .all-names), omega (arith, j .few, j .all-ends))
+
+    pub turn-less : length s + 1 - (e + 1) < length s + 1 - at
+    turn-less = omega (arith, line-within .0)
+
+    -- what it does
+    module _ (r : Step) (u : Due s have n r)
+        (g : (d : Description) → Stands s d last names ends n → stepOf s (progressOf have d) r ≡ lineVerdict (progressOf have d) (partIn s at e)) where
+      here : stepOf s (progressOf have (soFar s h fs names ends n)) r ≡ lineVerdict (progressOf have (soFar s h fs names ends n)) (partIn s at (lineEnd s at))
+      here = rw w at (g (soFar s h fs names ends n) (stands so))
+
+      going : {x : HeaderDesc} {gs : List FieldDesc} {ns es : List ℕ} {k : ℕ} {a b : Bool} → k ≤ 64 → length gs ≡ 64 → length ns ≡ 64 → length es ≡ 64 → Kept s x gs ns es k a b (lineEnd s at + 1) (line + 1 + 1)
+          → Judging s x gs ns es k a b number place (e + 1) (line + 1)
+      going l x y z k = record {
+        within = omega (arith, line-within .1);
+        few = l;
+        counted = omega (arith, line-within .0, j .counted);
+        all-fields = x;
+        all-names = y;
+        all-ends = z;
+        short = j .short;
+        no-place = j .no-place;
+        kept = λ i. rw w k;
+        told = λ i. absurd (omega (arith, nothing));
+      }
+
+      pub turn-skip : r ≡ Skip → Judging s h fs names ends n have last number place (e + 1) (line + 1)
+      turn-skip q = going (j .few) (j .all-fields) (j .all-names) (j .all-ends) (kept-skip so m (rw q at here))
+
+      pub turn-head : {x : HeaderDesc} → r ≡ Head x → Judging s x fs names ends n true last number place (e + 1) (line + 1)
+      turn-head {x} q = going (j .few) (j .all-fields) (j .all-names) (j .all-ends) (kept-head so m x (subst (Due s have n) q u) (rw q at here))
+
+      pub add-room : {f : NewField} → r ≡ Add f → n < 64
+      add-room {f} q = let z : Due s have n (Add f) = subst (Due s have n) q u in z .0
+
+      pub turn-add : {f : NewField} → r ≡ Add f → (b : Bool) → b ≡ last || tail (kindIn s (f .field .«qualifiers_at») (f .field .«qualifiers_end») (f .field .form))
+          → Judging s h (set fs n (f .field)) (set names n (f .«name_at»)) (set ends n (f .«name_end»)) (n + 1) have b number place (e + 1) (line + 1)
+      turn-add {f} q b t =
+          let z : Due s have n (Add f) = subst (Due s have n) q u in
+          going (omega (arith, z .0)) (length-set fs n (f .field) ∙ j .all-fields) (length-set names n (f .«name_at») ∙ j .all-names) (length-set ends n (f .«name_end») ∙ j .all-ends)
+          (kept-add so m f b (omega (arith, z .0, j .all-fields)) (omega (arith, z .0, j .all-names)) (omega (arith, z .0, j .all-ends)) (z .1) (z .2) t (rw q at here))
+
+      pub turn-refuse : {k : ℕ} → r ≡ Refuse k → Judging s h fs names ends n have last k (line + 1) (length s) (line + 1)
+      turn-refuse {k} q =
+          let v : faulty k ≡ lineVerdict (progressOf have (soFar s h fs names ends n)) (partIn s at (lineEnd s at)) = rw q at here in
+          let f = fault-number k (progressOf have (soFar s h fs names ends n)) (partIn s at (lineEnd s at)) v in
+          record {
+            within = omega arith;
+            few = j .few;
+            counted = omega (arith, j .counted);
+            all-fields = j .all-fields;
+            all-names = j .all-names;
+            all-ends = j .all-ends;
+            short = λ z. absurd (omega (arith, f, z));
+            no-place = λ z. absurd (omega (arith, f, z));
+            kept = λ z. absurd (omega (arith, f, z));
+            told = λ z. (kept-refused so m k v ∙ sym (judged-lines s (j .short nothing)), omega arith);
+          }
+
+-- after the last turn: the outline
+module _ {s codes : List ℕ} {h : HeaderDesc} {fs : List FieldDesc} {names ends : List ℕ} {n : ℕ} {have last : Bool} {number place at line : ℕ}
+    (j : Judging s h fs names ends n have last number place at line) (c : fieldsOf codes ≡ withoutTexts fs) (m : length s ≤ at) (r : ℕ) where
+  outlined : outlineOf (soFar s h fs names ends n) (record { number = r; line = place; count = n }) ≡ judged s → (r ≡ 0 → AllPlaced s fs n)
+      → Outlined s codes (record { number = r; line = place; count = n })
+  outlined q p = record {
+    found = soFar s h fs names ends n;
+    judges = q;
+    many = fields-many s fs names ends 0 n;
+    coded = coded-kinds s codes fs c names ends 0 n;
+    placed = λ z. coded-placed s codes fs c n (p z);
+  }
+
+  refused-outlined : (x : ℕ) → (r ≡ x) × (1 ≤ x) → rejected x place ≡ judged s → Outlined s codes (record { number = r; line = place; count = n })
+  refused-outlined x (e, l) q = outlined (rw (e, ne-eqb x 0 (λ z. omega arith)) q) (λ z. absurd (omega arith))
+
+  pub judging-end : (1 ≤ number → r ≡ number) × (number ≡ 0 → 1 ≤ n → r ≡ 0) × (number ≡ 0 → n ≡ 0 → r ≡ 2) → Outlined s codes (record { number = r; line = place; count = n })
+  judging-end q = by number refl n refl
+    where
+      by : (k : ℕ) → number ≡ k → (i : ℕ) → n ≡ i → Outlined s codes (record { number = r; line = place; count = n })
+      by (suc k) z i y = refused-outlined number (q .0 (omega arith), omega arith) (j .told (omega arith) .0)
+      by zero z zero y = refused-outlined 2 (q .2 z y, omega arith) (rw (j .no-place z) (no-fields (j .kept z) m y ∙ sym (judged-lines s (j .short z))))
+      by zero z (suc i) y =
+          let e : r ≡ 0 = q .1 z (omega arith) in
+          outlined (rw e (some-fields (j .kept z) m (λ x. omega arith) ∙ sym (judged-lines s (j .short z)))) (λ x. j .kept z .placed)

@@ -1,0 +1,164 @@
+use Rattle.stanza_judge.proofs.Outlines.{Judging, noHeader, judging-start, line-count, line-within, turn-less, turn-skip, turn-head, add-room, turn-add, turn-refuse, judging-end}
+use Rattle.stanza_code.specs.Code.{fieldsOf}
+use Rattle.stanza_code.proofs.Codes.{withoutTexts, codes-many, coded-start, coded-more}
+use Rattle.stanza_types.specs.declared.FieldDesc.{FieldDesc}
+use Rattle.stanza_line.specs.declared.HeaderDesc.{HeaderDesc}
+use mathlib.Core.Path.{_≡_, _∙_}
+use mathlib.Core.List.{List}
+use lib.ListN.{length}
+use Prim.Native.Nat.{_+_, _-_}
+use native.Mathlib.Omega.{arith}
+use borrow.Author.Needs.{needs}
+use Rattle.stanza_judge.proofs.judged_outline.Statement.{statement}
+use Rattle.stanza_judge.proofs.judged_outline.Tie as tie
+use Rattle.stanza_judge.proofs.judged_outline.Reads as reads
+use Rattle.stanza_judge.proofs.judged_outline.Lts as lts
+use Rattle.stanza_code.proofs.code.Reads as code-reads
+use Rattle.octets.proofs.line_end.Reads as line-end-reads
+use Rattle.stanza_judge.proofs.at_end.Reads as at-end-reads
+use Rattle.stanza_judge.proofs.at_start.Reads as at-start-reads
+use Rattle.stanza_judge.proofs.first_line.Reads as first-line-reads
+use Rattle.stanza_line.proofs.line_step.Reads as line-step-reads
+use Rattle.stanza_line.proofs.tail_after.Reads as tail-after-reads
+
+abbrev Inv-loop : tie.InvT-loop
+Inv-loop s codes₀ names₀ ends₀ n₀ have₀ last₀ number₀ place₀ at₀ line₀ codes names ends n have last number place at line =
+    (h : HeaderDesc) × (fs : List FieldDesc) × Judging s h fs names ends n have last number place at line × (fieldsOf codes ≡ withoutTexts fs)
+
+abbrev μ-loop : tie.MeasureT-loop
+μ-loop s codes₀ names₀ ends₀ n₀ have₀ last₀ number₀ place₀ at₀ line₀ codes names ends n have last number place at line = length s + 1 - at
+
+at-start-requires : tie.Need-at-start-requires Inv-loop μ-loop
+at-start-requires c κs = search needs
+
+first-line-requires : tie.Need-first-line-requires Inv-loop μ-loop
+first-line-requires c κs = search needs
+
+loop-holds : tie.Need-loop-holds Inv-loop μ-loop
+loop-holds c = (_, fieldsOf (c .before .before .before .args .codes .now), judging-start _ noHeader _ _ _ (codes-many (c .before .before .before .args .codes .now) ∙ search needs) (search needs) (search needs) (c .before .at-start .result) (c .before .at-start .ensures) (c .first-line .result) (c .first-line .ensures), coded-start (c .before .before .before .args .codes .now))
+
+add-line : tie.Need-add-line Inv-loop μ-loop
+add-line c = omega (arith, line-count (c .before .loop .inv .2) (c .loop-test .taken))
+
+line-end-requires : tie.Need-line-end-requires Inv-loop μ-loop
+line-end-requires c κs = search needs
+
+slice-aggregate-line-step : tie.Need-slice-aggregate-line-step Inv-loop μ-loop
+slice-aggregate-line-step c = search needs
+
+slice-aggregate-line-step-2 : tie.Need-slice-aggregate-line-step-2 Inv-loop μ-loop
+slice-aggregate-line-step-2 c = search needs
+
+line-step-requires : tie.Need-line-step-requires Inv-loop μ-loop
+line-step-requires c κs = line-within (c .before .before .before .before .loop .inv .2) (c .before .before .before .loop-test .taken) (c .before .before .line-end .result) (c .before .before .line-end .ensures)
+
+add-at : tie.Need-add-at Inv-loop μ-loop
+add-at c = omega (arith, line-within (c .before .before .before .before .before .loop .inv .2) (c .before .before .before .before .loop-test .taken) (c .before .before .before .line-end .result) (c .before .before .before .line-end .ensures))
+
+enum-told : tie.Need-enum-told Inv-loop μ-loop
+enum-told c = search needs
+
+loop-less : tie.Need-loop-less Inv-loop μ-loop
+loop-less c = turn-less (c .before .before .before .before .before .before .before .loop .inv .2) (c .before .before .before .before .before .before .loop-test .taken) (c .before .before .before .before .before .line-end .result) (c .before .before .before .before .before .line-end .ensures)
+
+loop-again : tie.Need-loop-again Inv-loop μ-loop
+loop-again c = (_, _, turn-skip (c .before .before .before .before .before .before .before .loop .inv .2) (c .before .before .before .before .before .before .loop-test .taken) (c .before .before .before .before .before .line-end .result) (c .before .before .before .before .before .line-end .ensures) (c .before .before .line-step .result) (c .before .before .line-step .ensures .0) (c .before .before .line-step .ensures .1) (c .enum-told .given .1), c .before .before .before .before .before .before .before .loop .inv .3)
+
+enum-known-step : tie.Need-enum-known-step Inv-loop μ-loop
+enum-known-step c = search needs
+
+loop-less-2 : tie.Need-loop-less-2 Inv-loop μ-loop
+loop-less-2 c = omega (arith, c .before .before .before .before .before .before .before .loop-test .taken)
+
+loop-again-2 : tie.Need-loop-again-2 Inv-loop μ-loop
+loop-again-2 c = (_, _, turn-refuse (c .before .before .before .before .before .before .before .before .loop .inv .2) (c .before .before .before .before .before .before .before .loop-test .taken) (c .before .before .before .before .before .before .line-end .result) (c .before .before .before .before .before .before .line-end .ensures) (c .before .before .before .line-step .result) (c .before .before .before .line-step .ensures .0) (c .before .before .before .line-step .ensures .1) (c .before .step .given .1), c .before .before .before .before .before .before .before .before .loop .inv .3)
+
+enum-told-2 : tie.Need-enum-told-2 Inv-loop μ-loop
+enum-told-2 c = search needs
+
+loop-less-3 : tie.Need-loop-less-3 Inv-loop μ-loop
+loop-less-3 c = turn-less (c .before .before .before .before .before .before .before .loop .inv .2) (c .before .before .before .before .before .before .loop-test .taken) (c .before .before .before .before .before .line-end .result) (c .before .before .before .before .before .line-end .ensures)
+
+loop-again-3 : tie.Need-loop-again-3 Inv-loop μ-loop
+loop-again-3 c = (_, _, turn-head (c .before .before .before .before .before .before .before .loop .inv .2) (c .before .before .before .before .before .before .loop-test .taken) (c .before .before .before .before .before .line-end .result) (c .before .before .before .before .before .line-end .ensures) (c .before .before .line-step .result) (c .before .before .line-step .ensures .0) (c .before .before .line-step .ensures .1) (c .enum-told2 .given .1), c .before .before .before .before .before .before .before .loop .inv .3)
+
+enum-known-step-2 : tie.Need-enum-known-step-2 Inv-loop μ-loop
+enum-known-step-2 c = search needs
+
+code-requires : tie.Need-code-requires Inv-loop μ-loop
+code-requires c κs = search needs
+
+mul-codes : tie.Need-mul-codes Inv-loop μ-loop
+mul-codes c = search needs
+
+element-write-codes : tie.Need-element-write-codes Inv-loop μ-loop
+element-write-codes c = add-room (c .before .before .before .before .before .before .before .before .before .before .loop .inv .2) (c .before .before .before .before .before .before .before .before .before .loop-test .taken) (c .before .before .before .before .before .before .before .before .line-end .result) (c .before .before .before .before .before .before .before .before .line-end .ensures) (c .before .before .before .before .before .line-step .result) (c .before .before .before .before .before .line-step .ensures .0) (c .before .before .before .before .before .line-step .ensures .1) (c .before .before .before .step2 .given .1)
+
+mul-names : tie.Need-mul-names Inv-loop μ-loop
+mul-names c = search needs
+
+array-write-names : tie.Need-array-write-names Inv-loop μ-loop
+array-write-names c = add-room (c .before .before .before .before .before .before .before .before .before .before .loop .inv .2) (c .before .before .before .before .before .before .before .before .before .loop-test .taken) (c .before .before .before .before .before .before .before .before .line-end .result) (c .before .before .before .before .before .before .before .before .line-end .ensures) (c .before .before .before .before .before .line-step .result) (c .before .before .before .before .before .line-step .ensures .0) (c .before .before .before .before .before .line-step .ensures .1) (c .before .before .before .step2 .given .1)
+
+mul-ends : tie.Need-mul-ends Inv-loop μ-loop
+mul-ends c = search needs
+
+array-write-ends : tie.Need-array-write-ends Inv-loop μ-loop
+array-write-ends c = add-room (c .before .before .before .before .before .before .before .before .before .before .loop .inv .2) (c .before .before .before .before .before .before .before .before .before .loop-test .taken) (c .before .before .before .before .before .before .before .before .line-end .result) (c .before .before .before .before .before .before .before .before .line-end .ensures) (c .before .before .before .before .before .line-step .result) (c .before .before .before .before .before .line-step .ensures .0) (c .before .before .before .before .before .line-step .ensures .1) (c .before .before .before .step2 .given .1)
+
+tail-after-requires : tie.Need-tail-after-requires Inv-loop μ-loop
+tail-after-requires c κs = search needs
+
+add-n : tie.Need-add-n Inv-loop μ-loop
+add-n c = search needs
+
+loop-less-4 : tie.Need-loop-less-4 Inv-loop μ-loop
+loop-less-4 c = turn-less (c .before .before .before .before .before .before .before .before .before .before .before .loop .inv .2) (c .before .before .before .before .before .before .before .before .before .before .loop-test .taken) (c .before .before .before .before .before .before .before .before .before .line-end .result) (c .before .before .before .before .before .before .before .before .before .line-end .ensures)
+
+loop-again-4 : tie.Need-loop-again-4 Inv-loop μ-loop
+loop-again-4 c = (_, _, turn-add (c .before .before .before .before .before .before .before .before .before .before .before .loop .inv .2) (c .before .before .before .before .before .before .before .before .before .before .loop-test .taken) (c .before .before .before .before .before .before .before .before .before .line-end .result) (c .before .before .before .before .before .before .before .before .before .line-end .ensures) (c .before .before .before .before .before .before .line-step .result) (c .before .before .before .before .before .before .line-step .ensures .0) (c .before .before .before .before .before .before .line-step .ensures .1) (c .before .before .before .before .step2 .given .1) _ (c .tail-after .ensures _), coded-more (c .before .before .before .before .before .before .before .before .before .before .before .loop .codes) (c .before .before .before .before .before .before .before .before .before .before .before .loop .inv .1) (c .before .before .before .before .before .before .before .before .before .before .before .loop .n) (c .before .code .result) (c .before .before .before .before .step2 .given .0 .0 .field) (c .before .before .before .before .before .before .before .before .before .before .before .loop .inv .3) (c .before .code .ensures))
+
+at-end-requires : tie.Need-at-end-requires Inv-loop μ-loop
+at-end-requires c κs = search needs
+
+returns : tie.Need-returns Inv-loop μ-loop
+returns c = judging-end (c .before .before .loop .inv .2) (c .before .before .loop .inv .3) (c .before .loop-test .left) (c .at-end .result) (c .at-end .ensures)
+
+pub judged-outline-spec : {M : Type 1} → statement M
+judged-outline-spec =
+    tie.close
+    (tie.spec
+    Inv-loop
+    μ-loop
+    at-start-requires
+    first-line-requires
+    loop-holds
+    add-line
+    line-end-requires
+    slice-aggregate-line-step
+    slice-aggregate-line-step-2
+    line-step-requires
+    add-at
+    enum-told
+    loop-less
+    loop-again
+    enum-known-step
+    loop-less-2
+    loop-again-2
+    enum-told-2
+    loop-less-3
+    loop-again-3
+    enum-known-step-2
+    code-requires
+    mul-codes
+    element-write-codes
+    mul-names
+    array-write-names
+    mul-ends
+    array-write-ends
+    tail-after-requires
+    add-n
+    loop-less-4
+    loop-again-4
+    at-end-requires
+    returns)

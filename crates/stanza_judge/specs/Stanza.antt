@@ -1,0 +1,30 @@
+-- The judged stanza in code, and what it means.
+use Prim.Native.Nat.{ℕ, _<_}
+use mathlib.Core.Path.{_≡_}
+use mathlib.Core.Bool.{cond}
+use mathlib.Core.List.{List, []}
+use lib.ListN.{length, getD}
+use lib.Dec.{eqb}
+use Rattle.format.specs.Field.{kinds}
+use Rattle.format.specs.Judge.{Description, Judged, rejected, described, judged}
+use Rattle.stanza_types.specs.declared.FieldDesc.{FieldDesc}
+use Rattle.stanza_types.specs.Fields.{Placed, noField, fieldsFrom}
+use Rattle.stanza_code.specs.Code.{fieldsOf}
+use Rattle.stanza_judge.specs.declared.Outline.{Outline}
+
+-- the description, or the refusal
+abbrev pub outlineOf : Description → Outline → Judged
+outlineOf d o = cond (eqb (o .number) 0) (described d) (rejected (o .number) (o .line))
+
+-- what is known of the fields of an accepted one
+abbrev pub AllPlaced : List ℕ → List FieldDesc → ℕ → Type 0
+AllPlaced s fs n = (k : ℕ) → k < n → Placed s (getD fs k noField)
+
+-- a judged stanza: the description, which no code keeps, or the refusal is the definition's; the codes' fields are as many as the
+-- described ones and of their kinds, and their qualifiers lie in the stanza
+pub record Outlined (s codes : List ℕ) (o : Outline) : Type 0 where
+  pub found : Description
+  pub judges : outlineOf found o ≡ judged s
+  pub many : length (found .fields) ≡ o .count
+  pub coded : kinds (found .fields) ≡ kinds (fieldsFrom s (fieldsOf codes) [] [] 0 (o .count))
+  pub placed : o .number ≡ 0 → AllPlaced s (fieldsOf codes) (o .count)

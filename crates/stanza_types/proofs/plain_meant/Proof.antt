@@ -1,0 +1,86 @@
+use Rattle.stanza_types.proofs.Meanings.{plain-kind}
+use borrow.Author.Tests.{eq-eqb}
+use mathlib.Core.Path.{_≡_, refl, sym, ap, _∙_}
+use native.Mathlib.Omega.{arith}
+use borrow.Author.Needs.{needs}
+use Rattle.stanza_types.proofs.plain_meant.Statement.{statement}
+use Rattle.stanza_types.proofs.plain_meant.Tie as tie
+use Rattle.stanza_types.proofs.plain_meant.Reads as reads
+use Rattle.stanza_types.proofs.plain_meant.Lts as lts
+
+enum-told : tie.Need-enum-told
+enum-told c = search needs
+
+enum-told-2 : tie.Need-enum-told-2
+enum-told-2 c = search needs
+
+enum-told-3 : tie.Need-enum-told-3
+enum-told-3 c = search needs
+
+enum-told-4 : tie.Need-enum-told-4
+enum-told-4 c = search needs
+
+enum-known-t : tie.Need-enum-known-t
+enum-known-t c = search needs
+
+enum-told-5 : tie.Need-enum-told-5
+enum-told-5 c = search needs
+
+enum-told-6 : tie.Need-enum-told-6
+enum-told-6 c = search needs
+
+enum-told-7 : tie.Need-enum-told-7
+enum-told-7 c = search needs
+
+enum-told-8 : tie.Need-enum-told-8
+enum-told-8 c = search needs
+
+returns : tie.Need-returns
+returns c = λ s a. rw (c .enum-told .given .1)
+
+returns-2 : tie.Need-returns-2
+returns-2 c = λ s a. rw (c .enum-told2 .given .1, eq-eqb a a refl)
+
+returns-3 : tie.Need-returns-3
+returns-3 c = λ s a. rw (c .enum-told3 .given .1, eq-eqb a a refl)
+
+returns-4 : tie.Need-returns-4
+returns-4 c = λ s a. rw (c .enum-told4 .given .1, eq-eqb a a refl)
+
+returns-5 : tie.Need-returns-5
+returns-5 c = λ s a. rw (c .before .t .given .1) (plain-kind s a (c .before .t .given .0 .0))
+
+returns-6 : tie.Need-returns-6
+returns-6 c = λ s a. rw (c .enum-told5 .given .1)
+
+returns-7 : tie.Need-returns-7
+returns-7 c = λ s a. rw (c .enum-told6 .given .1)
+
+returns-8 : tie.Need-returns-8
+returns-8 c = λ s a. rw (c .enum-told7 .given .1)
+
+returns-9 : tie.Need-returns-9
+returns-9 c = λ s a. rw (c .enum-told8 .given .1)
+
+pub plain-meant-spec : {M : Type 1} → statement M
+plain-meant-spec =
+    tie.close
+    (tie.spec
+    enum-told
+    enum-told-2
+    enum-told-3
+    enum-told-4
+    enum-known-t
+    enum-told-5
+    enum-told-6
+    enum-told-7
+    enum-told-8
+    returns
+    returns-2
+    returns-3
+    returns-4
+    returns-5
+    returns-6
+    returns-7
+    returns-8
+    returns-9)

@@ -1,0 +1,17 @@
+use Rattle.stanza_types.proofs.Meanings.{letter-alone}
+use native.Mathlib.Omega.{arith}
+use borrow.Author.Needs.{needs}
+use Rattle.stanza_types.proofs.string_by_letter.Statement.{statement}
+use Rattle.stanza_types.proofs.string_by_letter.Tie as tie
+
+returns : tie.Need-returns
+returns c = λ s a b e. rw (letter-alone s a b (c .before .args .x) 77 (c .if1 .taken) e)
+
+returns-2 : tie.Need-returns-2
+returns-2 c = λ s a b e. rw (letter-alone s a b (c .before .before .args .x) 88 (c .if2 .taken) e)
+
+returns-3 : tie.Need-returns-3
+returns-3 c = search needs
+
+pub string-by-letter-spec : {M : Type 1} → statement M
+string-by-letter-spec = tie.close (tie.spec returns returns-2 returns-3)

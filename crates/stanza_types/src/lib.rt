@@ -1,0 +1,412 @@
+// The types of fields.
+ghost use Prim.Native.Nat.{ℕ, _≤_, _<_, _^_};
+ghost use lib.ListN.{length, drop};
+ghost use lib.Seq.{slice};
+ghost use mathlib.Core.Path.{_≡_};
+ghost use mathlib.Core.List.{List, [], _∷_};
+ghost use mathlib.Core.Option.{none, some};
+ghost use Rattle.format.specs.Octets.{sameOctets};
+ghost use Rattle.format.specs.Types.{typeRows, takesOf, allowed, symbols, meaningOf};
+ghost use Rattle.stanza_types.specs.Types.{takenBy, longer, meantIn, meaningBy, qualifiedIn, meaningIn, listed, markOf, marksOf, nameForm, madeOf, MadeBy};
+ghost use Rattle.stanza_words.specs.declared.Words.the-variants.{OnN, OnS};
+use stanza_words::Test;
+use stanza_words::Words;
+
+// A kind of field: the octets of an integer or an EUI; the marks C, A, L, O of a name, as 1, 2, 4, 8 in one octet, so that a form
+// is a number and one octet (`field_code`).
+pub enum Form {
+    Int(u8),
+    Rrtype,
+    Bitmap,
+    Dotted,
+    Aa,
+    Aaaa,
+    Name(u8),
+    Str,
+    Strs,
+    Raw,
+    Base32,
+    Base64,
+    Hex,
+    Hexc,
+    Eui(u8),
+    Time,
+}
+
+// A field of a description: its form, and where its qualifiers and, as the judge finds it, its free text lie.
+pub struct FieldDesc {
+    pub form: Form,
+    pub qualifiers_at: u16,
+    pub qualifiers_end: u16,
+    pub text_at: u16,
+    pub text_end: u16,
+}
+
+// A type: unknown; an integer, which takes symbols; one that takes no qualifier; or R, N, S, X.
+pub enum FieldType {
+    NoType,
+    Int1,
+    Int2,
+    Int4,
+    Plain(Form),
+    TypeR,
+    TypeN,
+    TypeS,
+    TypeX,
+}
+
+// What a type and its qualifiers are: against the grammar, not known, not allowed, or a kind of field.
+pub enum Meant {
+    Malformed,
+    Unknown,
+    Forbidden,
+    Means(Form),
+}
+
+// What one letter makes of a type: a kind of field, or what is told otherwise.
+enum ByLetter {
+    Other,
+    Makes(Form),
+}
+
+// Whether the text from a to e is the word w.
+fn is_word(s: &[u8], a: usize, e: usize, w: &[u8]) -> bool
+    requires { ⌜ (a ≤ e) × (e ≤ length (now s)) ⌝ }
+    ensures { λ r. ⌜ r ≡ sameOctets (slice a e (now (s .entry))) (now (w .entry)) ⌝ }
+{
+    if e - a == w.len() {
+        let mut j = 0;
+        while j < w.len() {
+            if s[a + j] == w[j] {
+                j = j + 1;
+            } else {
+                return false;
+            }
+        }
+        return true;
+    }
+    false
+}
+
+// The type from a to e. Those of one letter are told at once.
+fn type_of(s: &[u8], a: usize, e: usize) -> FieldType
+    requires { ⌜ (a ≤ e) × (e ≤ length (now s)) ⌝ }
+    ensures { λ r. ⌜ takenBy r ≡ takesOf typeRows (slice a e (now (s .entry))) ⌝ }
+{
+    if e - a == 1 {
+        return letter_type(s[a]);
+    }
+    word_type(s, a, e)
+}
+
+// The type of one letter.
+fn letter_type(x: u8) -> FieldType
+    ensures { λ r. ⌜ takenBy r ≡ takesOf typeRows (x ∷ []) ⌝ }
+{
+    if x == b'N' {
+        return FieldType::TypeN;
+    }
+    if x == b'S' {
+        return FieldType::TypeS;
+    }
+    if x == b'A' {
+        return FieldType::Plain(Form::Dotted);
+    }
+    if x == b'X' {
+        return FieldType::TypeX;
+    }
+    if x == b'R' {
+        return FieldType::TypeR;
+    }
+    if x == b'T' {
+        return FieldType::Plain(Form::Time);
+    }
+    FieldType::NoType
+}
+
+// The type from a to e among those of more than one letter.
+fn word_type(s: &[u8], a: usize, e: usize) -> FieldType
+    requires { ⌜ (a ≤ e) × (e ≤ length (now s)) ⌝ }
+    ensures { λ r. ⌜ takenBy r ≡ takesOf (longer typeRows) (slice a e (now (s .entry))) ⌝ }
+{
+    if is_word(s, a, e, b"I1") {
+        return FieldType::Int1;
+    }
+    if is_word(s, a, e, b"I2") {
+        return FieldType::Int2;
+    }
+    if is_word(s, a, e, b"I4") {
+        return FieldType::Int4;
+    }
+    if is_word(s, a, e, b"AA") {
+        return FieldType::Plain(Form::Aa);
+    }
+    if is_word(s, a, e, b"AAAA") {
+        return FieldType::Plain(Form::Aaaa);
+    }
+    if is_word(s, a, e, b"B32") {
+        return FieldType::Plain(Form::Base32);
+    }
+    if is_word(s, a, e, b"B64") {
+        return FieldType::Plain(Form::Base64);
+    }
+    if is_word(s, a, e, b"EUI48") {
+        return FieldType::Plain(Form::Eui(6));
+    }
+    if is_word(s, a, e, b"EUI64") {
+        return FieldType::Plain(Form::Eui(8));
+    }
+    if is_word(s, a, e, b"X6") {
+        return FieldType::Plain(Form::Eui(6));
+    }
+    if is_word(s, a, e, b"X8") {
+        return FieldType::Plain(Form::Eui(8));
+    }
+    FieldType::NoType
+}
+
+// What qualifiers from a to b are that their type does not take.
+fn refused(s: &[u8], a: usize, b: usize) -> Meant
+    requires { ⌜ (a ≤ b) × (b ≤ length (now s)) ⌝ }
+    ensures { λ r. ⌜ meantIn (now (s .entry)) a b r ≡ meaningBy (λ qs. none) (now (s .entry)) a b ⌝ }
+{
+    if stanza_words::any(Test::Malformed, s, a, b) {
+        return Meant::Malformed;
+    }
+    if stanza_words::any(Test::Unknown, s, a, b) {
+        return Meant::Unknown;
+    }
+    Meant::Forbidden
+}
+
+// The first number that an integer of w octets cannot hold.
+pub fn limit(w: u8) -> u64
+    requires { ⌜ w ≤ 4 ⌝ }
+    ensures { λ r. ⌜ r ≡ 256 ^ w ⌝ }
+{
+    if w == 1 {
+        return 256;
+    }
+    if w == 2 {
+        return 65536;
+    }
+    if w == 3 {
+        return 16777216;
+    }
+    if w == 4 {
+        return 4294967296;
+    }
+    1
+}
+
+// An integer of w octets with the qualifiers from a to b.
+fn symbols_meant(s: &[u8], a: usize, b: usize, w: u8) -> Meant
+    requires { ⌜ (a < b) × (b ≤ length (now s)) × (w ≤ 4) ⌝ }
+    ensures { λ r. ⌜ meantIn (now (s .entry)) a b r ≡ meaningBy (allowed (symbols w)) (now (s .entry)) a b ⌝ }
+{
+    let m = limit(w);
+    if stanza_distinct::plain_symbols(m, s, a, b) {
+        return Meant::Means(Form::Int(w));
+    }
+    if stanza_words::any(Test::NotSymbol(m), s, a, b) {
+        return refused(s, a, b);
+    }
+    if stanza_distinct::twice(true, s, a, b) {
+        return Meant::Forbidden;
+    }
+    Meant::Means(Form::Int(w))
+}
+
+// A mark's number, where it is given.
+fn mark(given: bool, k: u8) -> u8
+    ensures { λ r. ⌜ r ≡ markOf given k ⌝ }
+{
+    if given { k } else { 0 }
+}
+
+// The marks of a name in one octet.
+fn marks(c: bool, m: bool, l: bool, o: bool) -> u8
+    ensures { λ r. ⌜ r ≡ marksOf c m l o ⌝ }
+{
+    let low = mark(c, 1) | mark(m, 2);
+    let high = mark(l, 4) | mark(o, 8);
+    low | high
+}
+
+// The form of a name with the qualifiers from a to b.
+fn name_form(s: &[u8], a: usize, b: usize) -> Form
+    requires { ⌜ (a ≤ b) × (b ≤ length (now s)) ⌝ }
+    ensures { λ r. ⌜ r ≡ nameForm (now (s .entry)) a b ⌝ }
+{
+    let c = stanza_words::any(Test::IsWord(b'C'), s, a, b);
+    let m = stanza_words::any(Test::IsWord(b'A'), s, a, b);
+    let l = stanza_words::any(Test::IsWord(b'L'), s, a, b);
+    let o = stanza_words::any(Test::IsWord(b'O'), s, a, b);
+    Form::Name(marks(c, m, l, o))
+}
+
+// What the words of a type make, each given once, and one at least.
+fn made(s: &[u8], a: usize, b: usize, w: Words) -> Meant
+    requires { ⌜ (a ≤ b) × (b ≤ length (now s)) ⌝ }
+    ensures { λ r. ⌜ r ≡ madeOf (now (s .entry)) a b w ⌝ }
+{
+    match w {
+        Words::Nothing => Meant::Forbidden,
+        Words::OnR => Meant::Means(Form::Bitmap),
+        Words::OnN => Meant::Means(name_form(s, a, b)),
+        Words::OnS => {
+            let x = stanza_words::any(Test::IsWord(b'X'), s, a, b);
+            if stanza_words::any(Test::IsWord(b'M'), s, a, b) {
+                if x {
+                    return Meant::Forbidden;
+                }
+                return Meant::Means(Form::Strs);
+            }
+            if x {
+                return Meant::Means(Form::Raw);
+            }
+            Meant::Means(Form::Str)
+        }
+        Words::OnX => Meant::Means(Form::Hexc),
+    }
+}
+
+// What one letter makes of a name.
+fn name_by_letter(x: u8) -> ByLetter
+    ensures { λ r. ⌜ MadeBy OnN x r ⌝ }
+{
+    if x == b'C' {
+        return ByLetter::Makes(Form::Name(1));
+    }
+    if x == b'A' {
+        return ByLetter::Makes(Form::Name(2));
+    }
+    if x == b'L' {
+        return ByLetter::Makes(Form::Name(4));
+    }
+    if x == b'O' {
+        return ByLetter::Makes(Form::Name(8));
+    }
+    ByLetter::Other
+}
+
+// What one letter makes of a string.
+fn string_by_letter(x: u8) -> ByLetter
+    ensures { λ r. ⌜ MadeBy OnS x r ⌝ }
+{
+    if x == b'M' {
+        return ByLetter::Makes(Form::Strs);
+    }
+    if x == b'X' {
+        return ByLetter::Makes(Form::Raw);
+    }
+    ByLetter::Other
+}
+
+// What one letter makes of a type that takes words.
+fn kind_by_letter(w: Words, x: u8) -> ByLetter
+    ensures { λ r. ⌜ MadeBy w x r ⌝ }
+{
+    match w {
+        Words::Nothing => ByLetter::Other,
+        Words::OnR => {
+            if x == b'L' {
+                return ByLetter::Makes(Form::Bitmap);
+            }
+            ByLetter::Other
+        }
+        Words::OnN => name_by_letter(x),
+        Words::OnS => string_by_letter(x),
+        Words::OnX => {
+            if x == b'C' {
+                return ByLetter::Makes(Form::Hexc);
+            }
+            ByLetter::Other
+        }
+    }
+}
+
+// A type that takes words, with the qualifiers from a to b. Most often there is one, of one letter.
+fn words_meant(s: &[u8], a: usize, b: usize, w: Words) -> Meant
+    requires { ⌜ (a < b) × (b ≤ length (now s)) ⌝ }
+    ensures { λ r. ⌜ meantIn (now (s .entry)) a b r ≡ meaningBy (allowed (listed w)) (now (s .entry)) a b ⌝ }
+{
+    if b - a == 1 {
+        let m = kind_by_letter(w, s[a]);
+        match m {
+            ByLetter::Other => {
+                return listed_meant(s, a, b, w);
+            }
+            ByLetter::Makes(f) => {
+                return Meant::Means(f);
+            }
+        }
+    }
+    listed_meant(s, a, b, w)
+}
+
+// The same, by a test of all its qualifiers.
+fn listed_meant(s: &[u8], a: usize, b: usize, w: Words) -> Meant
+    requires { ⌜ (a < b) × (b ≤ length (now s)) ⌝ }
+    ensures { λ r. ⌜ meantIn (now (s .entry)) a b r ≡ meaningBy (allowed (listed w)) (now (s .entry)) a b ⌝ }
+{
+    if stanza_words::any(Test::NotWord(w), s, a, b) {
+        return refused(s, a, b);
+    }
+    if stanza_distinct::twice(false, s, a, b) {
+        return Meant::Forbidden;
+    }
+    made(s, a, b, w)
+}
+
+// A type without qualifiers.
+fn plain_meant(t: FieldType) -> Meant
+    ensures { λ r. ⌜ ((s : List ℕ) (a : ℕ) → meantIn s a a r ≡ some (meaningOf (takenBy t) [])) ⌝ }
+{
+    match t {
+        FieldType::NoType => Meant::Unknown,
+        FieldType::Int1 => Meant::Means(Form::Int(1)),
+        FieldType::Int2 => Meant::Means(Form::Int(2)),
+        FieldType::Int4 => Meant::Means(Form::Int(4)),
+        FieldType::Plain(f) => Meant::Means(f),
+        FieldType::TypeR => Meant::Means(Form::Rrtype),
+        FieldType::TypeN => Meant::Means(Form::Name(0)),
+        FieldType::TypeS => Meant::Means(Form::Str),
+        FieldType::TypeX => Meant::Means(Form::Hex),
+    }
+}
+
+// The type from k to e with the qualifiers from a to b.
+pub fn meaning_of(s: &[u8], k: usize, e: usize, a: usize, b: usize) -> Meant
+    requires { ⌜ (k ≤ e) × (e ≤ length (now s)) × (a ≤ b) × (b ≤ length (now s)) ⌝ }
+    ensures { λ r. ⌜ meantIn (now (s .entry)) a b r ≡ meaningIn (slice k e (now (s .entry))) (now (s .entry)) a b ⌝ }
+{
+    let t = type_of(s, k, e);
+    if a == b {
+        return plain_meant(t);
+    }
+    qualified(t, s, a, b)
+}
+
+// A type with the qualifiers from a to b.
+fn qualified(t: FieldType, s: &[u8], a: usize, b: usize) -> Meant
+    requires { ⌜ (a < b) × (b ≤ length (now s)) ⌝ }
+    ensures { λ r. ⌜ meantIn (now (s .entry)) a b r ≡ qualifiedIn (takenBy t) (now (s .entry)) a b ⌝ }
+{
+    match t {
+        FieldType::NoType => {
+            if stanza_words::any(Test::Malformed, s, a, b) {
+                return Meant::Malformed;
+            }
+            Meant::Unknown
+        }
+        FieldType::Int1 => symbols_meant(s, a, b, 1),
+        FieldType::Int2 => symbols_meant(s, a, b, 2),
+        FieldType::Int4 => symbols_meant(s, a, b, 4),
+        FieldType::Plain(f) => refused(s, a, b),
+        FieldType::TypeR => words_meant(s, a, b, Words::OnR),
+        FieldType::TypeN => words_meant(s, a, b, Words::OnN),
+        FieldType::TypeS => words_meant(s, a, b, Words::OnS),
+        FieldType::TypeX => words_meant(s, a, b, Words::OnX),
+    }
+}

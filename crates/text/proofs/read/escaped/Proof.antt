@@ -1,0 +1,94 @@
+use Prim.Native.Nat.{_+_, _-_, _≤_}
+use mathlib.Core.Path.{_≡_}
+use lib.Seq.{slice}
+use Rattle.text.proofs.Texts.{run-within, run-value, run-stops, quoted-none, escape-fault, escape-octet, ends-within}
+use Rattle.buffer.proofs.Values.{Begun, begun-none, begun-piece, begun-fault, begun-all}
+use Rattle.text.specs.Text.{plainEnd}
+use Rattle.buffer.proofs.Laws.{wrote-one, wrote-length}
+use Rattle.format.specs.Text.{stringValue}
+use Rattle.format.specs.Token.{quoted}
+use native.Mathlib.Omega.{arith}
+use borrow.Author.Needs.{needs}
+use Rattle.text.proofs.read.escaped.Statement.{statement}
+use Rattle.text.proofs.read.escaped.Tie as tie
+
+abbrev Inv-loop : tie.InvT-loop
+Inv-loop out₀ n t i e m₀ j₀ out m j = (i ≤ j) × (j ≤ e) × (m + (e - j) ≤ n + (e - i)) × (plainEnd t j e ≡ j) × Begun out₀ out n m (stringValue (quoted (slice i e t))) (stringValue (quoted (slice j e t)))
+
+abbrev μ-loop : tie.MeasureT-loop
+μ-loop out₀ n t i e m₀ j₀ out m j = e - j
+
+loop-holds : tie.Need-loop-holds Inv-loop μ-loop
+loop-holds c = (search needs, search needs, search needs, c .before .before .pre .4, begun-none _ _ _)
+
+add-read : tie.Need-add-read Inv-loop μ-loop
+add-read c = search needs
+
+read-requires : tie.Need-read-requires Inv-loop μ-loop
+read-requires c κs = search needs
+
+enum-told : tie.Need-enum-told Inv-loop μ-loop
+enum-told c = search needs
+
+same-length : tie.Need-same-length Inv-loop μ-loop
+same-length c = wrote-length (c .before .before .before .before .loop .inv .4 .wrote)
+
+returns : tie.Need-returns Inv-loop μ-loop
+returns c = begun-fault (c .before .before .before .before .loop .inv .4) (escape-fault (c .before .before .before .before .before .before .before .args .t .now) _ _ (c .before .before .before .loop-test .taken) (c .before .before .before .before .before .before .before .pre .2) (c .before .before .before .before .loop .inv .3) (c .before .before .read .result) (c .before .before .read .ensures .0) (c .enum-told .given .1))
+
+enum-known-x : tie.Need-enum-known-x Inv-loop μ-loop
+enum-known-x c = search needs
+
+put-requires : tie.Need-put-requires Inv-loop μ-loop
+put-requires c κs = search needs
+
+add-copy-near : tie.Need-add-copy-near Inv-loop μ-loop
+add-copy-near c = omega (arith, c .before .before .before .before .before .before .before .before .before .before .loop .inv .2, c .before .before .before .before .before .before .before .before .before .before .before .before .before .pre .0)
+
+copy-near-requires : tie.Need-copy-near-requires Inv-loop μ-loop
+copy-near-requires c κs = let w = ends-within (c .before .before .before .before .before .before .before .before .before .before .loop .j + 1) (c .before .before .before .before .before .before .before .before .before .before .before .before .before .args .e) (c .before .before .before .before .before .before .before .before .read .result) (c .before .before .before .before .before .before .x .given .0 .0) (c .before .before .before .before .before .before .x .given .0 .1 .0) (c .before .before .before .before .before .before .x .given .1) (c .before .before .before .before .before .before .before .before .read .ensures .1) in (omega (arith, w, c .before .before .before .before .before .before .before .before .before .before .loop .inv .2, c .before .before .before .before .before .before .before .before .before .before .before .before .before .pre .0), w .1, c .before .before .before .before .before .before .before .before .before .before .before .before .before .pre .2, c .before .before .before .before .before .before .before .before .before .before .before .before .before .pre .3)
+
+add-m : tie.Need-add-m Inv-loop μ-loop
+add-m c = omega (arith, c .before .before .before .before .before .before .before .before .before .before .before .before .before .loop .inv .2, c .before .before .before .before .before .before .before .before .before .before .before .before .before .before .before .before .pre .0)
+
+sub-m : tie.Need-sub-m Inv-loop μ-loop
+sub-m c = let w = ends-within (c .before .before .before .before .before .before .before .before .before .before .before .before .before .loop .j + 1) (c .before .before .before .before .before .before .before .before .before .before .before .before .before .before .before .before .args .e) (c .before .before .before .before .before .before .before .before .before .before .before .read .result) (c .before .before .before .before .before .before .before .before .before .x .given .0 .0) (c .before .before .before .before .before .before .before .before .before .x .given .0 .1 .0) (c .before .before .before .before .before .before .before .before .before .x .given .1) (c .before .before .before .before .before .before .before .before .before .before .before .read .ensures .1) in run-within (c .before .before .before .before .before .before .before .before .before .before .before .before .before .before .before .before .args .t .now) (c .before .before .before .before .before .before .before .before .before .x .given .0 .1 .0) (c .before .before .before .before .before .before .before .before .before .before .before .before .before .before .before .before .args .e) (c .before .before .copy-near .result) (w .1) (c .before .before .before .before .before .before .before .before .before .before .before .before .before .before .before .before .pre .2) (c .before .before .copy-near .ensures .0) .0
+
+add-m-2 : tie.Need-add-m-2 Inv-loop μ-loop
+add-m-2 c = let w = ends-within (c .before .before .before .before .before .before .before .before .before .before .before .before .before .loop .j + 1) (c .before .before .before .before .before .before .before .before .before .before .before .before .before .before .before .before .args .e) (c .before .before .before .before .before .before .before .before .before .before .before .read .result) (c .before .before .before .before .before .before .before .before .before .x .given .0 .0) (c .before .before .before .before .before .before .before .before .before .x .given .0 .1 .0) (c .before .before .before .before .before .before .before .before .before .x .given .1) (c .before .before .before .before .before .before .before .before .before .before .before .read .ensures .1) in let v = run-within (c .before .before .before .before .before .before .before .before .before .before .before .before .before .before .before .before .args .t .now) (c .before .before .before .before .before .before .before .before .before .x .given .0 .1 .0) (c .before .before .before .before .before .before .before .before .before .before .before .before .before .before .before .before .args .e) (c .before .before .copy-near .result) (w .1) (c .before .before .before .before .before .before .before .before .before .before .before .before .before .before .before .before .pre .2) (c .before .before .copy-near .ensures .0) in omega (arith, w, v, c .before .before .before .before .before .before .before .before .before .before .before .before .before .loop .inv .2, c .before .before .before .before .before .before .before .before .before .before .before .before .before .before .before .before .pre .0)
+
+loop-less : tie.Need-loop-less Inv-loop μ-loop
+loop-less c = let w = ends-within (c .before .before .before .before .before .before .before .before .before .before .before .before .before .loop .j + 1) (c .before .before .before .before .before .before .before .before .before .before .before .before .before .before .before .before .args .e) (c .before .before .before .before .before .before .before .before .before .before .before .read .result) (c .before .before .before .before .before .before .before .before .before .x .given .0 .0) (c .before .before .before .before .before .before .before .before .before .x .given .0 .1 .0) (c .before .before .before .before .before .before .before .before .before .x .given .1) (c .before .before .before .before .before .before .before .before .before .before .before .read .ensures .1) in let v = run-within (c .before .before .before .before .before .before .before .before .before .before .before .before .before .before .before .before .args .t .now) (c .before .before .before .before .before .before .before .before .before .x .given .0 .1 .0) (c .before .before .before .before .before .before .before .before .before .before .before .before .before .before .before .before .args .e) (c .before .before .copy-near .result) (w .1) (c .before .before .before .before .before .before .before .before .before .before .before .before .before .before .before .before .pre .2) (c .before .before .copy-near .ensures .0) in omega (arith, w, v)
+
+loop-again : tie.Need-loop-again Inv-loop μ-loop
+loop-again c = let w = ends-within (c .before .before .before .before .before .before .before .before .before .before .before .before .before .loop .j + 1) (c .before .before .before .before .before .before .before .before .before .before .before .before .before .before .before .before .args .e) (c .before .before .before .before .before .before .before .before .before .before .before .read .result) (c .before .before .before .before .before .before .before .before .before .x .given .0 .0) (c .before .before .before .before .before .before .before .before .before .x .given .0 .1 .0) (c .before .before .before .before .before .before .before .before .before .x .given .1) (c .before .before .before .before .before .before .before .before .before .before .before .read .ensures .1) in let v = run-within (c .before .before .before .before .before .before .before .before .before .before .before .before .before .before .before .before .args .t .now) (c .before .before .before .before .before .before .before .before .before .x .given .0 .1 .0) (c .before .before .before .before .before .before .before .before .before .before .before .before .before .before .before .before .args .e) (c .before .before .copy-near .result) (w .1) (c .before .before .before .before .before .before .before .before .before .before .before .before .before .before .before .before .pre .2) (c .before .before .copy-near .ensures .0) in (omega (arith, w, v, c .before .before .before .before .before .before .before .before .before .before .before .before .before .loop .inv .0), v .1, omega (arith, w, v, c .before .before .before .before .before .before .before .before .before .before .before .before .before .loop .inv .2), run-stops (c .before .before .before .before .before .before .before .before .before .before .before .before .before .before .before .before .args .t .now) _ _ _ (w .1) (c .before .before .before .before .before .before .before .before .before .before .before .before .before .before .before .before .pre .2) (c .before .before .copy-near .ensures .0), begun-piece _ _ (begun-piece _ _ (c .before .before .before .before .before .before .before .before .before .before .before .before .before .loop .inv .4) (wrote-one _ _ _ _ (c .before .before .before .before .before .before .put .ensures)) (escape-octet (c .before .before .before .before .before .before .before .before .before .before .before .before .before .before .before .before .args .t .now) _ _ (c .before .before .before .before .before .before .before .before .before .before .before .before .loop-test .taken) (c .before .before .before .before .before .before .before .before .before .before .before .before .before .before .before .before .pre .2) (c .before .before .before .before .before .before .before .before .before .before .before .before .before .loop .inv .3) (c .before .before .before .before .before .before .before .before .before .before .before .read .result) (c .before .before .before .before .before .before .before .before .before .before .before .read .ensures .0) _ _ (c .before .before .before .before .before .before .before .before .before .x .given .1))) (c .before .before .copy-near .ensures .1) (run-value (c .before .before .before .before .before .before .before .before .before .before .before .before .before .before .before .before .args .t .now) _ _ _ (w .1) (c .before .before .before .before .before .before .before .before .before .before .before .before .before .before .before .before .pre .2) (c .before .before .copy-near .ensures .0)))
+
+same-length-2 : tie.Need-same-length-2 Inv-loop μ-loop
+same-length-2 c = wrote-length (c .before .loop .inv .4 .wrote)
+
+returns-2 : tie.Need-returns-2 Inv-loop μ-loop
+returns-2 c = begun-all (c .before .loop .inv .4) (quoted-none (c .before .before .before .before .args .t .now) _ _ (c .loop-test .left))
+
+pub escaped-spec : {M : Type 1} → statement M
+escaped-spec =
+    tie.close
+    (tie.spec
+    Inv-loop
+    μ-loop
+    loop-holds
+    add-read
+    read-requires
+    enum-told
+    same-length
+    returns
+    enum-known-x
+    put-requires
+    add-copy-near
+    copy-near-requires
+    add-m
+    sub-m
+    add-m-2
+    loop-less
+    loop-again
+    same-length-2
+    returns-2)

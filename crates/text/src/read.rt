@@ -1,0 +1,170 @@
+// Strings of octets.
+ghost use Prim.Native.Nat.{_+_, _-_, _^_, _<_, _≤_};
+ghost use mathlib.Core.Path.{_≡_};
+ghost use mathlib.Core.Bool.{true};
+ghost use lib.ListN.{length};
+ghost use lib.Seq.{slice};
+ghost use Rattle.format.specs.Lists.{allOf};
+ghost use Rattle.format.specs.Token.{quoted};
+ghost use Rattle.format.specs.Text.{stringValue, readString, readRaw};
+ghost use Rattle.buffer.specs.Writing.{Wrote, Values};
+ghost use Rattle.escape.specs.Escapes.{noEscape};
+ghost use Rattle.text.specs.Text.{tokenOf, plainEnd};
+use buffer::Value;
+use buffer::put;
+use escape::read::Escape;
+
+// The end of the octets from i on and before e that begin no escape, one by one.
+fn near_end(t: &[u8], i: usize, e: usize) -> usize
+    requires { ⌜ (i ≤ e) × (e ≤ length (now t)) ⌝ }
+    ensures { λ r. ⌜ r ≡ plainEnd (now (t .entry)) i e ⌝ }
+{
+    let mut j = i;
+    while j < e {
+        if t[j] == b'\\' {
+            return j;
+        }
+        j = j + 1;
+    }
+    j
+}
+
+// Whether none of 32 octets from i on begins an escape: no way out of the loop, so that many are tested at once.
+fn none_escapes(t: &[u8], i: usize) -> bool
+    requires { ⌜ i + 32 ≤ length (now t) ⌝ }
+    ensures { λ r. ⌜ r ≡ allOf noEscape (slice i (i + 32) (now (t .entry))) ⌝ }
+{
+    let mut all = true;
+    let mut k = 0;
+    while k < 32 {
+        all = all & (t[i + k] != b'\\');
+        k = k + 1;
+    }
+    all
+}
+
+// Whether 32 octets are left from i on and before e, and none of them begins an escape.
+fn plain_block(t: &[u8], i: usize, e: usize) -> bool
+    requires { ⌜ (i ≤ e) × (e ≤ length (now t)) ⌝ }
+    ensures { λ r. ⌜ (r ≡ true → (i + 32 ≤ e) × (allOf noEscape (slice i (i + 32) (now (t .entry))) ≡ true)) ⌝ }
+{
+    if e - i < 32 {
+        return false;
+    }
+    none_escapes(t, i)
+}
+
+// The same end, where it is far.
+fn far_end(t: &[u8], i: usize, e: usize) -> usize
+    requires { ⌜ (i ≤ e) × (e ≤ length (now t)) ⌝ }
+    ensures { λ r. ⌜ r ≡ plainEnd (now (t .entry)) i e ⌝ }
+{
+    let mut j = i;
+    while plain_block(t, j, e) {
+        j = j + 32;
+    }
+    near_end(t, j, e)
+}
+
+// The octets from i to e.
+fn copy(out: &mut [u8], n: usize, t: &[u8], i: usize, e: usize) -> usize
+    requires { ⌜ (n < 2 ^ 31) × (i ≤ e) × (e ≤ length (now t)) × (length (now t) ≤ 1048576) ⌝ }
+    ensures { λ r. ⌜ Wrote (now (out .entry)) (now (out .exit)) n r (slice i e (now (t .entry))) ⌝ }
+{
+    buffer::put_all(out, n, &t[i..e])
+}
+
+// The octets from i on that begin no escape, up to the place that is answered.
+fn copy_plain(out: &mut [u8], n: usize, t: &[u8], i: usize, e: usize) -> usize
+    requires { ⌜ (n < 2 ^ 31) × (i ≤ e) × (e ≤ length (now t)) × (length (now t) ≤ 1048576) ⌝ }
+    ensures { λ r. ⌜ (r ≡ plainEnd (now (t .entry)) i e) × Wrote (now (out .entry)) (now (out .exit)) n (n + (r - i)) (slice i r (now (t .entry))) ⌝ }
+{
+    let j = far_end(t, i, e);
+    copy(out, n, t, i, j);
+    j
+}
+
+// The same after an escape: others often follow soon.
+fn copy_near(out: &mut [u8], n: usize, t: &[u8], i: usize, e: usize) -> usize
+    requires { ⌜ (n < 2 ^ 31) × (i ≤ e) × (e ≤ length (now t)) × (length (now t) ≤ 1048576) ⌝ }
+    ensures { λ r. ⌜ (r ≡ plainEnd (now (t .entry)) i e) × Wrote (now (out .entry)) (now (out .exit)) n (n + (r - i)) (slice i r (now (t .entry))) ⌝ }
+{
+    let j = near_end(t, i, e);
+    copy(out, n, t, i, j);
+    j
+}
+
+// The value of a quoted token's octets from i on, where an escape begins.
+fn escaped(out: &mut [u8], n: usize, t: &[u8], i: usize, e: usize) -> Value
+    requires { ⌜ (n + (e - i) < 2 ^ 31) × (i ≤ e) × (e ≤ length (now t)) × (length (now t) ≤ 1048576) × (plainEnd (now t) i e ≡ i) ⌝ }
+    ensures { λ r. ⌜ Values (now (out .entry)) (now (out .exit)) n r (stringValue (quoted (slice i e (now (t .entry))))) ⌝ }
+{
+    let mut m = n;
+    let mut j = i;
+    while j < e {
+        let x = escape::read::read(t, j + 1, e);
+        match x {
+            Escape::Fault => {
+                return Value::Fault;
+            }
+            Escape::Octet(b, k) => {
+                put(out, m, b);
+                j = copy_near(out, m + 1, t, k, e);
+                m = m + 1 + (j - k);
+            }
+        }
+    }
+    Value::Upto(m)
+}
+
+// The value of a token's octets from a to e.
+fn value(out: &mut [u8], n: usize, t: &[u8], a: usize, e: usize, quoted: bool) -> Value
+    requires { ⌜ (n ≤ 2 ^ 30) × (a ≤ e) × (e ≤ length (now t)) × (length (now t) ≤ 1048576) ⌝ }
+    ensures { λ r. ⌜ Values (now (out .entry)) (now (out .exit)) n r (stringValue (tokenOf quoted (slice a e (now (t .entry))))) ⌝ }
+{
+    let j = copy_plain(out, n, t, a, e);
+    let m = n + (j - a);
+    if e <= j {
+        return Value::Upto(m);
+    }
+    if quoted {
+        return escaped(out, m, t, j, e);
+    }
+    Value::Fault
+}
+
+// The value of the token whose octets stand from a to e, quoted or bare, after its count.
+pub fn string(out: &mut [u8], n: usize, t: &[u8], a: usize, e: usize, quoted: bool) -> Value
+    requires { ⌜ (n < 2 ^ 30) × (a ≤ e) × (e ≤ length (now t)) × (length (now t) ≤ 1048576) ⌝ }
+    ensures { λ r. ⌜ Values (now (out .entry)) (now (out .exit)) n r (readString (tokenOf quoted (slice a e (now (t .entry))))) ⌝ }
+{
+    let v = value(out, n + 1, t, a, e, quoted);
+    match v {
+        Value::Fault => Value::Fault,
+        Value::Upto(m) => {
+            let count = m - (n + 1);
+            if 255 < count {
+                return Value::Fault;
+            }
+            put(out, n, count as u8);
+            Value::Upto(m)
+        }
+    }
+}
+
+// The same without a count: one octet at least.
+pub fn raw(out: &mut [u8], n: usize, t: &[u8], a: usize, e: usize, quoted: bool) -> Value
+    requires { ⌜ (n < 2 ^ 30) × (a ≤ e) × (e ≤ length (now t)) × (length (now t) ≤ 1048576) ⌝ }
+    ensures { λ r. ⌜ Values (now (out .entry)) (now (out .exit)) n r (readRaw (tokenOf quoted (slice a e (now (t .entry))))) ⌝ }
+{
+    let v = value(out, n, t, a, e, quoted);
+    match v {
+        Value::Fault => Value::Fault,
+        Value::Upto(m) => {
+            if m <= n {
+                return Value::Fault;
+            }
+            Value::Upto(m)
+        }
+    }
+}
