@@ -32,7 +32,7 @@ use Rattle.address.specs.Address.{octetsIn, lastIn, groupsIn, sideIn, si
 use Rattle.buffer.proofs.Values.{Begun, begun-none, begun-piece, begun-fault, begun-rest}
 use Rattle.address.proofs.Numbers.{small-octet, piece-short}
 use Rattle.address.proofs.Parts.{within, split-last, split-next}
-use Rattle.address.proofs.Read.{each-octet, a-parts}
+use Rattle.address.proofs.Addresses.{each-octet, a-parts}
 
 -- four octets are two groups
 four-back : (xs : List ℕ) → length xs ≡ 4 → Below 256 xs → groupOctets (groups xs) ≡ xs

@@ -2,6 +2,6 @@ pub mod GroupTexts
 pub mod ZeroRuns
 pub mod Numbers
 pub mod Parts
-pub mod Read
+pub mod Addresses
 pub mod Doubled
 pub mod Groups

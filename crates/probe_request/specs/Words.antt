@@ -8,7 +8,7 @@ use mathlib.Core.Option.{Option, none, some}
 use lib.ListN.{length, drop}
 use lib.Seq.{slice}
 use lib.Dec.{leb, eqb}
-use Rattle.format.specs.Lists.{provided}
+use Rattle.format.specs.Lists.{_>>=_, provided}
 use Rattle.format.specs.Octets.{splitOn}
 use Rattle.buffer.specs.Writing.{Wrote}
 use Rattle.probe_request.specs.Request.{octetsOf, numberOf, Said, said, Asked}

@@ -1,5 +1,5 @@
 use lib.Seq.{slice}
-use Rattle.address.proofs.Read.{a-parts}
+use Rattle.address.proofs.Addresses.{a-parts}
 use borrow.Author.Needs.{needs}
 use Rattle.address.proofs.read.dotted.Statement.{statement}
 use Rattle.address.proofs.read.dotted.Tie as tie

@@ -1,5 +1,5 @@
 use lib.Seq.{slice}
-use Rattle.address.proofs.Read.{aa-parts}
+use Rattle.address.proofs.Addresses.{aa-parts}
 use borrow.Author.Needs.{needs}
 use Rattle.address.proofs.read.four_groups.Statement.{statement}
 use Rattle.address.proofs.read.four_groups.Tie as tie

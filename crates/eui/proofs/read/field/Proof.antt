@@ -1,5 +1,5 @@
 use lib.Seq.{slice}
-use Rattle.address.proofs.Read.{eui-parts}
+use Rattle.address.proofs.Addresses.{eui-parts}
 use borrow.Author.Needs.{needs}
 use Rattle.eui.proofs.read.field.Statement.{statement}
 use Rattle.eui.proofs.read.field.Tie as tie
