@@ -84,8 +84,8 @@ raw-requires c κs = search needs
 enum-told-10 : tie.Need-enum-told-10
 enum-told-10 c = search needs
 
-counted-requires : tie.Need-counted-requires
-counted-requires c κs = search needs
+counted-base32-requires : tie.Need-counted-base32-requires
+counted-base32-requires c κs = search needs
 
 enum-told-11 : tie.Need-enum-told-11
 enum-told-11 c = search needs
@@ -96,8 +96,8 @@ enum-told-12 c = search needs
 enum-told-13 : tie.Need-enum-told-13
 enum-told-13 c = search needs
 
-counted-requires-2 : tie.Need-counted-requires-2
-counted-requires-2 c κs = search needs
+counted-hex-requires : tie.Need-counted-hex-requires
+counted-hex-requires c κs = search needs
 
 enum-known-f-2 : tie.Need-enum-known-f-2
 enum-known-f-2 c = search needs
@@ -172,7 +172,7 @@ same-length-9 : tie.Need-same-length-9
 same-length-9 c = search needs
 
 returns-11 : tie.Need-returns-11
-returns-11 c = rw (c .before .before .before .before .enum-told10 .given .1) (c .before .before .counted .ensures)
+returns-11 c = rw (c .before .before .before .before .enum-told10 .given .1) (c .before .before .counted-base32 .ensures)
 
 returns-12 : tie.Need-returns-12
 returns-12 c = rw (c .enum-told11 .given .1)
@@ -184,7 +184,7 @@ same-length-10 : tie.Need-same-length-10
 same-length-10 c = search needs
 
 returns-14 : tie.Need-returns-14
-returns-14 c = rw (c .before .before .before .before .enum-told13 .given .1) (c .before .before .counted2 .ensures)
+returns-14 c = rw (c .before .before .before .before .enum-told13 .given .1) (c .before .before .counted-hex .ensures)
 
 same-length-11 : tie.Need-same-length-11
 same-length-11 c = search needs
@@ -224,11 +224,11 @@ of-bare-spec =
     enum-told-9
     raw-requires
     enum-told-10
-    counted-requires
+    counted-base32-requires
     enum-told-11
     enum-told-12
     enum-told-13
-    counted-requires-2
+    counted-hex-requires
     enum-known-f-2
     cast-field-2
     field-requires-3
