@@ -28,7 +28,13 @@ number-of-requires : tie.Need-number-of-requires Inv-loop μ-loop
 number-of-requires c κs = search needs
 
 returns : tie.Need-returns Inv-loop μ-loop
-returns c = front-off (leftOut (c .before .before .before .before .before .before .before .args .a .now) (c .before .before .before .before .before .before .before .args .skip)) _ _ _ (c .before .before .before .loop-test .taken) (c .before .before .before .before .before .before .before .pre .1) (ne-eqb _ _ (λ q. c .if1 .taken (c .before .number-of .ensures ∙ q))) ∙ c .before .before .before .before .loop .inv .2
+returns c =
+    let c3 = c .before .before .before in
+    let c4 = c3 .before in
+    let c7 = c4 .before .before .before in
+    front-off (leftOut (c7 .args .a .now) (c7 .args .skip)) _ _ _ (c3 .loop-test .taken) (c7 .pre .1)
+    (ne-eqb _ _ (λ q. c .if1 .taken (c .before .number-of .ensures ∙ q)))
+    ∙ c4 .loop .inv .2
 
 add-j : tie.Need-add-j Inv-loop μ-loop
 add-j c = search needs
@@ -37,10 +43,21 @@ loop-less : tie.Need-loop-less Inv-loop μ-loop
 loop-less c = search needs
 
 loop-again : tie.Need-loop-again Inv-loop μ-loop
-loop-again c = (search needs, search needs, front-on (leftOut (c .before .before .before .before .before .before .before .args .a .now) (c .before .before .before .before .before .before .before .args .skip)) _ _ _ (c .before .before .before .loop-test .taken) (c .before .before .before .before .before .before .before .pre .1) (eq-eqb _ _ (sym (c .before .number-of .ensures) ∙ c .if1 .left)) ∙ c .before .before .before .before .loop .inv .2)
+loop-again c =
+    let c3 = c .before .before .before in
+    let c4 = c3 .before in
+    let c7 = c4 .before .before .before in (
+      search needs,
+      search needs,
+      front-on (leftOut (c7 .args .a .now) (c7 .args .skip)) _ _ _ (c3 .loop-test .taken) (c7 .pre .1)
+          (eq-eqb _ _ (sym (c .before .number-of .ensures) ∙ c .if1 .left))
+          ∙ c4 .loop .inv .2,
+    )
 
 returns-2 : tie.Need-returns-2 Inv-loop μ-loop
-returns-2 c = front-end (leftOut (c .before .before .before .before .args .a .now) (c .before .before .before .before .args .skip)) _ _ _ (c .loop-test .left) ∙ c .before .loop .inv .2
+returns-2 c =
+    let c4 = c .before .before .before .before in
+    front-end (leftOut (c4 .args .a .now) (c4 .args .skip)) _ _ _ (c .loop-test .left) ∙ c .before .loop .inv .2
 
 pub kept-from-spec : {M : Type 1} → statement M
 kept-from-spec =

@@ -15,7 +15,9 @@ abbrev μ-loop : tie.MeasureT-loop
 μ-loop t i a base k v₀ q₀ v q = k - q
 
 loop-holds : tie.Need-loop-holds Inv-loop μ-loop
-loop-holds c = (search needs, λ skip h. quick-none (c .before .before .args .a .now) skip (c .before .before .args .base) (c .before .before .args .t .now) (c .before .before .args .i))
+loop-holds c =
+    let c2 = c .before .before in
+    (search needs, λ skip h. quick-none (c2 .args .a .now) skip (c2 .args .base) (c2 .args .t .now) (c2 .args .i))
 
 add-number-of : tie.Need-add-number-of Inv-loop μ-loop
 add-number-of c = search needs
@@ -30,10 +32,26 @@ returns : tie.Need-returns Inv-loop μ-loop
 returns c = λ h skip k e l. absurd (omega arith)
 
 mul-v : tie.Need-mul-v Inv-loop μ-loop
-mul-v c = omega (arith, taking-room (c .before .before .before .before .before .before .before .args .a .now) (c .before .before .before .before .before .before .before .args .base) (c .before .before .before .before .before .before .before .args .base) (c .before .before .before .before .before .before .before .args .t .now) (c .before .before .before .before .before .before .before .args .i + c .before .before .before .before .loop .q) (omega arith) (c .before .before .before .before .before .before .before .args .i) (c .before .before .before .before .loop .q) (c .before .before .before .before .loop .v) (c .before .before .before .before .before .before .before .args .i + c .before .before .before .before .loop .q) (c .before .before .before .before .loop .inv .1 (c .before .before .before .before .before .before .before .args .base) (omega arith)) (c .before .before .before .before .before .before .before .pre .1) (omega arith))
+mul-v c =
+    let c4 = c .before .before .before .before in
+    let c7 = c4 .before .before .before in
+    omega (
+      arith,
+      taking-room (c7 .args .a .now) (c7 .args .base) (c7 .args .base) (c7 .args .t .now) (c7 .args .i + c4 .loop .q) (omega arith)
+          (c7 .args .i) (c4 .loop .q) (c4 .loop .v) (c7 .args .i + c4 .loop .q) (c4 .loop .inv .1 (c7 .args .base) (omega arith))
+          (c7 .pre .1) (omega arith),
+    )
 
 add-v : tie.Need-add-v Inv-loop μ-loop
-add-v c = omega (arith, taking-room (c .before .before .before .before .before .before .before .args .a .now) (c .before .before .before .before .before .before .before .args .base) (c .before .before .before .before .before .before .before .args .base) (c .before .before .before .before .before .before .before .args .t .now) (c .before .before .before .before .before .before .before .args .i + c .before .before .before .before .loop .q) (omega arith) (c .before .before .before .before .before .before .before .args .i) (c .before .before .before .before .loop .q) (c .before .before .before .before .loop .v) (c .before .before .before .before .before .before .before .args .i + c .before .before .before .before .loop .q) (c .before .before .before .before .loop .inv .1 (c .before .before .before .before .before .before .before .args .base) (omega arith)) (c .before .before .before .before .before .before .before .pre .1) (omega arith))
+add-v c =
+    let c4 = c .before .before .before .before in
+    let c7 = c4 .before .before .before in
+    omega (
+      arith,
+      taking-room (c7 .args .a .now) (c7 .args .base) (c7 .args .base) (c7 .args .t .now) (c7 .args .i + c4 .loop .q) (omega arith)
+          (c7 .args .i) (c4 .loop .q) (c4 .loop .v) (c7 .args .i + c4 .loop .q) (c4 .loop .inv .1 (c7 .args .base) (omega arith))
+          (c7 .pre .1) (omega arith),
+    )
 
 add-q : tie.Need-add-q Inv-loop μ-loop
 add-q c = search needs
@@ -42,13 +60,22 @@ loop-less : tie.Need-loop-less Inv-loop μ-loop
 loop-less c = search needs
 
 loop-again : tie.Need-loop-again Inv-loop μ-loop
-loop-again c = (search needs, λ skip h. quick-next (c .before .before .before .before .before .before .before .args .a .now) skip (c .before .before .before .before .before .before .before .args .base) (c .before .before .before .before .before .before .before .args .t .now) (c .before .before .before .before .before .before .before .args .i) (c .before .before .before .before .loop .q) (c .before .before .before .before .loop .v) (c .before .number-of .result) (c .before .before .before .before .loop .inv .1 skip h) (omega arith) (c .before .number-of .ensures) (c .if1 .left) h)
+loop-again c =
+    let c4 = c .before .before .before .before in
+    let c7 = c4 .before .before .before in (
+      search needs,
+      λ skip h. quick-next (c7 .args .a .now) skip (c7 .args .base) (c7 .args .t .now) (c7 .args .i) (c4 .loop .q) (c4 .loop .v)
+          (c .before .number-of .result) (c4 .loop .inv .1 skip h) (omega arith) (c .before .number-of .ensures) (c .if1 .left) h,
+    )
 
 add-t13 : tie.Need-add-t13 Inv-loop μ-loop
 add-t13 c = search needs
 
 returns-2 : tie.Need-returns-2 Inv-loop μ-loop
-returns-2 c = λ h skip u e l. quick-taken (c .before .before .before .before .args .a .now) skip (c .before .before .before .before .args .base) (c .before .before .before .before .args .t .now) (c .before .before .before .before .args .i) (c .before .before .before .before .args .k) (c .before .loop .q) (c .before .loop .v) e (c .before .loop .inv .1 skip u) (c .before .loop .inv .0) (c .loop-test .left) l
+returns-2 c =
+    let c4 = c .before .before .before .before in
+    λ h skip u e l. quick-taken (c4 .args .a .now) skip (c4 .args .base) (c4 .args .t .now) (c4 .args .i) (c4 .args .k) (c .before .loop .q)
+    (c .before .loop .v) e (c .before .loop .inv .1 skip u) (c .before .loop .inv .0) (c .loop-test .left) l
 
 pub next-digits-spec : {M : Type 1} → statement M
 next-digits-spec =

@@ -5,14 +5,8 @@ use Rattle.base_group.proofs.number_of.Tie as tie
 use Rattle.base_group.proofs.number_of.Reads as reads
 use Rattle.base_group.proofs.number_of.Lts as lts
 
-shared-slice-read-result : tie.Need-shared-slice-read-result
-shared-slice-read-result c = search needs
-
 cast-result : tie.Need-cast-result
 cast-result c = omega (arith, c .shared-slice-known .given (c .before .args .b))
 
-returns : tie.Need-returns
-returns c = search needs
-
 pub number-of-spec : {M : Type 1} → statement M
-number-of-spec = tie.close (tie.spec shared-slice-read-result cast-result returns)
+number-of-spec = tie.close (tie.spec (λ c. search needs) cast-result (λ c. search needs))

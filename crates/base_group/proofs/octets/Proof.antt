@@ -9,24 +9,40 @@ use Rattle.base_group.proofs.finish.Reads as finish-reads
 use Rattle.base_group.proofs.groups.Reads as groups-reads
 
 groups-requires : tie.Need-groups-requires
-groups-requires c κs = c .before .before .before .before .pre
-
-same-length : tie.Need-same-length
-same-length c = search needs
+groups-requires c κs =
+    let c4 = c .before .before .before .before in
+    c4 .pre
 
 returns : tie.Need-returns
-returns c = begun-fault _ _ _ _ _ _ _ _ (c .before .before .before .before .before .before .before .before .pre .5) _ _ _ (c .before .before .before .before .before .before .before .before .pre .1) (c .before .before .before .before .before .before .before .before .pre .2) _ _ _ _ _ (c .before .before .before .groups .ensures .0) (c .if1 .taken) (c .before .before .before .groups .ensures .1)
+returns c =
+    let c3 = c .before .before .before in
+    let c8 = c3 .before .before .before .before .before in
+    begun-fault _ _ _ _ _ _ _ _ (c8 .pre .5) _ _ _ (c8 .pre .1) (c8 .pre .2) _ _ _ _ _ (c3 .groups .ensures .0) (c .if1 .taken)
+    (c3 .groups .ensures .1)
 
 finish-requires : tie.Need-finish-requires
-finish-requires c κs = (omega (arith, c .before .before .before .before .groups .ensures .0 .bound, c .before .before .before .before .groups .ensures .0 .within, c .before .before .before .before .before .before .before .before .before .pre .0, c .before .before .before .before .before .before .before .before .before .pre .2, c .before .before .before .before .before .before .before .before .before .pre .3), c .before .before .before .before .before .before .before .before .before .pre .5 .some-bits, c .before .before .before .before .before .before .before .before .before .pre .5 .few-bits, omega (arith, c .before .before .before .before .groups .ensures .0 .few, c .before .before .before .before .before .before .before .before .before .pre .5 .few-digits), begun-small _ _ _ _ _ _ _ _ (c .before .before .before .before .before .before .before .before .before .pre .5) _ _ _ (c .before .before .before .before .before .before .before .before .before .pre .1) (c .before .before .before .before .before .before .before .before .before .pre .2) _ _ _ _ _ (c .before .before .before .before .groups .ensures .0))
-
-same-length-2 : tie.Need-same-length-2
-same-length-2 c = search needs
+finish-requires c κs =
+    let c4 = c .before .before .before .before in
+    let c9 = c4 .before .before .before .before .before in (
+      omega (arith, c4 .groups .ensures .0 .bound, c4 .groups .ensures .0 .within, c9 .pre .0, c9 .pre .2, c9 .pre .3),
+      c9 .pre .5 .some-bits,
+      c9 .pre .5 .few-bits,
+      omega (arith, c4 .groups .ensures .0 .few, c9 .pre .5 .few-digits),
+      begun-small _ _ _ _ _ _ _ _ (c9 .pre .5) _ _ _ (c9 .pre .1) (c9 .pre .2) _ _ _ _ _ (c4 .groups .ensures .0),
+    )
 
 returns-2 : tie.Need-returns-2
-returns-2 c = begun-octets (c .before .before .before .before .before .before .before .before .before .before .before .before .args .out .now) (c .before .before .before .before .before .before .before .before .before .before .before .before .args .n) (c .before .before .before .before .before .before .before .before .before .before .before .before .args .a .now) (c .before .before .before .before .before .before .before .before .before .before .before .before .args .skip) (c .before .before .before .before .before .before .before .before .before .before .before .before .args .w) (c .before .before .before .before .before .before .before .before .before .before .before .before .args .base) (c .before .before .before .before .before .before .before .before .before .before .before .before .args .k) (c .before .before .before .before .before .before .before .before .before .before .before .before .args .g) (c .before .before .before .before .before .before .before .before .before .before .before .before .pre .5) (c .before .before .before .before .before .before .before .before .before .before .before .before .args .t .now) (c .before .before .before .before .before .before .before .before .before .before .before .before .args .i) (c .before .before .before .before .before .before .before .before .before .before .before .before .args .e) (c .before .before .before .before .before .before .before .before .before .before .before .before .pre .1) (c .before .before .before .before .before .before .before .before .before .before .before .before .pre .2) (c .before .before .before .before .before .before .before .groups .last .0) (c .before .before .before .before .before .before .before .groups .result .at) (c .before .before .before .before .before .before .before .groups .result .end) (c .before .before .before .before .before .before .before .groups .result .count) (c .before .before .before .before .before .before .before .groups .result .number) (c .before .before .before .before .before .before .before .groups .ensures .0) (c .before .before .before .before .if1 .left) (c .before .before .finish .last .0) (c .before .before .finish .result) (c .before .before .finish .ensures)
+returns-2 c =
+    let c2 = c .before .before in
+    let c4 = c2 .before .before in
+    let c7 = c4 .before .before .before in
+    let c12 = c7 .before .before .before .before .before in
+    begun-octets (c12 .args .out .now) (c12 .args .n) (c12 .args .a .now) (c12 .args .skip) (c12 .args .w) (c12 .args .base) (c12 .args .k)
+    (c12 .args .g) (c12 .pre .5) (c12 .args .t .now) (c12 .args .i) (c12 .args .e) (c12 .pre .1) (c12 .pre .2) (c7 .groups .last .0)
+    (c7 .groups .result .at) (c7 .groups .result .end) (c7 .groups .result .count) (c7 .groups .result .number) (c7 .groups .ensures .0)
+    (c4 .if1 .left) (c2 .finish .last .0) (c2 .finish .result) (c2 .finish .ensures)
 
 pub octets-spec : {M : Type 1} → statement M
 octets-spec =
     tie.close
-    (tie.spec groups-requires same-length returns finish-requires same-length-2 returns-2)
+    (tie.spec groups-requires (λ c. search needs) returns finish-requires (λ c. search needs) returns-2)

@@ -20,10 +20,15 @@ kept-from-requires : tie.Need-kept-from-requires Inv-loop μ-loop
 kept-from-requires c κs = search needs
 
 loop-holds : tie.Need-loop-holds Inv-loop μ-loop
-loop-holds c = (search needs, taking-none _ _ (c .before .before .before .args .base) _ _ (c .before .before .before .pre .1) _ _ (c .before .before .before .pre .0) (c .kept-from .ensures))
+loop-holds c =
+    let c3 = c .before .before .before in
+    (search needs, taking-none _ _ (c3 .args .base) _ _ (c3 .pre .1) _ _ (c3 .pre .0) (c .kept-from .ensures))
 
 returns : tie.Need-returns Inv-loop μ-loop
-returns c = taken _ _ _ _ _ (c .before .before .before .before .before .before .pre .1) _ _ _ _ _ (c .before .before .loop .inv .1) (c .before .before .loop .inv .0) (λ m n. omega arith)
+returns c =
+    let c2 = c .before .before in
+    let c6 = c2 .before .before .before .before in
+    taken _ _ _ _ _ (c6 .pre .1) _ _ _ _ _ (c2 .loop .inv .1) (c2 .loop .inv .0) (λ m n. omega arith)
 
 shared-slice-read-number-of : tie.Need-shared-slice-read-number-of Inv-loop μ-loop
 shared-slice-read-number-of c = omega arith
@@ -32,13 +37,31 @@ number-of-requires : tie.Need-number-of-requires Inv-loop μ-loop
 number-of-requires c κs = search needs
 
 returns-2 : tie.Need-returns-2 Inv-loop μ-loop
-returns-2 c = taken _ _ _ _ _ (c .before .before .before .before .before .before .before .before .before .pre .1) _ _ _ _ _ (c .before .before .before .before .before .loop .inv .1) (c .before .before .before .before .before .loop .inv .0) (λ m n. subst (λ z. c .before .before .before .before .before .before .before .before .before .args .base ≤ z) (c .before .number-of .ensures) (c .if2 .taken))
+returns-2 c =
+    let c5 = c .before .before .before .before .before in
+    let c9 = c5 .before .before .before .before in
+    taken _ _ _ _ _ (c9 .pre .1) _ _ _ _ _ (c5 .loop .inv .1) (c5 .loop .inv .0)
+    (λ m n. subst (λ z. c9 .args .base ≤ z) (c .before .number-of .ensures) (c .if2 .taken))
 
 mul-v : tie.Need-mul-v Inv-loop μ-loop
-mul-v c = omega (arith, taking-room (c .before .before .before .before .before .before .before .before .before .args .a .now) (c .before .before .before .before .before .before .before .before .before .args .skip) (c .before .before .before .before .before .before .before .before .before .args .base) (c .before .before .before .before .before .before .before .before .before .args .t .now) (c .before .before .before .before .before .before .before .before .before .args .e) (c .before .before .before .before .before .before .before .before .before .pre .1) _ _ _ _ (c .before .before .before .before .before .loop .inv .1) (c .before .before .before .before .before .before .before .before .before .pre .2) (omega arith))
+mul-v c =
+    let c5 = c .before .before .before .before .before in
+    let c9 = c5 .before .before .before .before in
+    omega (
+      arith,
+      taking-room (c9 .args .a .now) (c9 .args .skip) (c9 .args .base) (c9 .args .t .now) (c9 .args .e) (c9 .pre .1) _ _ _ _
+          (c5 .loop .inv .1) (c9 .pre .2) (omega arith),
+    )
 
 add-v : tie.Need-add-v Inv-loop μ-loop
-add-v c = omega (arith, taking-room (c .before .before .before .before .before .before .before .before .before .args .a .now) (c .before .before .before .before .before .before .before .before .before .args .skip) (c .before .before .before .before .before .before .before .before .before .args .base) (c .before .before .before .before .before .before .before .before .before .args .t .now) (c .before .before .before .before .before .before .before .before .before .args .e) (c .before .before .before .before .before .before .before .before .before .pre .1) _ _ _ _ (c .before .before .before .before .before .loop .inv .1) (c .before .before .before .before .before .before .before .before .before .pre .2) (omega arith))
+add-v c =
+    let c5 = c .before .before .before .before .before in
+    let c9 = c5 .before .before .before .before in
+    omega (
+      arith,
+      taking-room (c9 .args .a .now) (c9 .args .skip) (c9 .args .base) (c9 .args .t .now) (c9 .args .e) (c9 .pre .1) _ _ _ _
+          (c5 .loop .inv .1) (c9 .pre .2) (omega arith),
+    )
 
 add-q : tie.Need-add-q Inv-loop μ-loop
 add-q c = search needs
@@ -53,10 +76,20 @@ loop-less : tie.Need-loop-less Inv-loop μ-loop
 loop-less c = search needs
 
 loop-again : tie.Need-loop-again Inv-loop μ-loop
-loop-again c = (search needs, taking-next _ _ _ _ _ (c .before .before .before .before .before .before .before .before .before .before .pre .1) _ _ _ _ _ _ (c .before .before .before .before .before .before .loop .inv .1) (c .before .before .before .before .if1 .left) (c .before .before .number-of .ensures) (c .before .if2 .left) (c .kept-from2 .ensures))
+loop-again c =
+    let c2 = c .before .before in
+    let c4 = c2 .before .before in
+    let c6 = c4 .before .before in
+    let c10 = c6 .before .before .before .before in (
+      search needs,
+      taking-next _ _ _ _ _ (c10 .pre .1) _ _ _ _ _ _ (c6 .loop .inv .1) (c4 .if1 .left) (c2 .number-of .ensures) (c .before .if2 .left)
+          (c .kept-from2 .ensures),
+    )
 
 returns-3 : tie.Need-returns-3 Inv-loop μ-loop
-returns-3 c = taken _ _ _ _ _ (c .before .before .before .before .before .pre .1) _ _ _ _ _ (c .before .loop .inv .1) (c .before .loop .inv .0) (λ m n. omega arith)
+returns-3 c =
+    let c5 = c .before .before .before .before .before in
+    taken _ _ _ _ _ (c5 .pre .1) _ _ _ _ _ (c .before .loop .inv .1) (c .before .loop .inv .0) (λ m n. omega arith)
 
 pub some-digits-spec : {M : Type 1} → statement M
 some-digits-spec =

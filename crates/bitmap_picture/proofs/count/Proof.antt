@@ -25,7 +25,11 @@ shared-slice-read-if1 : tie.Need-shared-slice-read-if1 Inv-loop μ-loop
 shared-slice-read-if1 c = search needs
 
 returns : tie.Need-returns Inv-loop μ-loop
-returns c = kept (c .before .before .before .before .args .r .now) (c .before .before .before .loop .n) (c .before .before .loop-test .taken) (c .before .before .before .loop .inv .0) (c .if1 .taken) ∙ ap length (c .before .before .before .loop .inv .1)
+returns c =
+    let c2 = c .before .before in
+    let c3 = c2 .before in
+    let c4 = c3 .before in
+    kept (c4 .args .r .now) (c3 .loop .n) (c2 .loop-test .taken) (c3 .loop .inv .0) (c .if1 .taken) ∙ ap length (c3 .loop .inv .1)
 
 sub-n : tie.Need-sub-n Inv-loop μ-loop
 sub-n c = search needs
@@ -34,10 +38,17 @@ loop-less : tie.Need-loop-less Inv-loop μ-loop
 loop-less c = search needs
 
 loop-again : tie.Need-loop-again Inv-loop μ-loop
-loop-again c = (search needs, zero-off (c .before .before .before .before .args .r .now) (c .before .before .before .loop .n) (c .before .before .loop-test .taken) (c .before .before .before .loop .inv .0) (c .if1 .left) ∙ c .before .before .before .loop .inv .1)
+loop-again c =
+    let c2 = c .before .before in
+    let c3 = c2 .before in
+    let c4 = c3 .before in
+    (search needs, zero-off (c4 .args .r .now) (c3 .loop .n) (c2 .loop-test .taken) (c3 .loop .inv .0) (c .if1 .left) ∙ c3 .loop .inv .1)
 
 returns-2 : tie.Need-returns-2 Inv-loop μ-loop
-returns-2 c = let q : c .before .loop .n ≡ 0 = omega arith in q ∙ ap length (sym (ap (λ k. withoutLastZeros (take k (c .before .before .args .r .now))) q)) ∙ ap length (c .before .loop .inv .1)
+returns-2 c =
+    let c2 = c .before .before in
+    let q : c .before .loop .n ≡ 0 = omega arith in
+    q ∙ ap length (sym (ap (λ k. withoutLastZeros (take k (c2 .args .r .now))) q)) ∙ ap length (c .before .loop .inv .1)
 
 pub count-spec : {M : Type 1} → statement M
 count-spec =

@@ -32,10 +32,20 @@ loop-less : tie.Need-loop-less Inv-loop μ-loop
 loop-less c = search needs
 
 loop-again : tie.Need-loop-again Inv-loop μ-loop
-loop-again c = (search needs, all-next zeroOctet (c .before .before .before .args .r .now) (c .before .before .loop .k) (length (c .before .before .before .args .r .now)) (c .before .before .loop .all) (c .before .loop-test .taken) (omega arith) ∙ c .before .before .loop .inv .1)
+loop-again c =
+    let c2 = c .before .before in
+    let c3 = c2 .before in (
+      search needs,
+      all-next zeroOctet (c3 .args .r .now) (c2 .loop .k) (length (c3 .args .r .now)) (c2 .loop .all) (c .before .loop-test .taken)
+          (omega arith)
+          ∙ c2 .loop .inv .1,
+    )
 
 returns : tie.Need-returns Inv-loop μ-loop
-returns c = sym (all-none zeroOctet (c .before .before .args .r .now) (c .before .loop .k) (length (c .before .before .args .r .now)) (c .before .loop .all) (c .loop-test .left)) ∙ c .before .loop .inv .1 ∙ ap (allOf zeroOctet) (take-length (c .before .before .args .r .now))
+returns c =
+    let c2 = c .before .before in
+    sym (all-none zeroOctet (c2 .args .r .now) (c .before .loop .k) (length (c2 .args .r .now)) (c .before .loop .all) (c .loop-test .left))
+    ∙ c .before .loop .inv .1 ∙ ap (allOf zeroOctet) (take-length (c2 .args .r .now))
 
 pub is-empty-spec : {M : Type 1} → statement M
 is-empty-spec =

@@ -14,59 +14,63 @@ use Rattle.bitmap_picture.proofs.is_empty.Reads as is-empty-reads
 use Rattle.buffer.proofs.put_all.Reads as put-all-reads
 use Rattle.buffer.proofs.put_octet.Reads as put-octet-reads
 
-is-empty-requires : tie.Need-is-empty-requires
-is-empty-requires c κs = search needs
-
 returns : tie.Need-returns
-returns c = wrote-text _ _ (empty-block (c .before .before .before .before .args .w) (c .before .before .before .before .args .r .now) (sym (c .before .is-empty .ensures) ∙ c .if1 .taken)) (wrote-none _ _)
-
-count-requires : tie.Need-count-requires
-count-requires c κs = search needs
+returns c =
+    let c4 = c .before .before .before .before in
+    wrote-text _ _ (empty-block (c4 .args .w) (c4 .args .r .now) (sym (c .before .is-empty .ensures) ∙ c .if1 .taken)) (wrote-none _ _)
 
 returns-2 : tie.Need-returns-2
-returns-2 c = wrote-text _ _ (no-block (c .before .before .before .before .before .before .args .w) _ (c .before .before .before .before .before .before .args .r .now) (c .before .count .ensures) (c .if2 .taken)) (wrote-none _ _)
-
-put-octet-requires : tie.Need-put-octet-requires
-put-octet-requires c κs = search needs
+returns-2 c =
+    let c6 = c .before .before .before .before .before .before in
+    wrote-text _ _ (no-block (c6 .args .w) _ (c6 .args .r .now) (c .before .count .ensures) (c .if2 .taken)) (wrote-none _ _)
 
 cast-put-octet : tie.Need-cast-put-octet
-cast-put-octet c = omega (arith, front-length (c .before .before .before .before .before .before .before .before .before .before .before .args .r .now), c .before .before .before .before .before .before .count .ensures)
-
-put-octet-requires-2 : tie.Need-put-octet-requires-2
-put-octet-requires-2 c κs = search needs
-
-sub-put-all : tie.Need-sub-put-all
-sub-put-all c = search needs
-
-part-put-all-start : tie.Need-part-put-all-start
-part-put-all-start c = search needs
+cast-put-octet c =
+    let c6 = c .before .before .before .before .before .before in
+    let c11 = c6 .before .before .before .before .before in
+    omega (arith, front-length (c11 .args .r .now), c6 .count .ensures)
 
 part-put-all-end : tie.Need-part-put-all-end
-part-put-all-end c = omega (arith, front-length (c .before .before .before .before .before .before .before .before .before .before .before .before .before .before .before .args .r .now), c .before .before .before .before .before .before .before .before .before .before .count .ensures)
+part-put-all-end c =
+    let c10 = c .before .before .before .before .before .before .before .before .before .before in
+    let c15 = c10 .before .before .before .before .before in
+    omega (arith, front-length (c15 .args .r .now), c10 .count .ensures)
 
 put-all-requires : tie.Need-put-all-requires
-put-all-requires c κs = (omega (arith, c .before .before .before .before .before .before .before .before .put-octet .ensures .count, c .before .before .before .before .put-octet2 .ensures .count), omega (arith, length-take (c .before .before .before .before .before .before .before .before .before .before .before .count .result - 0) (c .before .before .before .before .before .before .before .before .before .before .before .before .before .before .before .before .args .r .now)))
-
-same-length : tie.Need-same-length
-same-length c = search needs
+put-all-requires c κs =
+    let c4 = c .before .before .before .before in
+    let c8 = c4 .before .before .before .before in
+    let c11 = c8 .before .before .before in
+    let c16 = c11 .before .before .before .before .before in (
+      omega (arith, c8 .put-octet .ensures .count, c4 .put-octet2 .ensures .count),
+      omega (arith, length-take (c11 .count .result - 0) (c16 .args .r .now)),
+    )
 
 returns-3 : tie.Need-returns-3
-returns-3 c = wrote-text _ _ (some-block (c .before .before .before .before .before .before .before .before .before .before .before .before .before .before .before .before .before .before .before .args .w) (c .before .before .before .before .before .before .before .before .before .before .before .before .before .before .count .result) (c .before .before .before .before .before .before .before .before .before .before .before .before .before .before .before .before .before .before .before .args .r .now) (c .before .before .before .before .before .before .before .before .before .before .before .before .before .before .count .ensures) (c .before .before .before .before .before .before .before .before .before .before .before .before .before .if2 .left)) (wrote-append (c .before .before .before .before .before .before .before .before .before .before .before .put-octet .ensures) (wrote-append (c .before .before .before .before .before .before .before .put-octet2 .ensures) (c .before .before .put-all .ensures)))
+returns-3 c =
+    let c2 = c .before .before in
+    let c7 = c2 .before .before .before .before .before in
+    let c11 = c7 .before .before .before .before in
+    let c13 = c11 .before .before in
+    let c14 = c13 .before in
+    let c19 = c14 .before .before .before .before .before in
+    wrote-text _ _ (some-block (c19 .args .w) (c14 .count .result) (c19 .args .r .now) (c14 .count .ensures) (c13 .if2 .left))
+    (wrote-append (c11 .put-octet .ensures) (wrote-append (c7 .put-octet2 .ensures) (c2 .put-all .ensures)))
 
 pub put-block-spec : {M : Type 1} → statement M
 put-block-spec =
     tie.close
     (tie.spec
-    is-empty-requires
+    (λ c κs. search needs)
     returns
-    count-requires
+    (λ c κs. search needs)
     returns-2
-    put-octet-requires
+    (λ c κs. search needs)
     cast-put-octet
-    put-octet-requires-2
-    sub-put-all
-    part-put-all-start
+    (λ c κs. search needs)
+    (λ c. search needs)
+    (λ c. search needs)
     part-put-all-end
     put-all-requires
-    same-length
+    (λ c. search needs)
     returns-3)

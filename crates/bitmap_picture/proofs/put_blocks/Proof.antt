@@ -12,7 +12,9 @@ use Rattle.bitmap_picture.proofs.put_blocks.Statement.{statement}
 use Rattle.bitmap_picture.proofs.put_blocks.Tie as tie
 
 abbrev Inv-loop : tie.InvT-loop
-Inv-loop out₀ n m top k₀ w₀ out k w = (k ≤ n + 34 * w) × (length out ≡ length out₀) × ((ts : List ℕ) → Holds m top ts → Left out₀ n (blocks ts) out k (blocksFrom ts w (256 - w)))
+Inv-loop out₀ n m top k₀ w₀ out k w =
+    (k ≤ n + 34 * w) × (length out ≡ length out₀)
+    × ((ts : List ℕ) → Holds m top ts → Left out₀ n (blocks ts) out k (blocksFrom ts w (256 - w)))
 
 abbrev μ-loop : tie.MeasureT-loop
 μ-loop out₀ n m top k₀ w₀ out k w = top - w
@@ -39,13 +41,25 @@ loop-less : tie.Need-loop-less Inv-loop μ-loop
 loop-less c = search needs
 
 loop-again : tie.Need-loop-again Inv-loop μ-loop
-loop-again c = let l : length (getD (c .before .before .before .before .before .before .before .before .before .args .m .now) (c .before .before .before .before .before .before .before .loop .w) []) ≤ 32 = search needs in (omega (arith, c .before .before .put-block .ensures .count, block-length (c .before .before .before .before .before .before .before .loop .w) (getD (c .before .before .before .before .before .before .before .before .before .args .m .now) (c .before .before .before .before .before .before .before .loop .w) [])), wrote-length (c .before .before .put-block .ensures) ∙ c .before .before .before .before .before .before .before .loop .inv .1, λ ts p. left-piece _ _ _ _ (c .before .before .before .before .before .before .before .loop .inv .2 ts p) (next-block (c .before .before .before .before .before .before .before .before .before .args .m .now) (c .before .before .before .before .before .before .before .before .before .args .top) ts p (c .before .before .before .before .before .before .before .loop .w) (omega arith)) (c .before .before .put-block .ensures))
+loop-again c =
+    let c2 = c .before .before in
+    let c7 = c2 .before .before .before .before .before in
+    let c9 = c7 .before .before in
+    let l : length (getD (c9 .args .m .now) (c7 .loop .w) []) ≤ 32 = search needs in (
+      omega (arith, c2 .put-block .ensures .count, block-length (c7 .loop .w) (getD (c9 .args .m .now) (c7 .loop .w) [])),
+      wrote-length (c2 .put-block .ensures) ∙ c7 .loop .inv .1,
+      λ ts p. left-piece _ _ _ _ (c7 .loop .inv .2 ts p) (next-block (c9 .args .m .now) (c9 .args .top) ts p (c7 .loop .w) (omega arith))
+          (c2 .put-block .ensures),
+    )
 
 same-length : tie.Need-same-length Inv-loop μ-loop
 same-length c = search needs
 
 returns : tie.Need-returns Inv-loop μ-loop
-returns c = λ ts p. left-none (c .before .loop .inv .2 ts p) (no-more (c .before .before .before .args .m .now) (c .before .before .before .args .top) ts p (c .before .loop .w) (c .loop-test .left))
+returns c =
+    let c3 = c .before .before .before in
+    λ ts p. left-none (c .before .loop .inv .2 ts p)
+    (no-more (c3 .args .m .now) (c3 .args .top) ts p (c .before .loop .w) (c .loop-test .left))
 
 pub put-blocks-spec : {M : Type 1} → statement M
 put-blocks-spec =

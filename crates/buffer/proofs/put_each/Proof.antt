@@ -31,7 +31,11 @@ loop-less : tie.Need-loop-less Inv-loop μ-loop
 loop-less c = search needs
 
 loop-again : tie.Need-loop-again Inv-loop μ-loop
-loop-again c = (search needs, search needs, left-one _ _ _ (c .before .before .before .before .before .before .loop .inv .2) (next _ _ (c .before .before .before .before .before .loop-test .taken)) (c .before .before .put .ensures))
+loop-again c =
+    let c2 = c .before .before in
+    let c5 = c2 .before .before .before in
+    let c6 = c5 .before in
+    (search needs, search needs, left-one _ _ _ (c6 .loop .inv .2) (next _ _ (c5 .loop-test .taken)) (c2 .put .ensures))
 
 same-length : tie.Need-same-length Inv-loop μ-loop
 same-length c = search needs

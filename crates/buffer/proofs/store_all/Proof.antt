@@ -16,16 +16,24 @@ abbrev μ-loop : tie.MeasureT-loop
 μ-loop out₀ n s i₀ out i = length s - i
 
 loop-holds : tie.Need-loop-holds Inv-loop μ-loop
-loop-holds c = let z : c .args .n + 0 ≡ c .args .n = omega arith in (search needs, subst (λ m. Left (c .args .out .now) (c .args .n) (c .args .s .now) (c .args .out .now) m (c .args .s .now)) (sym z) (left-all _ _ _))
+loop-holds c =
+    let z : c .args .n + 0 ≡ c .args .n = omega arith in (
+      search needs,
+      subst (λ m. Left (c .args .out .now) (c .args .n) (c .args .s .now) (c .args .out .now) m (c .args .s .now)) (sym z) (left-all _ _ _),
+    )
 
 shared-slice-read-out : tie.Need-shared-slice-read-out Inv-loop μ-loop
 shared-slice-read-out c = search needs
 
 add-out : tie.Need-add-out Inv-loop μ-loop
-add-out c = omega (arith, c .before .before .loop .inv .1 .kept)
+add-out c =
+    let c2 = c .before .before in
+    omega (arith, c2 .loop .inv .1 .kept)
 
 slice-write-out : tie.Need-slice-write-out Inv-loop μ-loop
-slice-write-out c = omega (arith, c .before .before .loop .inv .1 .kept)
+slice-write-out c =
+    let c2 = c .before .before in
+    omega (arith, c2 .loop .inv .1 .kept)
 
 add-i : tie.Need-add-i Inv-loop μ-loop
 add-i c = search needs
@@ -34,7 +42,11 @@ loop-less : tie.Need-loop-less Inv-loop μ-loop
 loop-less c = search needs
 
 loop-again : tie.Need-loop-again Inv-loop μ-loop
-loop-again c = let z : c .before .before .before .args .n + c .before .before .loop .i + 1 ≡ c .before .before .before .args .n + (c .before .before .loop .i + 1) = omega arith in (search needs, rw (← z) (left-one _ _ _ (c .before .before .loop .inv .1) (next _ _ (c .before .loop-test .taken)) refl))
+loop-again c =
+    let c2 = c .before .before in
+    let c3 = c2 .before in
+    let z : c3 .args .n + c2 .loop .i + 1 ≡ c3 .args .n + (c2 .loop .i + 1) = omega arith in
+    (search needs, rw (← z) (left-one _ _ _ (c2 .loop .inv .1) (next _ _ (c .before .loop-test .taken)) refl))
 
 add-result : tie.Need-add-result Inv-loop μ-loop
 add-result c = search needs

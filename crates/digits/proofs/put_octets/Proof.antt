@@ -33,7 +33,15 @@ loop-less : tie.Need-loop-less Inv-loop μ-loop
 loop-less c = search needs
 
 loop-again : tie.Need-loop-again Inv-loop μ-loop
-loop-again c = (search needs, last-octet _ _ (c .before .before .before .before .before .before .before .args .n) (c .before .before .before .before .before .loop .k) (c .before .before .before .before .before .loop .x) (c .before .before .before .before .loop-test .taken) (c .before .before .put .ensures) ∙ c .before .before .before .before .before .loop .inv .1, search needs)
+loop-again c =
+    let c2 = c .before .before in
+    let c4 = c2 .before .before in
+    let c5 = c4 .before in
+    let c7 = c5 .before .before in (
+      search needs,
+      last-octet _ _ (c7 .args .n) (c5 .loop .k) (c5 .loop .x) (c4 .loop-test .taken) (c2 .put .ensures) ∙ c5 .loop .inv .1,
+      search needs,
+    )
 
 add-result : tie.Need-add-result Inv-loop μ-loop
 add-result c = search needs
@@ -42,7 +50,9 @@ same-length : tie.Need-same-length Inv-loop μ-loop
 same-length c = search needs
 
 returns : tie.Need-returns Inv-loop μ-loop
-returns c = all-octets _ _ _ (c .before .before .before .args .w) _ (c .before .loop .k) (c .before .loop .x) (c .loop-test .left) (c .before .loop .inv .1)
+returns c =
+    let c3 = c .before .before .before in
+    all-octets _ _ _ (c3 .args .w) _ (c .before .loop .k) (c .before .loop .x) (c .loop-test .left) (c .before .loop .inv .1)
 
 pub put-octets-spec : {M : Type 1} → statement M
 put-octets-spec =

@@ -13,10 +13,14 @@ returns : tie.Need-returns
 returns c = rw (lt-leb 1 (c .before .args .first) (c .if1 .taken))
 
 returns-2 : tie.Need-returns-2
-returns-2 c = rw (le-leb 1 (c .before .before .args .first) (c .before .if1 .left), lt-leb (c .before .before .args .first - 1 + c .before .before .args .many) (c .before .before .args .count) (omega arith))
+returns-2 c =
+    let c2 = c .before .before in
+    rw (le-leb 1 (c2 .args .first) (c .before .if1 .left), lt-leb (c2 .args .first - 1 + c2 .args .many) (c2 .args .count) (omega arith))
 
 returns-3 : tie.Need-returns-3
-returns-3 c = run-test (c .before .before .args .first) (c .before .before .args .many) (c .before .before .args .count) (c .before .if1 .left) (c .if2 .left)
+returns-3 c =
+    let c2 = c .before .before in
+    run-test (c2 .args .first) (c2 .args .many) (c2 .args .count) (c .before .if1 .left) (c .if2 .left)
 
 pub is-run-spec : {M : Type 1} → statement M
 is-run-spec = tie.close (tie.spec returns returns-2 returns-3)

@@ -12,35 +12,47 @@ use Rattle.entry_print.proofs.print_run.Lts as lts
 use Rattle.entry_print.proofs.put_text.Reads as put-text-reads
 use Rattle.run_wire.proofs.check.Reads as check-reads
 
-check-requires : tie.Need-check-requires
-check-requires c κs = search needs
-
-enum-known-c : tie.Need-enum-known-c
-enum-known-c c = search needs
-
-enum-told : tie.Need-enum-told
-enum-told c = search needs
-
 put-text-requires : tie.Need-put-text-requires
-put-text-requires c κs = record { usable = c .before .before .before .before .before .before .before .pre .0; short = c .before .before .before .before .before .before .before .pre .1; taken-all = subst (Checks (kindsFrom (c .before .before .before .before .before .before .before .args .s .now) (fieldsOf (c .before .before .before .before .before .before .before .args .codes .now)) (c .before .before .before .before .before .before .before .args .first) (c .before .before .before .before .before .before .before .args .many)) (c .before .before .before .before .before .before .before .args .p .now)) (c .before .enum-told .given .1) (c .before .before .before .check .ensures (c .before .before .before .before .before .before .before .args .s .now)) }
+put-text-requires c κs =
+    let c3 = c .before .before .before in
+    let c7 = c3 .before .before .before .before in
+    record {
+      usable = c7 .pre .0;
+      short = c7 .pre .1;
+      taken-all = subst
+          (Checks (kindsFrom (c7 .args .s .now) (fieldsOf (c7 .args .codes .now)) (c7 .args .first) (c7 .args .many)) (c7 .args .p .now))
+          (c .before .enum-told .given .1) (c3 .check .ensures (c7 .args .s .now));
+    }
 
 returns : tie.Need-returns
-returns c = leaves-refused _ (c .before .before .before .before .before .before .before .args .at) _ _ _ _ (no-answer _ _ _ _ (subst (Checks (kindsFrom (c .before .before .before .before .before .before .before .args .s .now) (fieldsOf (c .before .before .before .before .before .before .before .args .codes .now)) (c .before .before .before .before .before .before .before .args .first) (c .before .before .before .before .before .before .before .args .many)) (c .before .before .before .before .before .before .before .args .p .now)) (c .before .c .given .1) (c .before .before .before .check .ensures (c .before .before .before .before .before .before .before .args .s .now)))) refl refl
-
-same-length : tie.Need-same-length
-same-length c = search needs
+returns c =
+    let c3 = c .before .before .before in
+    let c7 = c3 .before .before .before .before in
+    leaves-refused _ (c7 .args .at) _ _ _ _
+    (no-answer _ _ _ _
+    (subst
+    (Checks (kindsFrom (c7 .args .s .now) (fieldsOf (c7 .args .codes .now)) (c7 .args .first) (c7 .args .many))
+    (c7 .args .p .now)) (c .before .c .given .1) (c3 .check .ensures (c7 .args .s .now)))) refl refl
 
 returns-2 : tie.Need-returns-2
-returns-2 c = let z = subst (Checks (kindsFrom (c .before .before .before .before .before .before .before .before .before .before .args .s .now) (fieldsOf (c .before .before .before .before .before .before .before .before .before .before .args .codes .now)) (c .before .before .before .before .before .before .before .before .before .before .args .first) (c .before .before .before .before .before .before .before .before .before .before .args .many)) (c .before .before .before .before .before .before .before .before .before .before .args .p .now)) (c .before .before .before .before .enum-told .given .1) (c .before .before .before .before .before .before .check .ensures (c .before .before .before .before .before .before .before .before .before .before .args .s .now)) in rw (text-answer _ _ (z .0) (z .1)) (c .before .before .put-text .ensures)
+returns-2 c =
+    let c2 = c .before .before in
+    let c4 = c2 .before .before in
+    let c6 = c4 .before .before in
+    let c10 = c6 .before .before .before .before in
+    let z = subst
+    (Checks (kindsFrom (c10 .args .s .now) (fieldsOf (c10 .args .codes .now)) (c10 .args .first) (c10 .args .many)) (c10 .args .p .now))
+    (c4 .enum-told .given .1) (c6 .check .ensures (c10 .args .s .now)) in
+    rw (text-answer _ _ (z .0) (z .1)) (c2 .put-text .ensures)
 
 pub print-run-spec : {M : Type 1} → statement M
 print-run-spec =
     tie.close
     (tie.spec
-    check-requires
-    enum-known-c
-    enum-told
+    (λ c κs. search needs)
+    (λ c. search needs)
+    (λ c. search needs)
     put-text-requires
     returns
-    same-length
+    (λ c. search needs)
     returns-2)

@@ -13,63 +13,54 @@ use Rattle.entry_print.proofs.needed.Reads as needed-reads
 use Rattle.run_print.proofs.put_run.Reads as put-run-reads
 use Rattle.buffer.proofs.least.Reads as least-reads
 
-least-requires : tie.Need-least-requires
-least-requires c κs = search needs
-
-sub-needed : tie.Need-sub-needed
-sub-needed c = search needs
-
-needed-requires : tie.Need-needed-requires
-needed-requires c κs = search needs
-
-sub-if1 : tie.Need-sub-if1
-sub-if1 c = search needs
-
 cast-t16 : tie.Need-cast-t16
-cast-t16 c = omega (arith, c .before .before .before .needed .ensures .1 .told (c .if1 .taken), c .before .before .before .needed .ensures .1 .short)
-
-same-length : tie.Need-same-length
-same-length c = search needs
+cast-t16 c =
+    let c3 = c .before .before .before in
+    omega (arith, c3 .needed .ensures .1 .told (c .if1 .taken), c3 .needed .ensures .1 .short)
 
 returns : tie.Need-returns
-returns c = leaves-measured (c .before .before .before .before .before .before .before .before .before .args .out .now) _ (c .before .before .before .before .before .before .before .before .before .args .at) (c .before .before .before .needed .result) (textOf (kindsFrom (c .before .before .before .before .before .before .before .before .before .args .s .now) (fieldsOf (c .before .before .before .before .before .before .before .before .before .args .codes .now)) (c .before .before .before .before .before .before .before .before .before .args .first) (c .before .before .before .before .before .before .before .before .before .args .many)) (c .before .before .before .before .before .before .before .before .before .args .p .now)) _ (c .before .before .before .needed .ensures .0) (omega (arith, c .before .before .before .needed .ensures .1 .told (c .if1 .taken))) (omega (arith, c .before .before .before .before .before .least .ensures, c .if1 .taken)) refl refl
-
-sub-put-run : tie.Need-sub-put-run
-sub-put-run c = search needs
-
-part-put-run-start : tie.Need-part-put-run-start
-part-put-run-start c = search needs
-
-part-put-run-end : tie.Need-part-put-run-end
-part-put-run-end c = search needs
-
-put-run-requires : tie.Need-put-run-requires
-put-run-requires c κs = search needs
+returns c =
+    let c3 = c .before .before .before in
+    let c5 = c3 .before .before in
+    let c9 = c5 .before .before .before .before in
+    leaves-measured (c9 .args .out .now) _ (c9 .args .at) (c3 .needed .result)
+    (textOf (kindsFrom (c9 .args .s .now) (fieldsOf (c9 .args .codes .now)) (c9 .args .first) (c9 .args .many)) (c9 .args .p .now)) _
+    (c3 .needed .ensures .0) (omega (arith, c3 .needed .ensures .1 .told (c .if1 .taken)))
+    (omega (arith, c5 .least .ensures, c .if1 .taken)) refl refl
 
 cast-t20 : tie.Need-cast-t20
-cast-t20 c = omega (arith, c .before .before .put-run .ensures .count, c .before .before .before .before .before .before .before .needed .ensures .1 .short)
-
-same-length-2 : tie.Need-same-length-2
-same-length-2 c = search needs
+cast-t20 c =
+    let c2 = c .before .before in
+    let c7 = c2 .before .before .before .before .before in
+    omega (arith, c2 .put-run .ensures .count, c7 .needed .ensures .1 .short)
 
 returns-2 : tie.Need-returns-2
-returns-2 c = leaves-done _ (c .before .before .before .before .before .before .before .before .before .before .before .before .before .args .out .now) _ (c .before .before .before .before .before .before .before .before .before .before .before .before .before .args .at) _ _ (textOf (kindsFrom (c .before .before .before .before .before .before .before .before .before .before .before .before .before .args .s .now) (fieldsOf (c .before .before .before .before .before .before .before .before .before .before .before .before .before .args .codes .now)) (c .before .before .before .before .before .before .before .before .before .before .before .before .before .args .first) (c .before .before .before .before .before .before .before .before .before .before .before .before .before .args .many)) (c .before .before .before .before .before .before .before .before .before .before .before .before .before .args .p .now)) _ (c .before .before .before .before .before .before .before .needed .ensures .0) (c .before .before .before .before .before .before .before .before .before .least .ensures) (omega (arith, c .before .before .before .before .before .before .before .before .before .least .ensures, c .before .before .before .before .before .before .before .needed .ensures .1 .fits (c .before .before .before .before .if1 .left))) (c .before .before .put-run .ensures) refl refl
+returns-2 c =
+    let c2 = c .before .before in
+    let c4 = c2 .before .before in
+    let c7 = c4 .before .before .before in
+    let c9 = c7 .before .before in
+    let c13 = c9 .before .before .before .before in
+    leaves-done _ (c13 .args .out .now) _ (c13 .args .at) _ _
+    (textOf (kindsFrom (c13 .args .s .now) (fieldsOf (c13 .args .codes .now)) (c13 .args .first) (c13 .args .many)) (c13 .args .p .now))
+    _ (c7 .needed .ensures .0) (c9 .least .ensures) (omega (arith, c9 .least .ensures, c7 .needed .ensures .1 .fits (c4 .if1 .left)))
+    (c2 .put-run .ensures) refl refl
 
 pub put-text-spec : {M : Type 1} → statement M
 put-text-spec =
     tie.close
     (tie.spec
-    least-requires
-    sub-needed
-    needed-requires
-    sub-if1
+    (λ c κs. search needs)
+    (λ c. search needs)
+    (λ c κs. search needs)
+    (λ c. search needs)
     cast-t16
-    same-length
+    (λ c. search needs)
     returns
-    sub-put-run
-    part-put-run-start
-    part-put-run-end
-    put-run-requires
+    (λ c. search needs)
+    (λ c. search needs)
+    (λ c. search needs)
+    (λ c κs. search needs)
     cast-t20
-    same-length-2
+    (λ c. search needs)
     returns-2)

@@ -14,56 +14,33 @@ use Rattle.stanza_code.proofs.field.Reads as field-reads
 returns : tie.Need-returns
 returns c = λ e s xs b n a. absurd (true≢false (sym e))
 
-mul-if2 : tie.Need-mul-if2
-mul-if2 c = search needs
-
-mul-if2-2 : tie.Need-mul-if2-2
-mul-if2-2 c = search needs
-
-add-if2 : tie.Need-add-if2
-add-if2 c = search needs
-
 returns-2 : tie.Need-returns-2
 returns-2 c = λ e s xs b n a. absurd (true≢false (sym e))
-
-add-field : tie.Need-add-field
-add-field c = search needs
-
-sub-field : tie.Need-sub-field
-sub-field c = search needs
-
-mul-field : tie.Need-mul-field
-mul-field c = search needs
-
-element-copy-out-field : tie.Need-element-copy-out-field
-element-copy-out-field c = search needs
-
-field-requires : tie.Need-field-requires
-field-requires c κs = search needs
-
-enum-told : tie.Need-enum-told
-enum-told c = search needs
 
 returns-3 : tie.Need-returns-3
 returns-3 c = λ e s xs b n a. absurd (true≢false (sym e))
 
 returns-4 : tie.Need-returns-4
-returns-4 c = λ e s xs b n a. surely s (fieldsOf (c .before .before .before .before .before .args .codes .now)) (c .before .before .before .before .before .args .first) (c .before .before .before .before .before .args .many) xs b a (omega arith) (c .before .field .result) (read-at (c .before .before .before .before .before .args .codes .now) _ (c .before .field .ensures)) (other-form (c .before .field .result .form) (c .match .keys2) _) (c .before .before .before .before .before .args .room) (omega arith)
+returns-4 c =
+    let c5 = c .before .before .before .before .before in
+    λ e s xs b n a. surely s (fieldsOf (c5 .args .codes .now)) (c5 .args .first) (c5 .args .many) xs b a (omega arith)
+    (c .before .field .result) (read-at (c5 .args .codes .now) _ (c .before .field .ensures))
+    (other-form (c .before .field .result .form) (c .match .keys2) _) (c5 .args .room) (omega arith)
 
 pub surely-fits-spec : {M : Type 1} → statement M
 surely-fits-spec =
     tie.close
     (tie.spec
     returns
-    mul-if2
-    mul-if2-2
-    add-if2
+    (λ c. search needs)
+    (λ c. search needs)
+    (λ c. search needs)
     returns-2
-    add-field
-    sub-field
-    mul-field
-    element-copy-out-field
-    field-requires
-    enum-told
+    (λ c. search needs)
+    (λ c. search needs)
+    (λ c. search needs)
+    (λ c. search needs)
+    (λ c κs. search needs)
+    (λ c. search needs)
     returns-3
     returns-4)

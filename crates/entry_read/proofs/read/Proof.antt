@@ -13,20 +13,12 @@ use Rattle.stanza_judge.proofs.judged_outline.Reads as judged-outline-reads
 
 returns : tie.Need-returns
 unfolding read
-returns c = leaves-refused _ (c .before .before .before .before .before .args .at) _ _ _ _ (read-long (c .before .before .before .before .before .args .s .now) (c .before .before .before .before .before .args .first) (c .before .before .before .before .before .args .many) (c .before .before .before .before .before .args .origin .now) (c .before .before .before .before .before .args .t .now) (c .if1 .taken)) refl refl
-
-judged-outline-requires : tie.Need-judged-outline-requires
-judged-outline-requires c κs = search needs
-
-read-judged-requires : tie.Need-read-judged-requires
-read-judged-requires c κs = search needs
-
-same-length : tie.Need-same-length
-same-length c = search needs
-
-returns-2 : tie.Need-returns-2
-returns-2 c = search needs
+returns c =
+    let c5 = c .before .before .before .before .before in
+    leaves-refused _ (c5 .args .at) _ _ _ _
+    (read-long (c5 .args .s .now) (c5 .args .first) (c5 .args .many) (c5 .args .origin .now) (c5 .args .t .now) (c .if1 .taken)) refl
+    refl
 
 pub read-spec : {M : Type 1} → statement M
 read-spec =
-    tie.close (tie.spec returns judged-outline-requires read-judged-requires same-length returns-2)
+    tie.close (tie.spec returns (λ c κs. search needs) (λ c κs. search needs) (λ c. search needs) (λ c. search needs))

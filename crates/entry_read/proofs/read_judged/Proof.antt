@@ -14,55 +14,86 @@ use Rattle.entry_read.proofs.is_name.Reads as is-name-reads
 use Rattle.entry.proofs.is_run.Reads as is-run-reads
 use Rattle.entry_read.proofs.room.read_run.Reads as read-run-reads
 
-cast-t12 : tie.Need-cast-t12
-cast-t12 c = search needs
-
-cast-t13 : tie.Need-cast-t13
-cast-t13 c = search needs
-
 returns : tie.Need-returns
 unfolding read
-returns c = leaves-refused _ (c .before .before .before .before .before .before .args .at) _ _ _ _ (read-rejected (c .before .before .before .before .before .before .pre .0) (c .before .before .before .before .before .before .args .origin .now) (c .before .before .before .before .before .before .args .t .now) (c .before .before .before .before .before .before .pre .1) (c .before .before .before .before .before .before .args .first) (c .before .before .before .before .before .before .args .many) (c .before .if1 .taken)) refl refl
-
-is-run-requires : tie.Need-is-run-requires
-is-run-requires c κs = search needs
-
-is-name-requires : tie.Need-is-name-requires
-is-name-requires c κs = search needs
+returns c =
+    let c6 = c .before .before .before .before .before .before in
+    leaves-refused _ (c6 .args .at) _ _ _ _
+    (read-rejected (c6 .pre .0) (c6 .args .origin .now) (c6 .args .t .now) (c6 .pre .1) (c6 .args .first) (c6 .args .many)
+    (c .before .if1 .taken)) refl refl
 
 sub-read-run : tie.Need-sub-read-run
-sub-read-run c = omega (arith, from-one (c .before .before .before .before .before .before .before .before .before .pre .0) (omega (arith, c .before .before .before .before .if1 .left)) (c .before .before .before .before .before .before .before .before .before .args .first) (c .before .before .before .before .before .before .before .before .before .args .many) (sym (c .before .before .if2 .taken) ∙ c .before .before .before .is-run .ensures))
+sub-read-run c =
+    let c2 = c .before .before in
+    let c3 = c2 .before in
+    let c4 = c3 .before in
+    let c9 = c4 .before .before .before .before .before in
+    omega (
+      arith,
+      from-one (c9 .pre .0) (omega (arith, c4 .if1 .left)) (c9 .args .first) (c9 .args .many)
+          (sym (c2 .if2 .taken) ∙ c3 .is-run .ensures),
+    )
 
 read-run-requires : tie.Need-read-run-requires
-read-run-requires c κs = (usable-run (c .before .before .before .before .before .before .before .before .before .before .pre .0) (omega (arith, c .before .before .before .before .before .if1 .left)) (c .before .before .before .before .before .before .before .before .before .before .args .first) (c .before .before .before .before .before .before .before .before .before .before .args .many) (sym (c .before .before .before .if2 .taken) ∙ c .before .before .before .before .is-run .ensures) (judged-short _ _ (accepted (c .before .before .before .before .before .before .before .before .before .before .pre .0) (omega (arith, c .before .before .before .before .before .if1 .left)))), sym (c .before .before .is-name .ensures) ∙ c .before .if3 .taken, c .before .before .before .before .before .before .before .before .before .before .pre .1)
-
-same-length : tie.Need-same-length
-same-length c = search needs
+read-run-requires c κs =
+    let c2 = c .before .before in
+    let c3 = c2 .before in
+    let c4 = c3 .before in
+    let c5 = c4 .before in
+    let c10 = c5 .before .before .before .before .before in (
+      usable-run (c10 .pre .0) (omega (arith, c5 .if1 .left)) (c10 .args .first) (c10 .args .many)
+          (sym (c3 .if2 .taken) ∙ c4 .is-run .ensures) (judged-short _ _ (accepted (c10 .pre .0) (omega (arith, c5 .if1 .left)))),
+      sym (c2 .is-name .ensures) ∙ c .before .if3 .taken,
+      c10 .pre .1,
+    )
 
 returns-2 : tie.Need-returns-2
 unfolding read
-returns-2 c = rw (read-runs (c .before .before .before .before .before .before .before .before .before .before .before .before .before .pre .0) (c .before .before .before .before .before .before .before .before .before .before .before .before .before .args .origin .now) (c .before .before .before .before .before .before .before .before .before .before .before .before .before .args .t .now) (c .before .before .before .before .before .before .before .before .before .before .before .before .before .pre .1) (omega (arith, c .before .before .before .before .before .before .before .before .if1 .left)) (c .before .before .before .before .before .before .before .before .before .before .before .before .before .args .first) (c .before .before .before .before .before .before .before .before .before .before .before .before .before .args .many) (sym (c .before .before .before .before .before .before .if2 .taken) ∙ c .before .before .before .before .before .before .before .is-run .ensures) (sym (c .before .before .before .before .before .is-name .ensures) ∙ c .before .before .before .before .if3 .taken)) (c .before .before .read-run .ensures)
+returns-2 c =
+    let c2 = c .before .before in
+    let c4 = c2 .before .before in
+    let c5 = c4 .before in
+    let c6 = c5 .before in
+    let c7 = c6 .before in
+    let c8 = c7 .before in
+    let c13 = c8 .before .before .before .before .before in
+    rw
+    (read-runs (c13 .pre .0) (c13 .args .origin .now) (c13 .args .t .now) (c13 .pre .1) (omega (arith, c8 .if1 .left)) (c13 .args .first)
+    (c13 .args .many) (sym (c6 .if2 .taken) ∙ c7 .is-run .ensures) (sym (c5 .is-name .ensures) ∙ c4 .if3 .taken))
+    (c2 .read-run .ensures)
 
 returns-3 : tie.Need-returns-3
 unfolding read
-returns-3 c = leaves-refused _ (c .before .before .before .before .before .before .before .before .before .args .at) _ _ _ _ (read-no-origin (c .before .before .before .before .before .before .before .before .before .pre .0) (c .before .before .before .before .before .before .before .before .before .args .origin .now) (c .before .before .before .before .before .before .before .before .before .args .t .now) (c .before .before .before .before .before .before .before .before .before .pre .1) (omega (arith, c .before .before .before .before .if1 .left)) (c .before .before .before .before .before .before .before .before .before .args .first) (c .before .before .before .before .before .before .before .before .before .args .many) (sym (c .before .before .if2 .taken) ∙ c .before .before .before .is-run .ensures) (sym (c .before .is-name .ensures) ∙ c .if3 .left)) refl refl
+returns-3 c =
+    let c2 = c .before .before in
+    let c3 = c2 .before in
+    let c4 = c3 .before in
+    let c9 = c4 .before .before .before .before .before in
+    leaves-refused _ (c9 .args .at) _ _ _ _
+    (read-no-origin (c9 .pre .0) (c9 .args .origin .now) (c9 .args .t .now) (c9 .pre .1) (omega (arith, c4 .if1 .left)) (c9 .args .first)
+    (c9 .args .many) (sym (c2 .if2 .taken) ∙ c3 .is-run .ensures) (sym (c .before .is-name .ensures) ∙ c .if3 .left)) refl refl
 
 returns-4 : tie.Need-returns-4
 unfolding read
-returns-4 c = leaves-refused _ (c .before .before .before .before .before .before .before .args .at) _ _ _ _ (read-no-run (c .before .before .before .before .before .before .before .pre .0) (c .before .before .before .before .before .before .before .args .origin .now) (c .before .before .before .before .before .before .before .args .t .now) (c .before .before .before .before .before .before .before .pre .1) (omega (arith, c .before .before .if1 .left)) (c .before .before .before .before .before .before .before .args .first) (c .before .before .before .before .before .before .before .args .many) (sym (c .if2 .left) ∙ c .before .is-run .ensures)) refl refl
+returns-4 c =
+    let c2 = c .before .before in
+    let c7 = c2 .before .before .before .before .before in
+    leaves-refused _ (c7 .args .at) _ _ _ _
+    (read-no-run (c7 .pre .0) (c7 .args .origin .now) (c7 .args .t .now) (c7 .pre .1) (omega (arith, c2 .if1 .left)) (c7 .args .first)
+    (c7 .args .many) (sym (c .if2 .left) ∙ c .before .is-run .ensures)) refl refl
 
 pub read-judged-spec : {M : Type 1} → statement M
 read-judged-spec =
     tie.close
     (tie.spec
-    cast-t12
-    cast-t13
+    (λ c. search needs)
+    (λ c. search needs)
     returns
-    is-run-requires
-    is-name-requires
+    (λ c κs. search needs)
+    (λ c κs. search needs)
     sub-read-run
     read-run-requires
-    same-length
+    (λ c. search needs)
     returns-2
     returns-3
     returns-4)

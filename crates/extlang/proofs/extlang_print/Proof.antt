@@ -3,17 +3,11 @@ use borrow.Author.Needs.{needs}
 use Rattle.extlang.proofs.extlang_print.Statement.{statement}
 use Rattle.extlang.proofs.extlang_print.Tie as tie
 
-print-requires : tie.Need-print-requires
-print-requires c κs = search needs
-
-packed-requires : tie.Need-packed-requires
-packed-requires c κs = search needs
-
-same-length : tie.Need-same-length
-same-length c = search needs
-
 returns : tie.Need-returns
-returns c = record { answer = packs (c .packed .ensures) (c .before .before .before .print .ensures .numbers) (c .before .before .before .print .ensures .places); octets = c .before .before .before .print .ensures .octets }
+returns c =
+    let c3 = c .before .before .before in
+    record
+    { answer = packs (c .packed .ensures) (c3 .print .ensures .numbers) (c3 .print .ensures .places); octets = c3 .print .ensures .octets }
 
 pub extlang-print-spec : {M : Type 1} → statement M
-extlang-print-spec = tie.close (tie.spec print-requires packed-requires same-length returns)
+extlang-print-spec = tie.close (tie.spec (λ c κs. search needs) (λ c κs. search needs) (λ c. search needs) returns)

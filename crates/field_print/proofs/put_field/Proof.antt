@@ -31,327 +31,302 @@ use Rattle.number.proofs.print.put_number.Reads as put-number-reads
 use Rattle.time.proofs.print.field.Reads as field-reads′
 use Rattle.base.proofs.print.put_hex_upper.Reads as put-hex-upper-reads
 
-cast-a : tie.Need-cast-a
-cast-a c = search needs
-
-cast-b : tie.Need-cast-b
-cast-b c = search needs
-
-enum-told : tie.Need-enum-told
-enum-told c = search needs
-
 number-requires : tie.Need-number-requires
-number-requires c κs = let v = int-four (c .before .before .before .before .before .before .before .args .s .now) (c .before .before .before .before .before .before .before .args .d) (c .before .before .before .before .before .before .before .pre .0) (c .enum-told .given .0 .0) (c .enum-told .given .1) in let q = int-wide (c .before .before .before .before .before .before .before .args .s .now) (c .before .before .before .before .before .before .before .args .d) (c .before .before .before .before .before .before .before .pre .0) (c .enum-told .given .0 .0) (c .enum-told .given .1) (c .before .before .before .before .before .before .before .args .p .now) (c .before .before .before .before .before .before .before .args .i) (c .before .before .before .before .before .before .before .args .e) (c .before .before .before .before .before .before .before .pre .2) (c .before .before .before .before .before .before .before .pre .3) (c .before .before .before .before .before .before .before .pre .5) in (c .before .before .before .before .before .before .before .pre .2, omega arith, c .before .before .before .before .before .before .before .pre .3)
+number-requires c κs =
+    let c7 = c .before .before .before .before .before .before .before in
+    let v = int-four (c7 .args .s .now) (c7 .args .d) (c7 .pre .0) (c .enum-told .given .0 .0) (c .enum-told .given .1) in
+    let q = int-wide (c7 .args .s .now) (c7 .args .d) (c7 .pre .0) (c .enum-told .given .0 .0) (c .enum-told .given .1) (c7 .args .p .now)
+    (c7 .args .i) (c7 .args .e) (c7 .pre .2) (c7 .pre .3) (c7 .pre .5) in
+    (c7 .pre .2, omega arith, c7 .pre .3)
 
 put-number-requires : tie.Need-put-number-requires
-put-number-requires c κs = (search needs, c .before .before .before .before .before .before .before .before .before .pre .0 .placed .from, c .before .before .before .before .before .before .before .before .before .pre .0 .placed .to, c .before .before .before .before .before .before .before .before .before .pre .1, c .before .number .ensures .1)
-
-enum-told-2 : tie.Need-enum-told-2
-enum-told-2 c = search needs
+put-number-requires c κs =
+    let c9 = c .before .before .before .before .before .before .before .before .before in
+    (search needs, c9 .pre .0 .placed .from, c9 .pre .0 .placed .to, c9 .pre .1, c .before .number .ensures .1)
 
 field-requires : tie.Need-field-requires
-field-requires c κs = (search needs, octets-wide (c .before .before .before .before .before .before .before .before .args .p .now) (c .before .before .before .before .before .before .before .before .args .i) (c .before .before .before .before .before .before .before .before .args .e) 2 (c .before .before .before .before .before .before .before .before .pre .2) (c .before .before .before .before .before .before .before .before .pre .3) (omega arith) (rw (c .before .enum-told2 .given .1) at (c .before .before .before .before .before .before .before .before .pre .5)), c .before .before .before .before .before .before .before .before .pre .3)
-
-enum-told-3 : tie.Need-enum-told-3
-enum-told-3 c = search needs
+field-requires c κs =
+    let c8 = c .before .before .before .before .before .before .before .before in (
+      search needs,
+      octets-wide (c8 .args .p .now) (c8 .args .i) (c8 .args .e) 2 (c8 .pre .2) (c8 .pre .3) (omega arith)
+          (rw (c .before .enum-told2 .given .1) at (c8 .pre .5)),
+      c8 .pre .3,
+    )
 
 field-requires-2 : tie.Need-field-requires-2
-field-requires-2 c κs = (search needs, c .before .before .before .before .before .before .before .before .pre .2, c .before .before .before .before .before .before .before .before .pre .3, c .before .before .before .before .before .before .before .before .pre .4, (rw (c .before .enum-told3 .given .1) at (c .before .before .before .before .before .before .before .before .pre .5)))
-
-enum-told-4 : tie.Need-enum-told-4
-enum-told-4 c = search needs
-
-dotted-requires : tie.Need-dotted-requires
-dotted-requires c κs = search needs
-
-enum-told-5 : tie.Need-enum-told-5
-enum-told-5 c = search needs
+field-requires-2 c κs =
+    let c8 = c .before .before .before .before .before .before .before .before in
+    (search needs, c8 .pre .2, c8 .pre .3, c8 .pre .4, (rw (c .before .enum-told3 .given .1) at (c8 .pre .5)))
 
 groups-requires : tie.Need-groups-requires
-groups-requires c κs = let q = octets-wide (c .before .before .before .before .before .before .before .before .args .p .now) (c .before .before .before .before .before .before .before .before .args .i) (c .before .before .before .before .before .before .before .before .args .e) 8 (c .before .before .before .before .before .before .before .before .pre .2) (c .before .before .before .before .before .before .before .before .pre .3) (omega arith) (rw (c .before .enum-told5 .given .1) at (c .before .before .before .before .before .before .before .before .pre .5)) in (search needs, c .before .before .before .before .before .before .before .before .pre .2, c .before .before .before .before .before .before .before .before .pre .3, c .before .before .before .before .before .before .before .before .pre .4, omega arith)
-
-enum-told-6 : tie.Need-enum-told-6
-enum-told-6 c = search needs
+groups-requires c κs =
+    let c8 = c .before .before .before .before .before .before .before .before in
+    let q = octets-wide (c8 .args .p .now) (c8 .args .i) (c8 .args .e) 8 (c8 .pre .2) (c8 .pre .3) (omega arith)
+    (rw (c .before .enum-told5 .given .1) at (c8 .pre .5)) in
+    (search needs, c8 .pre .2, c8 .pre .3, c8 .pre .4, omega arith)
 
 aaaa-requires : tie.Need-aaaa-requires
-aaaa-requires c κs = (search needs, octets-wide (c .before .before .before .before .before .before .before .before .args .p .now) (c .before .before .before .before .before .before .before .before .args .i) (c .before .before .before .before .before .before .before .before .args .e) 16 (c .before .before .before .before .before .before .before .before .pre .2) (c .before .before .before .before .before .before .before .before .pre .3) (omega arith) (rw (c .before .enum-told6 .given .1) at (c .before .before .before .before .before .before .before .before .pre .5)), c .before .before .before .before .before .before .before .before .pre .3, c .before .before .before .before .before .before .before .before .pre .4)
-
-enum-told-7 : tie.Need-enum-told-7
-enum-told-7 c = search needs
+aaaa-requires c κs =
+    let c8 = c .before .before .before .before .before .before .before .before in (
+      search needs,
+      octets-wide (c8 .args .p .now) (c8 .args .i) (c8 .args .e) 16 (c8 .pre .2) (c8 .pre .3) (omega arith)
+          (rw (c .before .enum-told6 .given .1) at (c8 .pre .5)),
+      c8 .pre .3,
+      c8 .pre .4,
+    )
 
 name-requires : tie.Need-name-requires
-name-requires c κs = (search needs, c .before .before .before .before .before .before .before .before .pre .2, c .before .before .before .before .before .before .before .before .pre .3, c .before .before .before .before .before .before .before .before .pre .4, name-anyhow _ _ _ (rw (c .before .enum-told7 .given .1) at (c .before .before .before .before .before .before .before .before .pre .5)))
-
-enum-told-8 : tie.Need-enum-told-8
-enum-told-8 c = search needs
-
-add-string : tie.Need-add-string
-add-string c = search needs
+name-requires c κs =
+    let c8 = c .before .before .before .before .before .before .before .before in
+    (search needs, c8 .pre .2, c8 .pre .3, c8 .pre .4, name-anyhow _ _ _ (rw (c .before .enum-told7 .given .1) at (c8 .pre .5)))
 
 string-requires : tie.Need-string-requires
-string-requires c κs = let q = counted-some (c .before .before .before .before .before .before .before .before .args .p .now) (c .before .before .before .before .before .before .before .before .args .i) (c .before .before .before .before .before .before .before .before .args .e) 0 (rw (c .before .enum-told8 .given .1) at (c .before .before .before .before .before .before .before .before .pre .5)) in (search needs, omega arith, c .before .before .before .before .before .before .before .before .pre .3, c .before .before .before .before .before .before .before .before .pre .4)
-
-enum-told-9 : tie.Need-enum-told-9
-enum-told-9 c = search needs
+string-requires c κs =
+    let c8 = c .before .before .before .before .before .before .before .before in
+    let q = counted-some (c8 .args .p .now) (c8 .args .i) (c8 .args .e) 0 (rw (c .before .enum-told8 .given .1) at (c8 .pre .5)) in
+    (search needs, omega arith, c8 .pre .3, c8 .pre .4)
 
 strings-requires : tie.Need-strings-requires
-strings-requires c κs = (search needs, c .before .before .before .before .before .before .before .before .pre .2, c .before .before .before .before .before .before .before .before .pre .3, c .before .before .before .before .before .before .before .before .pre .4, (rw (c .before .enum-told9 .given .1) at (c .before .before .before .before .before .before .before .before .pre .5)))
-
-enum-told-10 : tie.Need-enum-told-10
-enum-told-10 c = search needs
-
-string-requires-2 : tie.Need-string-requires-2
-string-requires-2 c κs = search needs
-
-enum-told-11 : tie.Need-enum-told-11
-enum-told-11 c = search needs
-
-add-base32 : tie.Need-add-base32
-add-base32 c = search needs
+strings-requires c κs =
+    let c8 = c .before .before .before .before .before .before .before .before in
+    (search needs, c8 .pre .2, c8 .pre .3, c8 .pre .4, (rw (c .before .enum-told9 .given .1) at (c8 .pre .5)))
 
 base32-requires : tie.Need-base32-requires
-base32-requires c κs = let q = counted-some (c .before .before .before .before .before .before .before .before .args .p .now) (c .before .before .before .before .before .before .before .before .args .i) (c .before .before .before .before .before .before .before .before .args .e) 1 (rw (c .before .enum-told11 .given .1) at (c .before .before .before .before .before .before .before .before .pre .5)) in (search needs, omega arith, c .before .before .before .before .before .before .before .before .pre .3, c .before .before .before .before .before .before .before .before .pre .4)
-
-enum-told-12 : tie.Need-enum-told-12
-enum-told-12 c = search needs
+base32-requires c κs =
+    let c8 = c .before .before .before .before .before .before .before .before in
+    let q = counted-some (c8 .args .p .now) (c8 .args .i) (c8 .args .e) 1 (rw (c .before .enum-told11 .given .1) at (c8 .pre .5)) in
+    (search needs, omega arith, c8 .pre .3, c8 .pre .4)
 
 base64-requires : tie.Need-base64-requires
-base64-requires c κs = (search needs, c .before .before .before .before .before .before .before .before .pre .2, c .before .before .before .before .before .before .before .before .pre .3, c .before .before .before .before .before .before .before .before .pre .4)
-
-enum-told-13 : tie.Need-enum-told-13
-enum-told-13 c = search needs
-
-sub-put-hex-upper : tie.Need-sub-put-hex-upper
-sub-put-hex-upper c = search needs
-
-part-put-hex-upper-start : tie.Need-part-put-hex-upper-start
-part-put-hex-upper-start c = search needs
-
-part-put-hex-upper-end : tie.Need-part-put-hex-upper-end
-part-put-hex-upper-end c = search needs
-
-put-hex-upper-requires : tie.Need-put-hex-upper-requires
-put-hex-upper-requires c κs = search needs
-
-enum-told-14 : tie.Need-enum-told-14
-enum-told-14 c = search needs
-
-add-j : tie.Need-add-j
-add-j c = search needs
+base64-requires c κs =
+    let c8 = c .before .before .before .before .before .before .before .before in
+    (search needs, c8 .pre .2, c8 .pre .3, c8 .pre .4)
 
 sub-put-hex-upper-2 : tie.Need-sub-put-hex-upper-2
-sub-put-hex-upper-2 c = omega (arith, counted-some (c .before .before .before .before .before .before .before .before .args .p .now) (c .before .before .before .before .before .before .before .before .args .i) (c .before .before .before .before .before .before .before .before .args .e) 1 (rw (c .before .enum-told14 .given .1) at (c .before .before .before .before .before .before .before .before .pre .5)))
+sub-put-hex-upper-2 c =
+    let c8 = c .before .before .before .before .before .before .before .before in
+    omega (arith, counted-some (c8 .args .p .now) (c8 .args .i) (c8 .args .e) 1 (rw (c .before .enum-told14 .given .1) at (c8 .pre .5)))
 
 part-put-hex-upper-start-2 : tie.Need-part-put-hex-upper-start-2
-part-put-hex-upper-start-2 c = omega (arith, counted-some (c .before .before .before .before .before .before .before .before .args .p .now) (c .before .before .before .before .before .before .before .before .args .i) (c .before .before .before .before .before .before .before .before .args .e) 1 (rw (c .before .enum-told14 .given .1) at (c .before .before .before .before .before .before .before .before .pre .5)))
-
-part-put-hex-upper-end-2 : tie.Need-part-put-hex-upper-end-2
-part-put-hex-upper-end-2 c = search needs
-
-put-hex-upper-requires-2 : tie.Need-put-hex-upper-requires-2
-put-hex-upper-requires-2 c κs = search needs
-
-enum-told-15 : tie.Need-enum-told-15
-enum-told-15 c = search needs
-
-field-requires-3 : tie.Need-field-requires-3
-field-requires-3 c κs = search needs
-
-enum-told-16 : tie.Need-enum-told-16
-enum-told-16 c = search needs
+part-put-hex-upper-start-2 c =
+    let c8 = c .before .before .before .before .before .before .before .before in
+    omega (arith, counted-some (c8 .args .p .now) (c8 .args .i) (c8 .args .e) 1 (rw (c .before .enum-told14 .given .1) at (c8 .pre .5)))
 
 field-requires-4 : tie.Need-field-requires-4
-field-requires-4 c κs = (search needs, octets-wide (c .before .before .before .before .before .before .before .before .args .p .now) (c .before .before .before .before .before .before .before .before .args .i) (c .before .before .before .before .before .before .before .before .args .e) 4 (c .before .before .before .before .before .before .before .before .pre .2) (c .before .before .before .before .before .before .before .before .pre .3) (omega arith) (rw (c .before .enum-told16 .given .1) at (c .before .before .before .before .before .before .before .before .pre .5)), c .before .before .before .before .before .before .before .before .pre .3)
-
-same-length : tie.Need-same-length
-same-length c = search needs
+field-requires-4 c κs =
+    let c8 = c .before .before .before .before .before .before .before .before in (
+      search needs,
+      octets-wide (c8 .args .p .now) (c8 .args .i) (c8 .args .e) 4 (c8 .pre .2) (c8 .pre .3) (omega arith)
+          (rw (c .before .enum-told16 .given .1) at (c8 .pre .5)),
+      c8 .pre .3,
+    )
 
 returns : tie.Need-returns
 unfolding shown
-returns c = rw (c .before .before .before .before .before .enum-told .given .1, ← c .before .before .before .before .number .ensures .0) (c .before .before .put-number .ensures (c .before .before .before .before .before .enum-told .given .0 .0) (symbolsOf (c .before .before .before .before .before .before .before .before .before .before .before .before .args .s .now) (c .before .before .before .before .before .before .before .before .before .before .before .before .args .d) (c .before .before .before .before .before .before .before .before .before .before .before .before .pre .0) (c .before .before .before .before .before .enum-told .given .0 .0) (c .before .before .before .before .before .enum-told .given .1)) (symbols-of (c .before .before .before .before .before .before .before .before .before .before .before .before .args .s .now) (c .before .before .before .before .before .before .before .before .before .before .before .before .args .d) (c .before .before .before .before .before .before .before .before .before .before .before .before .pre .0) (c .before .before .before .before .before .enum-told .given .0 .0) (c .before .before .before .before .before .enum-told .given .1)))
-
-same-length-2 : tie.Need-same-length-2
-same-length-2 c = search needs
+returns c =
+    let c2 = c .before .before in
+    let c4 = c2 .before .before in
+    let c5 = c4 .before in
+    let c12 = c5 .before .before .before .before .before .before .before in
+    rw (c5 .enum-told .given .1, ← c4 .number .ensures .0)
+    (c2 .put-number .ensures (c5 .enum-told .given .0 .0)
+    (symbolsOf (c12 .args .s .now) (c12 .args .d) (c12 .pre .0) (c5 .enum-told .given .0 .0) (c5 .enum-told .given .1))
+    (symbols-of (c12 .args .s .now) (c12 .args .d) (c12 .pre .0) (c5 .enum-told .given .0 .0) (c5 .enum-told .given .1)))
 
 returns-2 : tie.Need-returns-2
 unfolding shown
-returns-2 c = rw (c .before .before .before .before .enum-told2 .given .1) (c .before .before .field .ensures)
-
-same-length-3 : tie.Need-same-length-3
-same-length-3 c = search needs
+returns-2 c =
+    let c2 = c .before .before in
+    let c4 = c2 .before .before in
+    rw (c4 .enum-told2 .given .1) (c2 .field .ensures)
 
 returns-3 : tie.Need-returns-3
 unfolding shown
-returns-3 c = rw (c .before .before .before .before .enum-told3 .given .1) (c .before .before .field2 .ensures)
-
-same-length-4 : tie.Need-same-length-4
-same-length-4 c = search needs
+returns-3 c =
+    let c2 = c .before .before in
+    let c4 = c2 .before .before in
+    rw (c4 .enum-told3 .given .1) (c2 .field2 .ensures)
 
 returns-4 : tie.Need-returns-4
 unfolding shown
-returns-4 c = rw (c .before .before .before .before .enum-told4 .given .1) (c .before .before .dotted .ensures)
-
-same-length-5 : tie.Need-same-length-5
-same-length-5 c = search needs
+returns-4 c =
+    let c2 = c .before .before in
+    let c4 = c2 .before .before in
+    rw (c4 .enum-told4 .given .1) (c2 .dotted .ensures)
 
 returns-5 : tie.Need-returns-5
 unfolding shown
-returns-5 c = rw (c .before .before .before .before .enum-told5 .given .1) (c .before .before .groups .ensures)
-
-same-length-6 : tie.Need-same-length-6
-same-length-6 c = search needs
+returns-5 c =
+    let c2 = c .before .before in
+    let c4 = c2 .before .before in
+    rw (c4 .enum-told5 .given .1) (c2 .groups .ensures)
 
 returns-6 : tie.Need-returns-6
 unfolding shown
-returns-6 c = rw (c .before .before .before .before .enum-told6 .given .1) (c .before .before .aaaa .ensures)
-
-same-length-7 : tie.Need-same-length-7
-same-length-7 c = search needs
+returns-6 c =
+    let c2 = c .before .before in
+    let c4 = c2 .before .before in
+    rw (c4 .enum-told6 .given .1) (c2 .aaaa .ensures)
 
 returns-7 : tie.Need-returns-7
 unfolding shown
-returns-7 c = rw (c .before .before .before .before .enum-told7 .given .1) (c .before .before .name .ensures)
-
-same-length-8 : tie.Need-same-length-8
-same-length-8 c = search needs
+returns-7 c =
+    let c2 = c .before .before in
+    let c4 = c2 .before .before in
+    rw (c4 .enum-told7 .given .1) (c2 .name .ensures)
 
 returns-8 : tie.Need-returns-8
 unfolding shown
-returns-8 c = rw (c .before .before .before .before .enum-told8 .given .1) (wrote-text _ _ (ap stringText (sym (rest (c .before .before .before .before .before .before .before .before .before .before .before .args .p .now) (c .before .before .before .before .before .before .before .before .before .before .before .args .i) 1 (c .before .before .before .before .before .before .before .before .before .before .before .args .e)))) (c .before .before .string .ensures))
-
-same-length-9 : tie.Need-same-length-9
-same-length-9 c = search needs
+returns-8 c =
+    let c2 = c .before .before in
+    let c4 = c2 .before .before in
+    let c11 = c4 .before .before .before .before .before .before .before in
+    rw (c4 .enum-told8 .given .1)
+    (wrote-text _ _ (ap stringText (sym (rest (c11 .args .p .now) (c11 .args .i) 1 (c11 .args .e)))) (c2 .string .ensures))
 
 returns-9 : tie.Need-returns-9
 unfolding shown
-returns-9 c = rw (c .before .before .before .before .enum-told9 .given .1) (c .before .before .strings .ensures)
-
-same-length-10 : tie.Need-same-length-10
-same-length-10 c = search needs
+returns-9 c =
+    let c2 = c .before .before in
+    let c4 = c2 .before .before in
+    rw (c4 .enum-told9 .given .1) (c2 .strings .ensures)
 
 returns-10 : tie.Need-returns-10
 unfolding shown
-returns-10 c = rw (c .before .before .before .before .enum-told10 .given .1) (c .before .before .string2 .ensures)
-
-same-length-11 : tie.Need-same-length-11
-same-length-11 c = search needs
+returns-10 c =
+    let c2 = c .before .before in
+    let c4 = c2 .before .before in
+    rw (c4 .enum-told10 .given .1) (c2 .string2 .ensures)
 
 returns-11 : tie.Need-returns-11
 unfolding shown
-returns-11 c = rw (c .before .before .before .before .enum-told11 .given .1) (wrote-text _ _ (ap base32Text (sym (rest (c .before .before .before .before .before .before .before .before .before .before .before .args .p .now) (c .before .before .before .before .before .before .before .before .before .before .before .args .i) 1 (c .before .before .before .before .before .before .before .before .before .before .before .args .e)))) (c .before .before .base32 .ensures))
-
-same-length-12 : tie.Need-same-length-12
-same-length-12 c = search needs
+returns-11 c =
+    let c2 = c .before .before in
+    let c4 = c2 .before .before in
+    let c11 = c4 .before .before .before .before .before .before .before in
+    rw (c4 .enum-told11 .given .1)
+    (wrote-text _ _ (ap base32Text (sym (rest (c11 .args .p .now) (c11 .args .i) 1 (c11 .args .e)))) (c2 .base32 .ensures))
 
 returns-12 : tie.Need-returns-12
 unfolding shown
-returns-12 c = rw (c .before .before .before .before .enum-told12 .given .1) (c .before .before .base64 .ensures)
-
-same-length-13 : tie.Need-same-length-13
-same-length-13 c = search needs
+returns-12 c =
+    let c2 = c .before .before in
+    let c4 = c2 .before .before in
+    rw (c4 .enum-told12 .given .1) (c2 .base64 .ensures)
 
 returns-13 : tie.Need-returns-13
 unfolding shown
-returns-13 c = rw (c .before .before .before .before .before .enum-told13 .given .1) (wrote-text _ _ (ap hexText (lent (c .before .before .before .before .before .before .before .before .before .before .before .before .args .p .now) (c .before .before .before .before .before .before .before .before .before .before .before .before .args .i) (c .before .before .before .before .before .before .before .before .before .before .before .before .args .e) (c .before .before .before .before .before .before .before .before .before .before .before .before .pre .2))) (c .before .before .put-hex-upper .ensures))
-
-same-length-14 : tie.Need-same-length-14
-same-length-14 c = search needs
+returns-13 c =
+    let c2 = c .before .before in
+    let c5 = c2 .before .before .before in
+    let c12 = c5 .before .before .before .before .before .before .before in
+    rw (c5 .enum-told13 .given .1)
+    (wrote-text _ _ (ap hexText (lent (c12 .args .p .now) (c12 .args .i) (c12 .args .e) (c12 .pre .2))) (c2 .put-hex-upper .ensures))
 
 returns-14 : tie.Need-returns-14
 unfolding shown
-returns-14 c = rw (c .before .before .before .before .before .enum-told14 .given .1) (wrote-text _ _ (ap hexText (lent (c .before .before .before .before .before .before .before .before .before .before .before .before .args .p .now) (c .before .before .before .before .before .before .before .before .before .before .before .before .args .i + 1) (c .before .before .before .before .before .before .before .before .before .before .before .before .args .e) (counted-some (c .before .before .before .before .before .before .before .before .before .before .before .before .args .p .now) (c .before .before .before .before .before .before .before .before .before .before .before .before .args .i) (c .before .before .before .before .before .before .before .before .before .before .before .before .args .e) 1 (rw (c .before .before .before .before .before .enum-told14 .given .1) at (c .before .before .before .before .before .before .before .before .before .before .before .before .pre .5))) ∙ sym (rest (c .before .before .before .before .before .before .before .before .before .before .before .before .args .p .now) (c .before .before .before .before .before .before .before .before .before .before .before .before .args .i) 1 (c .before .before .before .before .before .before .before .before .before .before .before .before .args .e)))) (c .before .before .put-hex-upper2 .ensures))
-
-same-length-15 : tie.Need-same-length-15
-same-length-15 c = search needs
+returns-14 c =
+    let c2 = c .before .before in
+    let c5 = c2 .before .before .before in
+    let c12 = c5 .before .before .before .before .before .before .before in
+    rw (c5 .enum-told14 .given .1)
+    (wrote-text _ _
+    (ap hexText
+    (lent (c12 .args .p .now) (c12 .args .i + 1) (c12 .args .e)
+    (counted-some (c12 .args .p .now) (c12 .args .i) (c12 .args .e) 1 (rw (c5 .enum-told14 .given .1) at (c12 .pre .5)))
+    ∙ sym (rest (c12 .args .p .now) (c12 .args .i) 1 (c12 .args .e)))) (c2 .put-hex-upper2 .ensures))
 
 returns-15 : tie.Need-returns-15
 unfolding shown
-returns-15 c = rw (c .before .before .before .before .enum-told15 .given .1) (c .before .before .field3 .ensures)
-
-same-length-16 : tie.Need-same-length-16
-same-length-16 c = search needs
+returns-15 c =
+    let c2 = c .before .before in
+    let c4 = c2 .before .before in
+    rw (c4 .enum-told15 .given .1) (c2 .field3 .ensures)
 
 returns-16 : tie.Need-returns-16
 unfolding shown
-returns-16 c = rw (c .before .before .before .before .enum-told16 .given .1) (c .before .before .field4 .ensures)
+returns-16 c =
+    let c2 = c .before .before in
+    let c4 = c2 .before .before in
+    rw (c4 .enum-told16 .given .1) (c2 .field4 .ensures)
 
 pub put-field-spec : {M : Type 1} → statement M
 put-field-spec =
     tie.close
     (tie.spec
-    cast-a
-    cast-b
-    enum-told
+    (λ c. search needs)
+    (λ c. search needs)
+    (λ c. search needs)
     number-requires
     put-number-requires
-    enum-told-2
+    (λ c. search needs)
     field-requires
-    enum-told-3
+    (λ c. search needs)
     field-requires-2
-    enum-told-4
-    dotted-requires
-    enum-told-5
+    (λ c. search needs)
+    (λ c κs. search needs)
+    (λ c. search needs)
     groups-requires
-    enum-told-6
+    (λ c. search needs)
     aaaa-requires
-    enum-told-7
+    (λ c. search needs)
     name-requires
-    enum-told-8
-    add-string
+    (λ c. search needs)
+    (λ c. search needs)
     string-requires
-    enum-told-9
+    (λ c. search needs)
     strings-requires
-    enum-told-10
-    string-requires-2
-    enum-told-11
-    add-base32
+    (λ c. search needs)
+    (λ c κs. search needs)
+    (λ c. search needs)
+    (λ c. search needs)
     base32-requires
-    enum-told-12
+    (λ c. search needs)
     base64-requires
-    enum-told-13
-    sub-put-hex-upper
-    part-put-hex-upper-start
-    part-put-hex-upper-end
-    put-hex-upper-requires
-    enum-told-14
-    add-j
+    (λ c. search needs)
+    (λ c. search needs)
+    (λ c. search needs)
+    (λ c. search needs)
+    (λ c κs. search needs)
+    (λ c. search needs)
+    (λ c. search needs)
     sub-put-hex-upper-2
     part-put-hex-upper-start-2
-    part-put-hex-upper-end-2
-    put-hex-upper-requires-2
-    enum-told-15
-    field-requires-3
-    enum-told-16
+    (λ c. search needs)
+    (λ c κs. search needs)
+    (λ c. search needs)
+    (λ c κs. search needs)
+    (λ c. search needs)
     field-requires-4
-    same-length
+    (λ c. search needs)
     returns
-    same-length-2
+    (λ c. search needs)
     returns-2
-    same-length-3
+    (λ c. search needs)
     returns-3
-    same-length-4
+    (λ c. search needs)
     returns-4
-    same-length-5
+    (λ c. search needs)
     returns-5
-    same-length-6
+    (λ c. search needs)
     returns-6
-    same-length-7
+    (λ c. search needs)
     returns-7
-    same-length-8
+    (λ c. search needs)
     returns-8
-    same-length-9
+    (λ c. search needs)
     returns-9
-    same-length-10
+    (λ c. search needs)
     returns-10
-    same-length-11
+    (λ c. search needs)
     returns-11
-    same-length-12
+    (λ c. search needs)
     returns-12
-    same-length-13
+    (λ c. search needs)
     returns-13
-    same-length-14
+    (λ c. search needs)
     returns-14
-    same-length-15
+    (λ c. search needs)
     returns-15
-    same-length-16
+    (λ c. search needs)
     returns-16)

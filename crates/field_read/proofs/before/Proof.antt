@@ -5,17 +5,8 @@ use Rattle.field_read.proofs.before.Tie as tie
 use Rattle.field_read.proofs.before.Reads as reads
 use Rattle.field_read.proofs.before.Lts as lts
 
-enum-told : tie.Need-enum-told
-enum-told c = search needs
-
-enum-known-v : tie.Need-enum-known-v
-enum-known-v c = search needs
-
-returns : tie.Need-returns
-returns c = search needs
-
 returns-2 : tie.Need-returns-2
 returns-2 c = rw (c .before .v .given .1)
 
 pub before-spec : {M : Type 1} → statement M
-before-spec = tie.close (tie.spec enum-told enum-known-v returns returns-2)
+before-spec = tie.close (tie.spec (λ c. search needs) (λ c. search needs) (λ c. search needs) returns-2)

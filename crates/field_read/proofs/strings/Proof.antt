@@ -12,16 +12,22 @@ use Rattle.field_read.proofs.strings.Lts as lts
 use Rattle.field_read.proofs.string.Reads as string-reads
 
 abbrev Inv-loop : tie.InvT-loop
-Inv-loop out₀ n t i m₀ j₀ out m j = (n ≤ m) × (i ≤ j) × (j ≤ length t) × (m ≤ n + 256 * (j - i)) × Before out₀ out n m (tokens (drop i t)) (tokens (drop j t)) × (length out ≡ length out₀)
+Inv-loop out₀ n t i m₀ j₀ out m j =
+    (n ≤ m) × (i ≤ j) × (j ≤ length t) × (m ≤ n + 256 * (j - i)) × Before out₀ out n m (tokens (drop i t)) (tokens (drop j t))
+    × (length out ≡ length out₀)
 
 abbrev μ-loop : tie.MeasureT-loop
 μ-loop out₀ n t i m₀ j₀ out m j = length t - j
 
 loop-holds : tie.Need-loop-holds Inv-loop μ-loop
-loop-holds c = (omega arith, omega arith, c .before .before .pre .1, omega arith, before-start _ _ _, search needs)
+loop-holds c =
+    let c2 = c .before .before in
+    (omega arith, omega arith, c2 .pre .1, omega arith, before-start _ _ _, search needs)
 
 string-requires : tie.Need-string-requires Inv-loop μ-loop
-string-requires c κs = (omega (arith, c .before .loop .inv .2, c .before .loop .inv .3, c .before .before .before .before .pre .0, c .before .before .before .before .pre .2), c .before .loop .inv .2, c .before .before .before .before .pre .2)
+string-requires c κs =
+    let c4 = c .before .before .before .before in
+    (omega (arith, c .before .loop .inv .2, c .before .loop .inv .3, c4 .pre .0, c4 .pre .2), c .before .loop .inv .2, c4 .pre .2)
 
 enum-told : tie.Need-enum-told Inv-loop μ-loop
 enum-told c = search needs
@@ -30,13 +36,21 @@ same-length : tie.Need-same-length Inv-loop μ-loop
 same-length c = search needs
 
 returns : tie.Need-returns Inv-loop μ-loop
-returns c = λ o. strings-missing (c .before .before .before .before .before .before .before .loop .inv .4) (c .before .before .before .before .before .before .before .loop .inv .0) o (rw (c .before .enum-told .given .1) at (c .before .before .before .before .before .string .ensures .0)) (c .if1 .taken)
+returns c =
+    let c5 = c .before .before .before .before .before in
+    let c7 = c5 .before .before in
+    λ o. strings-missing (c7 .loop .inv .4) (c7 .loop .inv .0) o (rw (c .before .enum-told .given .1) at (c5 .string .ensures .0))
+    (c .if1 .taken)
 
 same-length-2 : tie.Need-same-length-2 Inv-loop μ-loop
 same-length-2 c = search needs
 
 returns-2 : tie.Need-returns-2 Inv-loop μ-loop
-returns-2 c = λ o. let g = rw (c .before .enum-told .given .1) at (c .before .before .before .before .before .string .ensures) in let (xs, e, w) = strings-all (c .before .before .before .before .before .before .before .loop .inv .4) (c .before .before .before .before .before .before .before .loop .inv .0) o (g .0) (omega (arith, c .if1 .left)) _ (g .1) in (xs, e, w, c .before .before .before .before .before .before .before .loop .inv .2)
+returns-2 c =
+    let c5 = c .before .before .before .before .before in
+    let c7 = c5 .before .before in
+    λ o. let g = rw (c .before .enum-told .given .1) at (c5 .string .ensures) in let (xs, e, w) = strings-all (c7 .loop .inv .4)
+    (c7 .loop .inv .0) o (g .0) (omega (arith, c .if1 .left)) _ (g .1) in (xs, e, w, c7 .loop .inv .2)
 
 enum-told-2 : tie.Need-enum-told-2 Inv-loop μ-loop
 enum-told-2 c = search needs
@@ -45,16 +59,33 @@ same-length-3 : tie.Need-same-length-3 Inv-loop μ-loop
 same-length-3 c = search needs
 
 returns-3 : tie.Need-returns-3 Inv-loop μ-loop
-returns-3 c = λ o. strings-bad (c .before .before .before .before .before .before .loop .inv .4) (c .before .before .before .before .before .before .loop .inv .0) o (rw (c .enum-told2 .given .1) at (c .before .before .before .before .string .ensures .0))
+returns-3 c =
+    let c4 = c .before .before .before .before in
+    let c6 = c4 .before .before in
+    λ o. strings-bad (c6 .loop .inv .4) (c6 .loop .inv .0) o (rw (c .enum-told2 .given .1) at (c4 .string .ensures .0))
 
 enum-known-r : tie.Need-enum-known-r Inv-loop μ-loop
 enum-known-r c = search needs
 
 loop-less : tie.Need-loop-less Inv-loop μ-loop
-loop-less c = let g = rw (c .before .r .given .1) at (c .before .before .before .before .before .string .ensures) in omega (arith, g .1, g .0 .3)
+loop-less c =
+    let c5 = c .before .before .before .before .before in
+    let g = rw (c .before .r .given .1) at (c5 .string .ensures) in omega (arith, g .1, g .0 .3)
 
 loop-again : tie.Need-loop-again Inv-loop μ-loop
-loop-again c = let g = rw (c .before .r .given .1) at (c .before .before .before .before .before .string .ensures) in let s = next-string (tokens (drop (c .before .before .before .before .before .before .before .loop .j) (c .before .before .before .before .before .before .before .before .before .before .args .t .now))) (g .0 .0) _ (g .0 .1) in (omega (arith, c .before .before .before .before .before .before .before .loop .inv .0, g .0 .2 .count), omega (arith, c .before .before .before .before .before .before .before .loop .inv .1, g .1), g .0 .3, omega (arith, c .before .before .before .before .before .before .before .loop .inv .3, c .before .before .before .before .before .before .before .loop .inv .1, g .0 .2 .count, s .most, g .1), before-next (c .before .before .before .before .before .before .before .loop .inv .4) (c .before .before .before .before .before .before .before .loop .inv .0) _ _ (g .0 .0) _ (g .0 .1) (g .0 .2), search needs)
+loop-again c =
+    let c5 = c .before .before .before .before .before in
+    let c7 = c5 .before .before in
+    let c10 = c7 .before .before .before in
+    let g = rw (c .before .r .given .1) at (c5 .string .ensures) in
+    let s = next-string (tokens (drop (c7 .loop .j) (c10 .args .t .now))) (g .0 .0) _ (g .0 .1) in (
+      omega (arith, c7 .loop .inv .0, g .0 .2 .count),
+      omega (arith, c7 .loop .inv .1, g .1),
+      g .0 .3,
+      omega (arith, c7 .loop .inv .3, c7 .loop .inv .1, g .0 .2 .count, s .most, g .1),
+      before-next (c7 .loop .inv .4) (c7 .loop .inv .0) _ _ (g .0 .0) _ (g .0 .1) (g .0 .2),
+      search needs,
+    )
 
 pub strings-spec : {M : Type 1} → statement M
 strings-spec =

@@ -5,9 +5,6 @@ use Rattle.field_wire.proofs.octets.Tie as tie
 use Rattle.field_wire.proofs.octets.Reads as reads
 use Rattle.field_wire.proofs.octets.Lts as lts
 
-sub-if1 : tie.Need-sub-if1
-sub-if1 c = search needs
-
 returns : tie.Need-returns
 returns c = λ s l. octets-cut _ _ _ l _ (c .if1 .taken)
 
@@ -15,4 +12,4 @@ returns-2 : tie.Need-returns-2
 returns-2 c = λ s l. octets-all _ _ _ l _ (c .before .pre .1) (c .if1 .left)
 
 pub octets-spec : {M : Type 1} → statement M
-octets-spec = tie.close (tie.spec sub-if1 returns returns-2)
+octets-spec = tie.close (tie.spec (λ c. search needs) returns returns-2)

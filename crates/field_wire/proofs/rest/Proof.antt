@@ -8,9 +8,6 @@ use Rattle.field_wire.proofs.rest.Tie as tie
 use Rattle.field_wire.proofs.rest.Reads as reads
 use Rattle.field_wire.proofs.rest.Lts as lts
 
-sub-t4 : tie.Need-sub-t4
-sub-t4 c = search needs
-
 returns : tie.Need-returns
 returns c = λ s l. rest-all _ _ _ l (c .if1 .taken)
 
@@ -18,4 +15,4 @@ returns-2 : tie.Need-returns-2
 returns-2 c = λ s l. nothing _ _ _ l (toTheEnd false) false refl (c .if1 .left)
 
 pub rest-spec : {M : Type 1} → statement M
-rest-spec = tie.close (tie.spec sub-t4 returns returns-2)
+rest-spec = tie.close (tie.spec (λ c. search needs) returns returns-2)

@@ -27,13 +27,19 @@ shared-slice-read-n : tie.Need-shared-slice-read-n Inv-loop μ-loop
 shared-slice-read-n c = search needs
 
 cast-n : tie.Need-cast-n Inv-loop μ-loop
-cast-n c = omega (arith, c .shared-slice-known .given (c .before .before .loop .j))
+cast-n c =
+    let c2 = c .before .before in
+    omega (arith, c .shared-slice-known .given (c2 .loop .j))
 
 sub-if2 : tie.Need-sub-if2 Inv-loop μ-loop
 sub-if2 c = search needs
 
 returns-2 : tie.Need-returns-2 Inv-loop μ-loop
-returns-2 c = whole _ _ _ short (c .before .before .before .loop .inv .2) (string-cut _ _ _ (c .before .before .before .before .before .pre .1) (c .before .before .loop-test .taken) true _ refl (c .if2 .taken))
+returns-2 c =
+    let c2 = c .before .before in
+    let c3 = c2 .before in
+    let c5 = c3 .before .before in
+    whole _ _ _ short (c3 .loop .inv .2) (string-cut _ _ _ (c5 .pre .1) (c2 .loop-test .taken) true _ refl (c .if2 .taken))
 
 add-j : tie.Need-add-j Inv-loop μ-loop
 add-j c = search needs
@@ -45,13 +51,22 @@ loop-less : tie.Need-loop-less Inv-loop μ-loop
 loop-less c = search needs
 
 loop-again : tie.Need-loop-again Inv-loop μ-loop
-loop-again c = (search needs, search needs, string-again _ _ _ _ (c .before .before .before .before .before .pre .1) (c .before .before .loop-test .taken) _ _ (c .before .before .before .loop .inv .0) (c .before .before .before .loop .inv .2) refl (c .if2 .left))
+loop-again c =
+    let c2 = c .before .before in
+    let c3 = c2 .before in
+    let c5 = c3 .before .before in (
+      search needs,
+      search needs,
+      string-again _ _ _ _ (c5 .pre .1) (c2 .loop-test .taken) _ _ (c3 .loop .inv .0) (c3 .loop .inv .2) refl (c .if2 .left),
+    )
 
 sub-t11 : tie.Need-sub-t11 Inv-loop μ-loop
 sub-t11 c = search needs
 
 returns-3 : tie.Need-returns-3 Inv-loop μ-loop
-returns-3 c = whole-so-far _ _ _ _ (c .before .loop .inv .2) (nothing _ _ _ (c .before .before .before .pre .1) (stringCount true) true refl (c .loop-test .left))
+returns-3 c =
+    let c3 = c .before .before .before in
+    whole-so-far _ _ _ _ (c .before .loop .inv .2) (nothing _ _ _ (c3 .pre .1) (stringCount true) true refl (c .loop-test .left))
 
 pub strings-spec : {M : Type 1} → statement M
 strings-spec =

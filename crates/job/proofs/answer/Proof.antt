@@ -18,13 +18,20 @@ loop-holds : tie.Need-loop-holds Inv-loop μ-loop
 loop-holds c = tt
 
 next-requires : tie.Need-next-requires Inv-loop μ-loop
-next-requires c κs = (c .before .before .before .begin .ensures, omega (arith, c .next-arg .given), omega (arith, c .next-arg .given))
+next-requires c κs =
+    let c3 = c .before .before .before in
+    (c3 .begin .ensures, omega (arith, c .next-arg .given), omega (arith, c .next-arg .given))
 
 write-requires : tie.Need-write-requires Inv-loop μ-loop
-write-requires c κs = omega (arith, c .before .before .next .ensures .fits, turn-kept (c .before .before .next .ensures))
+write-requires c κs =
+    let c2 = c .before .before in
+    omega (arith, c2 .next .ensures .fits, turn-kept (c2 .next .ensures))
 
 loop-less : tie.Need-loop-less Inv-loop μ-loop
-loop-less c = turn-less (c .before .before .before .before .next .ensures) _ (c .before .before .before .before .before .before .loop-test .taken)
+loop-less c =
+    let c4 = c .before .before .before .before in
+    let c6 = c4 .before .before in
+    turn-less (c4 .next .ensures) _ (c6 .loop-test .taken)
 
 loop-again : tie.Need-loop-again Inv-loop μ-loop
 loop-again c = tt

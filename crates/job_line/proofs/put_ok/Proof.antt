@@ -6,47 +6,41 @@ use borrow.Author.Needs.{needs}
 use Rattle.job_line.proofs.put_ok.Statement.{statement}
 use Rattle.job_line.proofs.put_ok.Tie as tie
 
-slice-aggregate-put-all : tie.Need-slice-aggregate-put-all
-slice-aggregate-put-all c = search needs
-
-put-all-requires : tie.Need-put-all-requires
-put-all-requires c κs = search needs
-
-same-length : tie.Need-same-length
-same-length c = search needs
-
 returns : tie.Need-returns
-returns c = wrote-text _ _ (ok-alone (c .before .before .before .before .before .before .before .before .args .rdata .now) (c .before .before .before .before .before .if1 .taken)) (c .before .before .put-all .ensures)
-
-slice-aggregate-put-all-2 : tie.Need-slice-aggregate-put-all-2
-slice-aggregate-put-all-2 c = search needs
-
-put-all-requires-2 : tie.Need-put-all-requires-2
-put-all-requires-2 c κs = search needs
-
-put-hex-upper-requires : tie.Need-put-hex-upper-requires
-put-hex-upper-requires c κs = search needs
+returns c =
+    let c2 = c .before .before in
+    let c5 = c2 .before .before .before in
+    let c8 = c5 .before .before .before in
+    wrote-text _ _ (ok-alone (c8 .args .rdata .now) (c5 .if1 .taken)) (c2 .put-all .ensures)
 
 put-octet-requires : tie.Need-put-octet-requires
-put-octet-requires c κs = omega (arith, c .before .before .before .put-hex-upper .ensures .count, c .before .before .before .before .before .before .before .put-all2 .ensures .count, hex-length (c .before .before .before .before .before .before .before .before .before .before .before .before .before .args .rdata .now), c .before .before .before .before .before .before .before .before .before .before .before .before .before .pre)
-
-same-length-2 : tie.Need-same-length-2
-same-length-2 c = search needs
+put-octet-requires c κs =
+    let c3 = c .before .before .before in
+    let c7 = c3 .before .before .before .before in
+    let c13 = c7 .before .before .before .before .before .before in
+    omega (arith, c3 .put-hex-upper .ensures .count, c7 .put-all2 .ensures .count, hex-length (c13 .args .rdata .now), c13 .pre)
 
 returns-2 : tie.Need-returns-2
-returns-2 c = wrote-text _ _ (ok-octets (c .before .before .before .before .before .before .before .before .before .before .before .before .before .before .before .before .args .rdata .now) (c .before .before .before .before .before .before .before .before .before .before .before .before .before .if1 .left)) (wrote-append (c .before .before .before .before .before .before .before .before .before .before .put-all2 .ensures) (wrote-append (c .before .before .before .before .before .before .put-hex-upper .ensures) (c .before .before .put-octet .ensures)))
+returns-2 c =
+    let c2 = c .before .before in
+    let c6 = c2 .before .before .before .before in
+    let c10 = c6 .before .before .before .before in
+    let c13 = c10 .before .before .before in
+    let c16 = c13 .before .before .before in
+    wrote-text _ _ (ok-octets (c16 .args .rdata .now) (c13 .if1 .left))
+    (wrote-append (c10 .put-all2 .ensures) (wrote-append (c6 .put-hex-upper .ensures) (c2 .put-octet .ensures)))
 
 pub put-ok-spec : {M : Type 1} → statement M
 put-ok-spec =
     tie.close
     (tie.spec
-    slice-aggregate-put-all
-    put-all-requires
-    same-length
+    (λ c. search needs)
+    (λ c κs. search needs)
+    (λ c. search needs)
     returns
-    slice-aggregate-put-all-2
-    put-all-requires-2
-    put-hex-upper-requires
+    (λ c. search needs)
+    (λ c κs. search needs)
+    (λ c κs. search needs)
     put-octet-requires
-    same-length-2
+    (λ c. search needs)
     returns-2)

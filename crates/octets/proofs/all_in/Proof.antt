@@ -35,10 +35,24 @@ loop-less : tie.Need-loop-less Inv-loop μ-loop
 loop-less c = search needs
 
 loop-again : tie.Need-loop-again Inv-loop μ-loop
-loop-again c = (search needs, let z : c .before .before .before .before .before .args .i + (c .before .before .before .loop .k + 1) ≡ c .before .before .before .before .before .args .i + c .before .before .before .loop .k + 1 = omega arith in rw (z, c .is-in .ensures) (all-next (inClass (c .before .before .before .before .before .args .c)) (c .before .before .before .before .before .args .s .now) (c .before .before .before .before .before .args .i + c .before .before .before .loop .k) (c .before .before .before .before .before .args .i + c .before .before .before .before .before .args .n) (c .before .before .before .loop .all) (omega arith) (c .before .before .before .before .before .pre) ∙ c .before .before .before .loop .inv .1))
+loop-again c =
+    let c3 = c .before .before .before in
+    let c5 = c3 .before .before in (
+      search needs,
+      let z : c5 .args .i + (c3 .loop .k + 1) ≡ c5 .args .i + c3 .loop .k + 1 = omega arith in
+          rw (z, c .is-in .ensures)
+          (all-next (inClass (c5 .args .c)) (c5 .args .s .now) (c5 .args .i + c3 .loop .k) (c5 .args .i + c5 .args .n) (c3 .loop .all)
+          (omega arith) (c5 .pre)
+          ∙ c3 .loop .inv .1),
+    )
 
 returns : tie.Need-returns Inv-loop μ-loop
-returns c = sym (all-none (inClass (c .before .before .before .args .c)) (c .before .before .before .args .s .now) (c .before .before .before .args .i + c .before .loop .k) (c .before .before .before .args .i + c .before .before .before .args .n) (c .before .loop .all) (omega arith)) ∙ c .before .loop .inv .1
+returns c =
+    let c3 = c .before .before .before in
+    sym
+    (all-none (inClass (c3 .args .c)) (c3 .args .s .now) (c3 .args .i + c .before .loop .k) (c3 .args .i + c3 .args .n)
+    (c .before .loop .all) (omega arith))
+    ∙ c .before .loop .inv .1
 
 pub all-in-spec : {M : Type 1} → statement M
 all-in-spec =

@@ -7,62 +7,25 @@ use Rattle.octets.proofs.is_in.Lts as lts
 use Rattle.octets.proofs.is_digit.Reads as is-digit-reads
 use Rattle.octets.proofs.is_letter.Reads as is-letter-reads
 
-enum-told : tie.Need-enum-told
-enum-told c = search needs
-
-enum-told-2 : tie.Need-enum-told-2
-enum-told-2 c = search needs
-
 returns : tie.Need-returns
 returns c = rw (c .before .enum-told2 .given .1, eq-eqb _ _ (c .if1 .taken))
 
-enum-told-3 : tie.Need-enum-told-3
-enum-told-3 c = search needs
-
-is-digit-requires : tie.Need-is-digit-requires
-is-digit-requires c κs = search needs
-
-enum-told-4 : tie.Need-enum-told-4
-enum-told-4 c = search needs
-
-is-letter-requires : tie.Need-is-letter-requires
-is-letter-requires c κs = search needs
-
-enum-told-5 : tie.Need-enum-told-5
-enum-told-5 c = search needs
-
-is-letter-requires-2 : tie.Need-is-letter-requires-2
-is-letter-requires-2 c κs = search needs
-
 returns-2 : tie.Need-returns-2
-returns-2 c = rw (c .before .before .enum-told5 .given .1, ← c .before .is-letter2 .ensures, c .if2 .taken)
-
-is-digit-requires-2 : tie.Need-is-digit-requires-2
-is-digit-requires-2 c κs = search needs
-
-enum-told-6 : tie.Need-enum-told-6
-enum-told-6 c = search needs
-
-is-letter-requires-3 : tie.Need-is-letter-requires-3
-is-letter-requires-3 c κs = search needs
+returns-2 c =
+    let c2 = c .before .before in
+    rw (c2 .enum-told5 .given .1, ← c .before .is-letter2 .ensures, c .if2 .taken)
 
 returns-3 : tie.Need-returns-3
-returns-3 c = rw (c .before .before .enum-told6 .given .1, ← c .before .is-letter3 .ensures, c .if3 .taken)
-
-is-digit-requires-3 : tie.Need-is-digit-requires-3
-is-digit-requires-3 c κs = search needs
+returns-3 c =
+    let c2 = c .before .before in
+    rw (c2 .enum-told6 .given .1, ← c .before .is-letter3 .ensures, c .if3 .taken)
 
 returns-4 : tie.Need-returns-4
-returns-4 c = rw (c .before .before .before .before .enum-told6 .given .1, ← c .before .before .before .is-letter3 .ensures, c .before .before .if3 .left, ← c .before .is-digit3 .ensures, c .if4 .taken)
-
-enum-told-7 : tie.Need-enum-told-7
-enum-told-7 c = search needs
-
-enum-told-8 : tie.Need-enum-told-8
-enum-told-8 c = search needs
-
-enum-told-9 : tie.Need-enum-told-9
-enum-told-9 c = search needs
+returns-4 c =
+    let c2 = c .before .before in
+    let c3 = c2 .before in
+    let c4 = c3 .before in
+    rw (c4 .enum-told6 .given .1, ← c3 .is-letter3 .ensures, c2 .if3 .left, ← c .before .is-digit3 .ensures, c .if4 .taken)
 
 returns-5 : tie.Need-returns-5
 returns-5 c = rw (c .before .enum-told9 .given .1, lt-leb _ _ (c .if5 .taken))
@@ -80,10 +43,17 @@ returns-9 : tie.Need-returns-9
 returns-9 c = rw (c .before .enum-told4 .given .1) (c .is-letter .ensures)
 
 returns-10 : tie.Need-returns-10
-returns-10 c = rw (c .before .before .before .enum-told5 .given .1, ← c .before .before .is-letter2 .ensures, c .before .if2 .left) (c .is-digit2 .ensures)
+returns-10 c =
+    let c2 = c .before .before in
+    let c3 = c2 .before in
+    rw (c3 .enum-told5 .given .1, ← c2 .is-letter2 .ensures, c .before .if2 .left) (c .is-digit2 .ensures)
 
 returns-11 : tie.Need-returns-11
-returns-11 c = rw (c .before .before .before .before .enum-told6 .given .1, ← c .before .before .before .is-letter3 .ensures, c .before .before .if3 .left, ← c .before .is-digit3 .ensures, c .if4 .left)
+returns-11 c =
+    let c2 = c .before .before in
+    let c3 = c2 .before in
+    let c4 = c3 .before in
+    rw (c4 .enum-told6 .given .1, ← c3 .is-letter3 .ensures, c2 .if3 .left, ← c .before .is-digit3 .ensures, c .if4 .left)
 
 returns-12 : tie.Need-returns-12
 returns-12 c = rw (c .enum-told7 .given .1)
@@ -98,25 +68,25 @@ pub is-in-spec : {M : Type 1} → statement M
 is-in-spec =
     tie.close
     (tie.spec
-    enum-told
-    enum-told-2
+    (λ c. search needs)
+    (λ c. search needs)
     returns
-    enum-told-3
-    is-digit-requires
-    enum-told-4
-    is-letter-requires
-    enum-told-5
-    is-letter-requires-2
+    (λ c. search needs)
+    (λ c κs. search needs)
+    (λ c. search needs)
+    (λ c κs. search needs)
+    (λ c. search needs)
+    (λ c κs. search needs)
     returns-2
-    is-digit-requires-2
-    enum-told-6
-    is-letter-requires-3
+    (λ c κs. search needs)
+    (λ c. search needs)
+    (λ c κs. search needs)
     returns-3
-    is-digit-requires-3
+    (λ c κs. search needs)
     returns-4
-    enum-told-7
-    enum-told-8
-    enum-told-9
+    (λ c. search needs)
+    (λ c. search needs)
+    (λ c. search needs)
     returns-5
     returns-6
     returns-7

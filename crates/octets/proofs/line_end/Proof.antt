@@ -24,13 +24,42 @@ goes-on-requires : tie.Need-goes-on-requires Inv-loop μ-loop
 goes-on-requires c κs = search needs
 
 add-j : tie.Need-add-j Inv-loop μ-loop
-add-j c = omega (arith, block-there 16 (length (c .before .before .before .before .args .s .now) - c .before .before .loop .j) (allOf (inClass NotNewline) (slice (c .before .before .loop .j) (c .before .before .loop .j + 16) (c .before .before .before .before .args .s .now))) (sym (c .before .goes-on .ensures) ∙ c .if1 .taken))
+add-j c =
+    let c2 = c .before .before in
+    let c4 = c2 .before .before in
+    omega (
+      arith,
+      block-there 16 (length (c4 .args .s .now) - c2 .loop .j)
+          (allOf (inClass NotNewline) (slice (c2 .loop .j) (c2 .loop .j + 16) (c4 .args .s .now)))
+          (sym (c .before .goes-on .ensures) ∙ c .if1 .taken),
+    )
 
 loop-less : tie.Need-loop-less Inv-loop μ-loop
-loop-less c = omega (arith, block-there 16 (length (c .before .before .before .before .args .s .now) - c .before .before .loop .j) (allOf (inClass NotNewline) (slice (c .before .before .loop .j) (c .before .before .loop .j + 16) (c .before .before .before .before .args .s .now))) (sym (c .before .goes-on .ensures) ∙ c .if1 .taken))
+loop-less c =
+    let c2 = c .before .before in
+    let c4 = c2 .before .before in
+    omega (
+      arith,
+      block-there 16 (length (c4 .args .s .now) - c2 .loop .j)
+          (allOf (inClass NotNewline) (slice (c2 .loop .j) (c2 .loop .j + 16) (c4 .args .s .now)))
+          (sym (c .before .goes-on .ensures) ∙ c .if1 .taken),
+    )
 
 loop-again : tie.Need-loop-again Inv-loop μ-loop
-loop-again c = let n = block-there 16 (length (c .before .before .before .before .args .s .now) - c .before .before .loop .j) (allOf (inClass NotNewline) (slice (c .before .before .loop .j) (c .before .before .loop .j + 16) (c .before .before .before .before .args .s .now))) (sym (c .before .goes-on .ensures) ∙ c .if1 .taken) in (omega (arith, n), all-front (inClass NotNewline) (c .before .before .before .before .args .s .now) (c .before .before .loop .j) (c .before .before .loop .j + 16) (length (c .before .before .before .before .args .s .now)) (omega arith) (omega (arith, n)) (omega arith) (block-passes 16 (length (c .before .before .before .before .args .s .now) - c .before .before .loop .j) (allOf (inClass NotNewline) (slice (c .before .before .loop .j) (c .before .before .loop .j + 16) (c .before .before .before .before .args .s .now))) (sym (c .before .goes-on .ensures) ∙ c .if1 .taken)) ∙ c .before .before .loop .inv .1)
+loop-again c =
+    let c2 = c .before .before in
+    let c4 = c2 .before .before in
+    let n = block-there 16 (length (c4 .args .s .now) - c2 .loop .j)
+    (allOf (inClass NotNewline) (slice (c2 .loop .j) (c2 .loop .j + 16) (c4 .args .s .now)))
+    (sym (c .before .goes-on .ensures) ∙ c .if1 .taken) in (
+      omega (arith, n),
+      all-front (inClass NotNewline) (c4 .args .s .now) (c2 .loop .j) (c2 .loop .j + 16) (length (c4 .args .s .now)) (omega arith)
+          (omega (arith, n)) (omega arith)
+          (block-passes 16 (length (c4 .args .s .now) - c2 .loop .j)
+          (allOf (inClass NotNewline) (slice (c2 .loop .j) (c2 .loop .j + 16) (c4 .args .s .now)))
+          (sym (c .before .goes-on .ensures) ∙ c .if1 .taken))
+          ∙ c2 .loop .inv .1,
+    )
 
 eight-on-requires : tie.Need-eight-on-requires Inv-loop μ-loop
 eight-on-requires c κs = search needs
@@ -39,7 +68,9 @@ skip-requires : tie.Need-skip-requires Inv-loop μ-loop
 skip-requires c κs = (c .eight-on .ensures .1, omega arith)
 
 returns : tie.Need-returns Inv-loop μ-loop
-returns c = c .skip .ensures ∙ c .before .eight-on .ensures .2 ∙ c .before .before .before .before .loop .inv .1
+returns c =
+    let c4 = c .before .before .before .before in
+    c .skip .ensures ∙ c .before .eight-on .ensures .2 ∙ c4 .loop .inv .1
 
 pub line-end-spec : {M : Type 1} → statement M
 line-end-spec =

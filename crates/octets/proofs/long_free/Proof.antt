@@ -25,13 +25,39 @@ goes-on-requires : tie.Need-goes-on-requires Inv-loop μ-loop
 goes-on-requires c κs = search needs
 
 add-j : tie.Need-add-j Inv-loop μ-loop
-add-j c = omega (arith, block-there 16 (c .before .before .before .before .args .e - c .before .before .loop .j) (allOf (inClass FreeText) (slice (c .before .before .loop .j) (c .before .before .loop .j + 16) (c .before .before .before .before .args .s .now))) (sym (c .before .goes-on .ensures) ∙ c .if1 .taken))
+add-j c =
+    let c2 = c .before .before in
+    let c4 = c2 .before .before in
+    omega (
+      arith,
+      block-there 16 (c4 .args .e - c2 .loop .j) (allOf (inClass FreeText) (slice (c2 .loop .j) (c2 .loop .j + 16) (c4 .args .s .now)))
+          (sym (c .before .goes-on .ensures) ∙ c .if1 .taken),
+    )
 
 loop-less : tie.Need-loop-less Inv-loop μ-loop
-loop-less c = omega (arith, block-there 16 (c .before .before .before .before .args .e - c .before .before .loop .j) (allOf (inClass FreeText) (slice (c .before .before .loop .j) (c .before .before .loop .j + 16) (c .before .before .before .before .args .s .now))) (sym (c .before .goes-on .ensures) ∙ c .if1 .taken))
+loop-less c =
+    let c2 = c .before .before in
+    let c4 = c2 .before .before in
+    omega (
+      arith,
+      block-there 16 (c4 .args .e - c2 .loop .j) (allOf (inClass FreeText) (slice (c2 .loop .j) (c2 .loop .j + 16) (c4 .args .s .now)))
+          (sym (c .before .goes-on .ensures) ∙ c .if1 .taken),
+    )
 
 loop-again : tie.Need-loop-again Inv-loop μ-loop
-loop-again c = let n = block-there 16 (c .before .before .before .before .args .e - c .before .before .loop .j) (allOf (inClass FreeText) (slice (c .before .before .loop .j) (c .before .before .loop .j + 16) (c .before .before .before .before .args .s .now))) (sym (c .before .goes-on .ensures) ∙ c .if1 .taken) in (omega arith, omega (arith, n), all-whole (inClass FreeText) (c .before .before .before .before .args .s .now) (c .before .before .before .before .args .i) (c .before .before .loop .j) (c .before .before .loop .j + 16) (c .before .before .loop .inv .0) (omega arith) (omega (arith, n)) (c .before .before .loop .inv .2) (block-passes 16 (c .before .before .before .before .args .e - c .before .before .loop .j) (allOf (inClass FreeText) (slice (c .before .before .loop .j) (c .before .before .loop .j + 16) (c .before .before .before .before .args .s .now))) (sym (c .before .goes-on .ensures) ∙ c .if1 .taken)))
+loop-again c =
+    let c2 = c .before .before in
+    let c4 = c2 .before .before in
+    let n = block-there 16 (c4 .args .e - c2 .loop .j)
+    (allOf (inClass FreeText) (slice (c2 .loop .j) (c2 .loop .j + 16) (c4 .args .s .now)))
+    (sym (c .before .goes-on .ensures) ∙ c .if1 .taken) in (
+      omega arith,
+      omega (arith, n),
+      all-whole (inClass FreeText) (c4 .args .s .now) (c4 .args .i) (c2 .loop .j) (c2 .loop .j + 16) (c2 .loop .inv .0) (omega arith)
+          (omega (arith, n)) (c2 .loop .inv .2)
+          (block-passes 16 (c4 .args .e - c2 .loop .j) (allOf (inClass FreeText) (slice (c2 .loop .j) (c2 .loop .j + 16) (c4 .args .s .now)))
+          (sym (c .before .goes-on .ensures) ∙ c .if1 .taken)),
+    )
 
 sub-if2 : tie.Need-sub-if2 Inv-loop μ-loop
 sub-if2 c = search needs
@@ -43,10 +69,21 @@ all-in-requires : tie.Need-all-in-requires Inv-loop μ-loop
 all-in-requires c κs = search needs
 
 returns : tie.Need-returns Inv-loop μ-loop
-returns c = let z : c .before .before .before .before .before .before .args .e - 16 + 16 ≡ c .before .before .before .before .before .before .args .e = omega arith in rw z at (c .all-in .ensures) ∙ all-over (inClass FreeText) (c .before .before .before .before .before .before .args .s .now) (c .before .before .before .before .before .before .args .i) (c .before .before .before .before .loop .j) (c .before .before .before .before .before .before .args .e - 16) (c .before .before .before .before .before .before .args .e) (omega arith) (omega arith) (c .before .before .before .before .loop .inv .1) (c .before .before .before .before .before .before .pre .1) (c .before .before .before .before .loop .inv .2)
+returns c =
+    let c4 = c .before .before .before .before in
+    let c6 = c4 .before .before in
+    let z : c6 .args .e - 16 + 16 ≡ c6 .args .e = omega arith in
+    rw z at (c .all-in .ensures) ∙ all-over (inClass FreeText) (c6 .args .s .now) (c6 .args .i) (c4 .loop .j) (c6 .args .e - 16)
+    (c6 .args .e) (omega arith) (omega arith) (c4 .loop .inv .1) (c6 .pre .1) (c4 .loop .inv .2)
 
 returns-2 : tie.Need-returns-2 Inv-loop μ-loop
-returns-2 c = all-off (inClass FreeText) (c .before .before .before .before .before .args .s .now) (c .before .before .before .before .before .args .i) (c .before .before .before .loop .j) (c .before .before .before .loop .j + 16) (c .before .before .before .before .before .args .e) (c .before .before .before .loop .inv .0) (omega arith) (omega arith) (c .before .before .before .before .before .pre .1) (block-broken 16 (c .before .before .before .before .before .args .e - c .before .before .before .loop .j) _ (omega arith) (sym (c .before .before .goes-on .ensures) ∙ c .before .if1 .left))
+returns-2 c =
+    let c2 = c .before .before in
+    let c3 = c2 .before in
+    let c5 = c3 .before .before in
+    all-off (inClass FreeText) (c5 .args .s .now) (c5 .args .i) (c3 .loop .j) (c3 .loop .j + 16) (c5 .args .e) (c3 .loop .inv .0)
+    (omega arith) (omega arith) (c5 .pre .1)
+    (block-broken 16 (c5 .args .e - c3 .loop .j) _ (omega arith) (sym (c2 .goes-on .ensures) ∙ c .before .if1 .left))
 
 pub long-free-spec : {M : Type 1} → statement M
 long-free-spec =

@@ -7,31 +7,26 @@ use borrow.Author.Needs.{needs}
 use Rattle.probe.proofs.write_octets.Statement.{statement}
 use Rattle.probe.proofs.write_octets.Tie as tie
 
-sub-put-octets : tie.Need-sub-put-octets
-sub-put-octets c = search needs
-
-part-put-octets-start : tie.Need-part-put-octets-start
-part-put-octets-start c = search needs
-
-part-put-octets-end : tie.Need-part-put-octets-end
-part-put-octets-end c = search needs
-
-put-octets-requires : tie.Need-put-octets-requires
-put-octets-requires c κs = search needs
-
 write-requires : tie.Need-write-requires
-write-requires c κs = omega (arith, c .before .before .put-octets .ensures .count, octets-most (take (c .before .before .before .before .before .before .args .n - 0) (c .before .before .before .before .before .before .args .lines .now)), length-take-le (c .before .before .before .before .before .before .args .n - 0) (c .before .before .before .before .before .before .args .lines .now) (omega (arith, c .before .before .before .before .before .before .pre .0)), c .before .before .before .before .before .before .pre .0, c .before .before .before .before .before .before .pre .1)
-
-returns : tie.Need-returns
-returns c = search needs
+write-requires c κs =
+    let c2 = c .before .before in
+    let c6 = c2 .before .before .before .before in
+    omega (
+      arith,
+      c2 .put-octets .ensures .count,
+      octets-most (take (c6 .args .n - 0) (c6 .args .lines .now)),
+      length-take-le (c6 .args .n - 0) (c6 .args .lines .now) (omega (arith, c6 .pre .0)),
+      c6 .pre .0,
+      c6 .pre .1,
+    )
 
 pub write-octets-spec : {M : Type 1} → statement M
 write-octets-spec =
     tie.close
     (tie.spec
-    sub-put-octets
-    part-put-octets-start
-    part-put-octets-end
-    put-octets-requires
+    (λ c. search needs)
+    (λ c. search needs)
+    (λ c. search needs)
+    (λ c κs. search needs)
     write-requires
-    returns)
+    (λ c. search needs))

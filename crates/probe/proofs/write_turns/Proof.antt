@@ -20,19 +20,38 @@ loop-holds : tie.Need-loop-holds Inv-loop μ-loop
 loop-holds c = refl
 
 next-requires : tie.Need-next-requires Inv-loop μ-loop
-next-requires c κs = (c .before .before .before .begin .ensures, omega (arith, c .before .before .loop .inv, c .before .before .before .before .before .before .pre), omega (arith, c .before .before .loop .inv, c .before .before .before .before .before .before .pre))
+next-requires c κs =
+    let c2 = c .before .before in
+    let c3 = c2 .before in
+    let c6 = c3 .before .before .before in
+    (c3 .begin .ensures, omega (arith, c2 .loop .inv, c6 .pre), omega (arith, c2 .loop .inv, c6 .pre))
 
 write-octets-requires : tie.Need-write-octets-requires Inv-loop μ-loop
-write-octets-requires c κs = (omega (arith, c .before .before .before .before .next .ensures .fits, turn-kept (c .before .before .before .before .next .ensures)), omega (arith, turn-kept (c .before .before .before .before .next .ensures), c .before .before .before .before .before .before .before .loop .inv, c .before .before .before .before .before .before .before .before .before .before .before .pre))
+write-octets-requires c κs =
+    let c4 = c .before .before .before .before in
+    let c7 = c4 .before .before .before in
+    let c11 = c7 .before .before .before .before in (
+      omega (arith, c4 .next .ensures .fits, turn-kept (c4 .next .ensures)),
+      omega (arith, turn-kept (c4 .next .ensures), c7 .loop .inv, c11 .pre),
+    )
 
 loop-less : tie.Need-loop-less Inv-loop μ-loop
-loop-less c = turn-less (c .before .before .before .before .before .before .next .ensures) _ (c .before .before .before .before .before .before .before .before .loop-test .taken)
+loop-less c =
+    let c6 = c .before .before .before .before .before .before in
+    let c8 = c6 .before .before in
+    turn-less (c6 .next .ensures) _ (c8 .loop-test .taken)
 
 loop-again : tie.Need-loop-again Inv-loop μ-loop
-loop-again c = turn-kept (c .before .before .before .before .before .before .next .ensures) ∙ c .before .before .before .before .before .before .before .before .before .loop .inv
+loop-again c =
+    let c6 = c .before .before .before .before .before .before in
+    let c9 = c6 .before .before .before in
+    turn-kept (c6 .next .ensures) ∙ c9 .loop .inv
 
 same-length : tie.Need-same-length Inv-loop μ-loop
-same-length c = turn-kept (c .before .before .before .before .before .before .next .ensures) ∙ c .before .before .before .before .before .before .before .before .before .loop .inv
+same-length c =
+    let c6 = c .before .before .before .before .before .before in
+    let c9 = c6 .before .before .before in
+    turn-kept (c6 .next .ensures) ∙ c9 .loop .inv
 
 returns : tie.Need-returns Inv-loop μ-loop
 returns c = search needs

@@ -5,17 +5,17 @@ use borrow.Author.Needs.{needs}
 use Rattle.probe_line.proofs.put_judged.Statement.{statement}
 use Rattle.probe_line.proofs.put_judged.Tie as tie
 
-put-numbers-requires : tie.Need-put-numbers-requires
-put-numbers-requires c κs = search needs
-
 put-octet-requires : tie.Need-put-octet-requires
-put-octet-requires c κs = omega (arith, c .before .before .before .put-numbers .ensures .count, numbers-most (c .before .before .before .before .before .before .args .number) (c .before .before .before .before .before .before .args .place))
-
-same-length : tie.Need-same-length
-same-length c = search needs
+put-octet-requires c κs =
+    let c3 = c .before .before .before in
+    let c6 = c3 .before .before .before in
+    omega (arith, c3 .put-numbers .ensures .count, numbers-most (c6 .args .number) (c6 .args .place))
 
 returns : tie.Need-returns
-returns c = wrote-append (c .before .before .before .before .before .before .put-numbers .ensures) (c .before .before .put-octet .ensures)
+returns c =
+    let c2 = c .before .before in
+    let c6 = c2 .before .before .before .before in
+    wrote-append (c6 .put-numbers .ensures) (c2 .put-octet .ensures)
 
 pub put-judged-spec : {M : Type 1} → statement M
-put-judged-spec = tie.close (tie.spec put-numbers-requires put-octet-requires same-length returns)
+put-judged-spec = tie.close (tie.spec (λ c κs. search needs) put-octet-requires (λ c. search needs) returns)

@@ -5,22 +5,27 @@ use borrow.Author.Needs.{needs}
 use Rattle.probe_line.proofs.put_numbers.Statement.{statement}
 use Rattle.probe_line.proofs.put_numbers.Tie as tie
 
-put-decimal-requires : tie.Need-put-decimal-requires
-put-decimal-requires c κs = search needs
-
 put-octet-requires : tie.Need-put-octet-requires
-put-octet-requires c κs = omega (arith, c .before .before .before .put-decimal .ensures .count, decimal-10 (c .before .before .before .before .before .before .args .number))
+put-octet-requires c κs =
+    let c3 = c .before .before .before in
+    let c6 = c3 .before .before .before in
+    omega (arith, c3 .put-decimal .ensures .count, decimal-10 (c6 .args .number))
 
 put-decimal-requires-2 : tie.Need-put-decimal-requires-2
-put-decimal-requires-2 c κs = (omega (arith, c .before .before .before .put-octet .ensures .count, c .before .before .before .before .before .before .before .put-decimal .ensures .count, decimal-10 (c .before .before .before .before .before .before .before .before .before .before .args .number)), omega arith)
-
-same-length : tie.Need-same-length
-same-length c = search needs
+put-decimal-requires-2 c κs =
+    let c3 = c .before .before .before in
+    let c7 = c3 .before .before .before .before in
+    let c10 = c7 .before .before .before in
+    (omega (arith, c3 .put-octet .ensures .count, c7 .put-decimal .ensures .count, decimal-10 (c10 .args .number)), omega arith)
 
 returns : tie.Need-returns
-returns c = wrote-append (wrote-append (c .before .before .before .before .before .before .before .before .before .before .put-decimal .ensures) (c .before .before .before .before .before .before .put-octet .ensures)) (c .before .before .put-decimal2 .ensures)
+returns c =
+    let c2 = c .before .before in
+    let c6 = c2 .before .before .before .before in
+    let c10 = c6 .before .before .before .before in
+    wrote-append (wrote-append (c10 .put-decimal .ensures) (c6 .put-octet .ensures)) (c2 .put-decimal2 .ensures)
 
 pub put-numbers-spec : {M : Type 1} → statement M
 put-numbers-spec =
     tie.close
-    (tie.spec put-decimal-requires put-octet-requires put-decimal-requires-2 same-length returns)
+    (tie.spec (λ c κs. search needs) put-octet-requires put-decimal-requires-2 (λ c. search needs) returns)

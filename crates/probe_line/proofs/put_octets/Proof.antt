@@ -4,31 +4,27 @@ use borrow.Author.Needs.{needs}
 use Rattle.probe_line.proofs.put_octets.Statement.{statement}
 use Rattle.probe_line.proofs.put_octets.Tie as tie
 
-put-octet-requires : tie.Need-put-octet-requires
-put-octet-requires c κs = search needs
-
-same-length : tie.Need-same-length
-same-length c = search needs
-
 returns : tie.Need-returns
-returns c = wrote-text _ _ (no-octets (c .before .before .before .before .before .before .before .args .octets .now) (c .before .before .before .before .if1 .taken)) (c .before .before .put-octet .ensures)
-
-put-hex-upper-requires : tie.Need-put-hex-upper-requires
-put-hex-upper-requires c κs = search needs
-
-same-length-2 : tie.Need-same-length-2
-same-length-2 c = search needs
+returns c =
+    let c2 = c .before .before in
+    let c4 = c2 .before .before in
+    let c7 = c4 .before .before .before in
+    wrote-text _ _ (no-octets (c7 .args .octets .now) (c4 .if1 .taken)) (c2 .put-octet .ensures)
 
 returns-2 : tie.Need-returns-2
-returns-2 c = wrote-text _ _ (some-octets (c .before .before .before .before .before .before .before .args .octets .now) (c .before .before .before .before .if1 .left)) (c .before .before .put-hex-upper .ensures)
+returns-2 c =
+    let c2 = c .before .before in
+    let c4 = c2 .before .before in
+    let c7 = c4 .before .before .before in
+    wrote-text _ _ (some-octets (c7 .args .octets .now) (c4 .if1 .left)) (c2 .put-hex-upper .ensures)
 
 pub put-octets-spec : {M : Type 1} → statement M
 put-octets-spec =
     tie.close
     (tie.spec
-    put-octet-requires
-    same-length
+    (λ c κs. search needs)
+    (λ c. search needs)
     returns
-    put-hex-upper-requires
-    same-length-2
+    (λ c κs. search needs)
+    (λ c. search needs)
     returns-2)

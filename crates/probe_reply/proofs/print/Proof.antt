@@ -5,21 +5,20 @@ use borrow.Author.Needs.{needs}
 use Rattle.probe_reply.proofs.print.Statement.{statement}
 use Rattle.probe_reply.proofs.print.Tie as tie
 
-print-requires : tie.Need-print-requires
-print-requires c κs = search needs
-
 put-reply-requires : tie.Need-put-reply-requires
-put-reply-requires c κs = (λ z. print-within _ (c .before .before .before .before .before .before .before .before .before .before .args .first) (c .before .before .before .before .before .before .before .before .before .before .args .many) _ _ (c .before .before .before .before .print .result) _ (c .before .before .before .before .print .ensures) z, omega (arith, c .before .before .before .before .before .before .before .before .before .before .pre))
-
-same-length : tie.Need-same-length
-same-length c = search needs
-
-same-length-2 : tie.Need-same-length-2
-same-length-2 c = search needs
+put-reply-requires c κs =
+    let c4 = c .before .before .before .before in
+    let c10 = c4 .before .before .before .before .before .before in
+    (λ z. print-within _ (c10 .args .first) (c10 .args .many) _ _ (c4 .print .result) _ (c4 .print .ensures) z, omega (arith, c10 .pre))
 
 returns : tie.Need-returns
-returns c = wrote-text _ _ (print-answered _ (c .before .before .before .before .before .before .before .before .before .before .before .before .before .args .first) (c .before .before .before .before .before .before .before .before .before .before .before .before .before .args .many) _ _ (c .before .before .before .before .before .before .before .print .result) _ (c .before .before .before .before .before .before .before .print .ensures)) (c .before .before .put-reply .ensures)
+returns c =
+    let c2 = c .before .before in
+    let c7 = c2 .before .before .before .before .before in
+    let c13 = c7 .before .before .before .before .before .before in
+    wrote-text _ _ (print-answered _ (c13 .args .first) (c13 .args .many) _ _ (c7 .print .result) _ (c7 .print .ensures))
+    (c2 .put-reply .ensures)
 
 pub print-spec : {M : Type 1} → statement M
 print-spec =
-    tie.close (tie.spec print-requires put-reply-requires same-length same-length-2 returns)
+    tie.close (tie.spec (λ c κs. search needs) put-reply-requires (λ c. search needs) (λ c. search needs) returns)

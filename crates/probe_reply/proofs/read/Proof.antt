@@ -5,20 +5,19 @@ use borrow.Author.Needs.{needs}
 use Rattle.probe_reply.proofs.read.Statement.{statement}
 use Rattle.probe_reply.proofs.read.Tie as tie
 
-read-requires : tie.Need-read-requires
-read-requires c κs = search needs
-
 put-reply-requires : tie.Need-put-reply-requires
-put-reply-requires c κs = (λ z. read-within _ (c .before .before .before .before .before .before .before .before .before .before .before .args .first) (c .before .before .before .before .before .before .before .before .before .before .before .args .many) _ _ (c .before .before .before .before .read .result) _ _ (c .before .before .before .before .read .ensures) z, omega (arith, c .before .before .before .before .before .before .before .before .before .before .before .pre))
-
-same-length : tie.Need-same-length
-same-length c = search needs
-
-same-length-2 : tie.Need-same-length-2
-same-length-2 c = search needs
+put-reply-requires c κs =
+    let c4 = c .before .before .before .before in
+    let c11 = c4 .before .before .before .before .before .before .before in
+    (λ z. read-within _ (c11 .args .first) (c11 .args .many) _ _ (c4 .read .result) _ _ (c4 .read .ensures) z, omega (arith, c11 .pre))
 
 returns : tie.Need-returns
-returns c = wrote-text _ _ (read-answered _ (c .before .before .before .before .before .before .before .before .before .before .before .before .before .before .args .first) (c .before .before .before .before .before .before .before .before .before .before .before .before .before .before .args .many) _ _ (c .before .before .before .before .before .before .before .read .result) _ _ (c .before .before .before .before .before .before .before .read .ensures)) (c .before .before .put-reply .ensures)
+returns c =
+    let c2 = c .before .before in
+    let c7 = c2 .before .before .before .before .before in
+    let c14 = c7 .before .before .before .before .before .before .before in
+    wrote-text _ _ (read-answered _ (c14 .args .first) (c14 .args .many) _ _ (c7 .read .result) _ _ (c7 .read .ensures))
+    (c2 .put-reply .ensures)
 
 pub read-spec : {M : Type 1} → statement M
-read-spec = tie.close (tie.spec read-requires put-reply-requires same-length same-length-2 returns)
+read-spec = tie.close (tie.spec (λ c κs. search needs) put-reply-requires (λ c. search needs) (λ c. search needs) returns)

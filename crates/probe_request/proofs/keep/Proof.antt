@@ -30,10 +30,14 @@ add-buf : tie.Need-add-buf Inv-loop μ-loop
 add-buf c = search needs
 
 slice-read-buf : tie.Need-slice-read-buf Inv-loop μ-loop
-slice-read-buf c = omega (arith, c .before .before .loop .inv .1 .long)
+slice-read-buf c =
+    let c2 = c .before .before in
+    omega (arith, c2 .loop .inv .1 .long)
 
 slice-write-buf : tie.Need-slice-write-buf Inv-loop μ-loop
-slice-write-buf c = omega (arith, c .before .before .loop .inv .1 .long)
+slice-write-buf c =
+    let c2 = c .before .before in
+    omega (arith, c2 .loop .inv .1 .long)
 
 add-i : tie.Need-add-i Inv-loop μ-loop
 add-i c = search needs
@@ -42,13 +46,17 @@ loop-less : tie.Need-loop-less Inv-loop μ-loop
 loop-less c = search needs
 
 loop-again : tie.Need-loop-again Inv-loop μ-loop
-loop-again c = (search needs, moved-one (c .before .before .loop .inv .1) (omega arith))
+loop-again c =
+    let c2 = c .before .before in
+    (search needs, moved-one (c2 .loop .inv .1) (omega arith))
 
 same-length : tie.Need-same-length Inv-loop μ-loop
 same-length c = c .before .loop .inv .1 .long
 
 returns-2 : tie.Need-returns-2 Inv-loop μ-loop
-returns-2 c = (search needs, search needs, search needs, moved-all (c .before .before .before .least .result) (c .before .loop .inv .1) (omega arith))
+returns-2 c =
+    let c3 = c .before .before .before in
+    (search needs, search needs, search needs, moved-all (c3 .least .result) (c .before .loop .inv .1) (omega arith))
 
 pub keep-spec : {M : Type 1} → statement M
 keep-spec =

@@ -3,39 +3,27 @@ use borrow.Author.Needs.{needs}
 use Rattle.probe_request.proofs.next_octets.Statement.{statement}
 use Rattle.probe_request.proofs.next_octets.Tie as tie
 
-next-word-requires : tie.Need-next-word-requires
-next-word-requires c κs = search needs
-
-word-octets-requires : tie.Need-word-octets-requires
-word-octets-requires c κs = search needs
-
-enum-told : tie.Need-enum-told
-enum-told c = search needs
-
-enum-known-v : tie.Need-enum-known-v
-enum-known-v c = search needs
-
-same-length : tie.Need-same-length
-same-length c = search needs
-
 returns : tie.Need-returns
-returns c = spells-none _ _ (c .before .before .before .before .before .before .next-word .result) (c .before .before .before .before .before .before .next-word .ensures) _ _ _ (rw (c .enum-told .given .1) at (c .before .before .before .before .word-octets .ensures))
-
-same-length-2 : tie.Need-same-length-2
-same-length-2 c = search needs
+returns c =
+    let c4 = c .before .before .before .before in
+    let c6 = c4 .before .before in
+    spells-none _ _ (c6 .next-word .result) (c6 .next-word .ensures) _ _ _ (rw (c .enum-told .given .1) at (c4 .word-octets .ensures))
 
 returns-2 : tie.Need-returns-2
-returns-2 c = spells-some _ _ (c .before .before .before .before .before .before .before .next-word .result) (c .before .before .before .before .before .before .before .next-word .ensures) _ _ _ _ (rw (c .before .v .given .1) at (c .before .before .before .before .before .word-octets .ensures))
+returns-2 c =
+    let c5 = c .before .before .before .before .before in
+    let c7 = c5 .before .before in
+    spells-some _ _ (c7 .next-word .result) (c7 .next-word .ensures) _ _ _ _ (rw (c .before .v .given .1) at (c5 .word-octets .ensures))
 
 pub next-octets-spec : {M : Type 1} → statement M
 next-octets-spec =
     tie.close
     (tie.spec
-    next-word-requires
-    word-octets-requires
-    enum-told
-    enum-known-v
-    same-length
+    (λ c κs. search needs)
+    (λ c κs. search needs)
+    (λ c. search needs)
+    (λ c. search needs)
+    (λ c. search needs)
     returns
-    same-length-2
+    (λ c. search needs)
     returns-2)

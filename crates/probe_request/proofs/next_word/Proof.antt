@@ -27,7 +27,10 @@ shared-slice-read-if2 : tie.Need-shared-slice-read-if2 Inv-loop μ-loop
 shared-slice-read-if2 c = search needs
 
 returns-2 : tie.Need-returns-2 Inv-loop μ-loop
-returns-2 c = at-space _ _ _ (c .before .before .before .loop .inv .0) (c .before .before .loop-test .taken) (c .if2 .taken) (c .before .before .before .loop .inv .2)
+returns-2 c =
+    let c2 = c .before .before in
+    let c3 = c2 .before in
+    at-space _ _ _ (c3 .loop .inv .0) (c2 .loop-test .taken) (c .if2 .taken) (c3 .loop .inv .2)
 
 add-to : tie.Need-add-to Inv-loop μ-loop
 add-to c = search needs
@@ -36,7 +39,10 @@ loop-less : tie.Need-loop-less Inv-loop μ-loop
 loop-less c = search needs
 
 loop-again : tie.Need-loop-again Inv-loop μ-loop
-loop-again c = (search needs, search needs, free-on _ _ _ (c .before .before .before .loop .inv .0) (c .before .before .loop-test .taken) (ne-eqb _ _ (c .if2 .left)) (c .before .before .before .loop .inv .2))
+loop-again c =
+    let c2 = c .before .before in
+    let c3 = c2 .before in
+    (search needs, search needs, free-on _ _ _ (c3 .loop .inv .0) (c2 .loop-test .taken) (ne-eqb _ _ (c .if2 .left)) (c3 .loop .inv .2))
 
 returns-3 : tie.Need-returns-3 Inv-loop μ-loop
 returns-3 c = at-end _ _ _ (c .before .loop .inv .0) (c .before .loop .inv .1) (c .loop-test .left) (c .before .loop .inv .2)

@@ -8,43 +8,47 @@ use borrow.Author.Needs.{needs}
 use Rattle.probe_request.proofs.word_octets.Statement.{statement}
 use Rattle.probe_request.proofs.word_octets.Tie as tie
 
-sub-if1 : tie.Need-sub-if1
-sub-if1 c = search needs
-
 returns : tie.Need-returns
-returns c = no-octets _ _ _ (c .before .before .before .pre .2) (c .if1 .taken)
-
-sub-if2 : tie.Need-sub-if2
-sub-if2 c = search needs
-
-shared-slice-read-if3 : tie.Need-shared-slice-read-if3
-shared-slice-read-if3 c = search needs
+returns c =
+    let c3 = c .before .before .before in
+    no-octets _ _ _ (c3 .pre .2) (c .if1 .taken)
 
 returns-2 : tie.Need-returns-2
-returns-2 c = ([], one-octet _ _ _ (c .before .before .before .before .before .before .pre .2) (c .before .before .before .if1 .left) (c .before .before .if2 .taken) ∙ rw (eq-eqb _ _ (c .if3 .taken)), wrote-none _ _)
+returns-2 c =
+    let c2 = c .before .before in
+    let c3 = c2 .before in
+    let c6 = c3 .before .before .before in
+    ([], one-octet _ _ _ (c6 .pre .2) (c3 .if1 .left) (c2 .if2 .taken) ∙ rw (eq-eqb _ _ (c .if3 .taken)), wrote-none _ _)
 
 returns-3 : tie.Need-returns-3
-returns-3 c = one-octet _ _ _ (c .before .before .before .before .before .before .pre .2) (c .before .before .before .if1 .left) (c .before .before .if2 .taken) ∙ rw (ne-eqb _ _ (c .if3 .left))
-
-lettered-requires : tie.Need-lettered-requires
-lettered-requires c κs = search needs
-
-same-length : tie.Need-same-length
-same-length c = search needs
+returns-3 c =
+    let c2 = c .before .before in
+    let c3 = c2 .before in
+    let c6 = c3 .before .before .before in
+    one-octet _ _ _ (c6 .pre .2) (c3 .if1 .left) (c2 .if2 .taken) ∙ rw (ne-eqb _ _ (c .if3 .left))
 
 returns-4 : tie.Need-returns-4
-returns-4 c = rw (more-octets _ _ _ (c .before .before .before .before .before .before .before .before .pre .2) (c .before .before .before .before .if2 .left), ← octets-hex _ (octets-part (c .before .before .before .before .before .before .before .before .args .t .now) (c .before .before .before .before .before .before .before .before .args .i) (c .before .before .before .before .before .before .before .before .args .e) (λ k. search (c .before .before .before .before .before .before .shared-slice-known .given k, needs)))) (c .before .before .lettered .ensures)
+returns-4 c =
+    let c2 = c .before .before in
+    let c4 = c2 .before .before in
+    let c6 = c4 .before .before in
+    let c8 = c6 .before .before in
+    rw (
+      more-octets _ _ _ (c8 .pre .2) (c4 .if2 .left),
+      ← octets-hex _ (octets-part (c8 .args .t .now) (c8 .args .i) (c8 .args .e) (λ k. search (c6 .shared-slice-known .given k, needs))),
+    )
+    (c2 .lettered .ensures)
 
 pub word-octets-spec : {M : Type 1} → statement M
 word-octets-spec =
     tie.close
     (tie.spec
-    sub-if1
+    (λ c. search needs)
     returns
-    sub-if2
-    shared-slice-read-if3
+    (λ c. search needs)
+    (λ c. search needs)
     returns-2
     returns-3
-    lettered-requires
-    same-length
+    (λ c κs. search needs)
+    (λ c. search needs)
     returns-4)

@@ -23,22 +23,42 @@ use Rattle.field_print.proofs.width.Reads as width-reads
 use Rattle.run_print.proofs.put_next.Reads as put-next-reads
 
 abbrev Inv-loop : tie.InvT-loop
-Inv-loop out₀ codes first many s p at₀ i₀ k₀ out at i k = (k ≤ many) × (i ≤ length p) × (at ≤ 4 * i + 655424 * k) × ((ps : List (List ℕ)) × (partsOf (kindsFrom s (fieldsOf codes) (first + k) (many - k)) (drop i p) ≡ parts ps)) × Left out₀ 0 (textOf (kindsFrom s (fieldsOf codes) first many) p) out at (lead at (textOf (kindsFrom s (fieldsOf codes) (first + k) (many - k)) (drop i p)))
+Inv-loop out₀ codes first many s p at₀ i₀ k₀ out at i k =
+    (k ≤ many) × (i ≤ length p) × (at ≤ 4 * i + 655424 * k) ×
+    ((ps : List (List ℕ)) × (partsOf (kindsFrom s (fieldsOf codes) (first + k) (many - k)) (drop i p) ≡ parts ps)) × Left out₀ 0
+    (textOf (kindsFrom s (fieldsOf codes) first many) p) out at
+    (lead at (textOf (kindsFrom s (fieldsOf codes) (first + k) (many - k)) (drop i p)))
 
 abbrev μ-loop : tie.MeasureT-loop
 μ-loop out₀ codes first many s p at₀ i₀ k₀ out at i k = many - k
 
 loop-holds : tie.Need-loop-holds Inv-loop μ-loop
-loop-holds c = (search needs, search needs, omega arith, subst (λ ks. (ps : List (List ℕ)) × (partsOf ks (c .before .before .before .args .p .now) ≡ parts ps)) (sym (all-kinds (c .before .before .before .args .s .now) (fieldsOf (c .before .before .before .args .codes .now)) (c .before .before .before .args .first) (c .before .before .before .args .many))) (c .before .before .before .pre .taken-all), subst (λ ks. Left (c .before .before .before .args .out .now) 0 (textOf (kindsFrom (c .before .before .before .args .s .now) (fieldsOf (c .before .before .before .args .codes .now)) (c .before .before .before .args .first) (c .before .before .before .args .many)) (c .before .before .before .args .p .now)) (c .before .before .before .args .out .now) 0 (textOf ks (c .before .before .before .args .p .now))) (sym (all-kinds (c .before .before .before .args .s .now) (fieldsOf (c .before .before .before .args .codes .now)) (c .before .before .before .args .first) (c .before .before .before .args .many))) (left-all _ _ _))
+loop-holds c =
+    let c3 = c .before .before .before in (
+      search needs,
+      search needs,
+      omega arith,
+      subst (λ ks. (ps : List (List ℕ)) × (partsOf ks (c3 .args .p .now) ≡ parts ps))
+          (sym (all-kinds (c3 .args .s .now) (fieldsOf (c3 .args .codes .now)) (c3 .args .first) (c3 .args .many))) (c3 .pre .taken-all),
+      subst
+          (λ ks. Left (c3 .args .out .now) 0
+          (textOf (kindsFrom (c3 .args .s .now) (fieldsOf (c3 .args .codes .now)) (c3 .args .first) (c3 .args .many)) (c3 .args .p .now))
+          (c3 .args .out .now) 0 (textOf ks (c3 .args .p .now)))
+          (sym (all-kinds (c3 .args .s .now) (fieldsOf (c3 .args .codes .now)) (c3 .args .first) (c3 .args .many))) (left-all _ _ _),
+    )
 
 add-field : tie.Need-add-field Inv-loop μ-loop
-add-field c = omega (arith, c .before .before .before .before .before .pre .usable .within)
+add-field c =
+    let c5 = c .before .before .before .before .before in
+    omega (arith, c5 .pre .usable .within)
 
 mul-field : tie.Need-mul-field Inv-loop μ-loop
 mul-field c = search needs
 
 element-copy-out-field : tie.Need-element-copy-out-field Inv-loop μ-loop
-element-copy-out-field c = omega (arith, c .before .before .before .before .before .pre .usable .within)
+element-copy-out-field c =
+    let c5 = c .before .before .before .before .before in
+    omega (arith, c5 .pre .usable .within)
 
 field-requires : tie.Need-field-requires Inv-loop μ-loop
 field-requires c κs = search needs
@@ -47,10 +67,35 @@ width-requires : tie.Need-width-requires Inv-loop μ-loop
 width-requires c κs = search needs
 
 add-e : tie.Need-add-e Inv-loop μ-loop
-add-e c = omega (arith, turn (c .before .before .before .before .before .before .before .before .args .s .now) (fieldsOf (c .before .before .before .before .before .before .before .before .args .codes .now)) (c .before .before .before .before .before .before .before .before .args .first) (c .before .before .before .before .before .before .before .before .args .many) (c .before .before .before .before .before .before .before .before .args .p .now) (c .before .before .before .before .loop .k) (c .before .before .before .before .loop .i) (c .before .before .before .loop-test .taken) (c .before .before .before .before .loop .inv .1) (c .before .before .before .before .loop .inv .3) (c .before .field .result) (read-at (c .before .before .before .before .before .before .before .before .args .codes .now) _ (c .before .field .ensures)) (c .width .result) (c .width .ensures) .within)
+add-e c =
+    let c3 = c .before .before .before in
+    let c4 = c3 .before in
+    let c8 = c4 .before .before .before .before in
+    omega (
+      arith,
+      turn (c8 .args .s .now) (fieldsOf (c8 .args .codes .now)) (c8 .args .first) (c8 .args .many) (c8 .args .p .now) (c4 .loop .k)
+          (c4 .loop .i) (c3 .loop-test .taken) (c4 .loop .inv .1) (c4 .loop .inv .3) (c .before .field .result)
+          (read-at (c8 .args .codes .now) _ (c .before .field .ensures)) (c .width .result) (c .width .ensures) .within,
+    )
 
 put-next-requires : tie.Need-put-next-requires Inv-loop μ-loop
-put-next-requires c κs = let z = turn (c .before .before .before .before .before .before .before .before .before .args .s .now) (fieldsOf (c .before .before .before .before .before .before .before .before .before .args .codes .now)) (c .before .before .before .before .before .before .before .before .before .args .first) (c .before .before .before .before .before .before .before .before .before .args .many) (c .before .before .before .before .before .before .before .before .before .args .p .now) (c .before .before .before .before .before .loop .k) (c .before .before .before .before .before .loop .i) (c .before .before .before .before .loop-test .taken) (c .before .before .before .before .before .loop .inv .1) (c .before .before .before .before .before .loop .inv .3) (c .before .before .field .result) (read-at (c .before .before .before .before .before .before .before .before .before .args .codes .now) _ (c .before .before .field .ensures)) (c .before .width .result) (c .before .width .ensures) in (omega (arith, c .before .before .before .before .before .loop .inv .2, c .before .before .before .before .before .loop .inv .1, c .before .before .before .before .before .before .before .before .before .pre .short, c .before .before .before .before .before .before .before .before .before .pre .usable .within), subst (Usable (c .before .before .before .before .before .before .before .before .before .args .s .now)) (sym (read-at (c .before .before .before .before .before .before .before .before .before .args .codes .now) _ (c .before .before .field .ensures))) (c .before .before .before .before .before .before .before .before .before .pre .usable .fields (c .before .before .before .before .before .loop .k) (c .before .before .before .before .loop-test .taken)), c .before .before .before .before .before .before .before .before .before .pre .usable .short, omega arith, z .within, c .before .before .before .before .before .before .before .before .before .pre .short, z .takes)
+put-next-requires c κs =
+    let c2 = c .before .before in
+    let c4 = c2 .before .before in
+    let c5 = c4 .before in
+    let c9 = c5 .before .before .before .before in
+    let z = turn (c9 .args .s .now) (fieldsOf (c9 .args .codes .now)) (c9 .args .first) (c9 .args .many) (c9 .args .p .now) (c5 .loop .k)
+    (c5 .loop .i) (c4 .loop-test .taken) (c5 .loop .inv .1) (c5 .loop .inv .3) (c2 .field .result)
+    (read-at (c9 .args .codes .now) _ (c2 .field .ensures)) (c .before .width .result) (c .before .width .ensures) in (
+      omega (arith, c5 .loop .inv .2, c5 .loop .inv .1, c9 .pre .short, c9 .pre .usable .within),
+      subst (Usable (c9 .args .s .now)) (sym (read-at (c9 .args .codes .now) _ (c2 .field .ensures)))
+          (c9 .pre .usable .fields (c5 .loop .k) (c4 .loop-test .taken)),
+      c9 .pre .usable .short,
+      omega arith,
+      z .within,
+      c9 .pre .short,
+      z .takes,
+    )
 
 add-k : tie.Need-add-k Inv-loop μ-loop
 add-k c = search needs
@@ -59,13 +104,44 @@ loop-less : tie.Need-loop-less Inv-loop μ-loop
 loop-less c = search needs
 
 loop-again : tie.Need-loop-again Inv-loop μ-loop
-loop-again c = let z = turn (c .before .before .before .before .before .before .before .before .before .before .before .before .args .s .now) (fieldsOf (c .before .before .before .before .before .before .before .before .before .before .before .before .args .codes .now)) (c .before .before .before .before .before .before .before .before .before .before .before .before .args .first) (c .before .before .before .before .before .before .before .before .before .before .before .before .args .many) (c .before .before .before .before .before .before .before .before .before .before .before .before .args .p .now) (c .before .before .before .before .before .before .before .before .loop .k) (c .before .before .before .before .before .before .before .before .loop .i) (c .before .before .before .before .before .before .before .loop-test .taken) (c .before .before .before .before .before .before .before .before .loop .inv .1) (c .before .before .before .before .before .before .before .before .loop .inv .3) (c .before .before .before .before .before .field .result) (read-at (c .before .before .before .before .before .before .before .before .before .before .before .before .args .codes .now) _ (c .before .before .before .before .before .field .ensures)) (c .before .before .before .before .width .result) (c .before .before .before .before .width .ensures) in (search needs, z .within, omega (arith, c .before .before .before .before .before .before .before .before .loop .inv .2, went-bound (shown (kindFor (c .before .before .before .before .before .before .before .before .before .before .before .before .args .s .now) (c .before .before .before .before .before .field .result)) (slice (c .before .before .before .before .before .before .before .before .loop .i) (c .before .before .before .before .before .before .before .before .loop .i + c .before .before .before .before .width .result) (c .before .before .before .before .before .before .before .before .before .before .before .before .args .p .now))) _ (field-short (c .before .before .before .before .before .before .before .before .before .before .before .before .args .s .now) (c .before .before .before .before .before .field .result) (subst (Usable (c .before .before .before .before .before .before .before .before .before .before .before .before .args .s .now)) (sym (read-at (c .before .before .before .before .before .before .before .before .before .before .before .before .args .codes .now) _ (c .before .before .before .before .before .field .ensures))) (c .before .before .before .before .before .before .before .before .before .before .before .before .pre .usable .fields (c .before .before .before .before .before .before .before .before .loop .k) (c .before .before .before .before .before .before .before .loop-test .taken))) (c .before .before .before .before .before .before .before .before .before .before .before .before .args .p .now) (c .before .before .before .before .before .before .before .before .loop .i) (c .before .before .before .before .before .before .before .before .loop .i + c .before .before .before .before .width .result) (λ j. omega (arith, c .before .before .before .before .before .before .before .before .before .shared-slice-known2 .given j)) (z .within) (z .takes)) (c .before .before .put-next .ensures)), z .others, text-went _ _ _ _ _ (c .before .before .before .before .before .before .before .before .loop .inv .4) (z .text) (c .before .before .put-next .ensures))
+loop-again c =
+    let c2 = c .before .before in
+    let c4 = c2 .before .before in
+    let c5 = c4 .before in
+    let c7 = c5 .before .before in
+    let c8 = c7 .before in
+    let c9 = c8 .before in
+    let c12 = c9 .before .before .before in
+    let z = turn (c12 .args .s .now) (fieldsOf (c12 .args .codes .now)) (c12 .args .first) (c12 .args .many) (c12 .args .p .now)
+    (c8 .loop .k) (c8 .loop .i) (c7 .loop-test .taken) (c8 .loop .inv .1) (c8 .loop .inv .3) (c5 .field .result)
+    (read-at (c12 .args .codes .now) _ (c5 .field .ensures)) (c4 .width .result) (c4 .width .ensures) in (
+      search needs,
+      z .within,
+      omega (
+        arith,
+        c8 .loop .inv .2,
+        went-bound
+            (shown (kindFor (c12 .args .s .now) (c5 .field .result))
+            (slice (c8 .loop .i) (c8 .loop .i + c4 .width .result) (c12 .args .p .now))) _
+            (field-short (c12 .args .s .now) (c5 .field .result)
+            (subst (Usable (c12 .args .s .now)) (sym (read-at (c12 .args .codes .now) _ (c5 .field .ensures)))
+            (c12 .pre .usable .fields (c8 .loop .k) (c7 .loop-test .taken))) (c12 .args .p .now) (c8 .loop .i)
+            (c8 .loop .i + c4 .width .result) (λ j. omega (arith, c9 .shared-slice-known2 .given j)) (z .within) (z .takes))
+            (c2 .put-next .ensures),
+      ),
+      z .others,
+      text-went _ _ _ _ _ (c8 .loop .inv .4) (z .text) (c2 .put-next .ensures),
+    )
 
 same-length : tie.Need-same-length Inv-loop μ-loop
 same-length c = search needs
 
 returns : tie.Need-returns Inv-loop μ-loop
-returns c = left-none (c .before .loop .inv .4) (run-done (c .before .before .before .before .before .args .s .now) (fieldsOf (c .before .before .before .before .before .args .codes .now)) (c .before .before .before .before .before .args .first) (c .before .before .before .before .before .args .many) (c .before .loop .k) (drop (c .before .loop .i) (c .before .before .before .before .before .args .p .now)) (c .before .loop .at) (c .loop-test .left) (c .before .loop .inv .3))
+returns c =
+    let c5 = c .before .before .before .before .before in
+    left-none (c .before .loop .inv .4)
+    (run-done (c5 .args .s .now) (fieldsOf (c5 .args .codes .now)) (c5 .args .first) (c5 .args .many) (c .before .loop .k)
+    (drop (c .before .loop .i) (c5 .args .p .now)) (c .before .loop .at) (c .loop-test .left) (c .before .loop .inv .3))
 
 pub put-run-spec : {M : Type 1} → statement M
 put-run-spec =

@@ -8,42 +8,35 @@ use Rattle.run_read.proofs.none_from.Reads as reads
 use Rattle.run_read.proofs.none_from.Lts as lts
 use Rattle.tokens.proofs.next_token.Reads as next-token-reads
 
-next-token-requires : tie.Need-next-token-requires
-next-token-requires c κs = search needs
-
-enum-told : tie.Need-enum-told
-enum-told c = search needs
-
-enum-told-2 : tie.Need-enum-told-2
-enum-told-2 c = search needs
-
-enum-told-3 : tie.Need-enum-told-3
-enum-told-3 c = search needs
-
-enum-told-4 : tie.Need-enum-told-4
-enum-told-4 c = search needs
-
 returns : tie.Need-returns
-returns c = ap null (rw (c .enum-told .given .1) at (c .before .before .next-token .ensures .0))
+returns c =
+    let c2 = c .before .before in
+    ap null (rw (c .enum-told .given .1) at (c2 .next-token .ensures .0))
 
 returns-2 : tie.Need-returns-2
-returns-2 c = ap null (rw (c .enum-told2 .given .1) at (c .before .before .next-token .ensures .0))
+returns-2 c =
+    let c2 = c .before .before in
+    ap null (rw (c .enum-told2 .given .1) at (c2 .next-token .ensures .0))
 
 returns-3 : tie.Need-returns-3
-returns-3 c = ap null (rw (c .enum-told3 .given .1) at (c .before .before .next-token .ensures .0))
+returns-3 c =
+    let c2 = c .before .before in
+    ap null (rw (c .enum-told3 .given .1) at (c2 .next-token .ensures .0))
 
 returns-4 : tie.Need-returns-4
-returns-4 c = ap null (rw (c .enum-told4 .given .1) at (c .before .before .next-token .ensures .0))
+returns-4 c =
+    let c2 = c .before .before in
+    ap null (rw (c .enum-told4 .given .1) at (c2 .next-token .ensures .0))
 
 pub none-from-spec : {M : Type 1} → statement M
 none-from-spec =
     tie.close
     (tie.spec
-    next-token-requires
-    enum-told
-    enum-told-2
-    enum-told-3
-    enum-told-4
+    (λ c κs. search needs)
+    (λ c. search needs)
+    (λ c. search needs)
+    (λ c. search needs)
+    (λ c. search needs)
     returns
     returns-2
     returns-3

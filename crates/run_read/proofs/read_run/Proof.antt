@@ -8,7 +8,8 @@ use Rattle.run_wire.specs.Run.{kindsFrom}
 use Rattle.stanza_types.specs.Fields.{Usable}
 use Rattle.run_wire.proofs.Laws.{all-kinds, no-kind, next-kind}
 use Rattle.run_read.specs.Reading.{Stands}
-use Rattle.run_read.proofs.Runs.{Ahead, ahead-start, ahead-missing, ahead-bad, ahead-got, ahead-over, ahead-done, stands-none, stands-next}
+use Rattle.run_read.proofs.Runs.{Ahead, ahead-start, ahead-missing, ahead-bad, ahead-got, ahead-over, ahead-done, stands-none}
+use Rattle.run_read.proofs.Runs.{stands-next}
 use Rattle.stanza_code.specs.Code.{fieldsOf}
 use Rattle.stanza_code.proofs.Codes.{read-at}
 use native.Mathlib.Omega.{arith}
@@ -23,28 +24,63 @@ use Rattle.field_read.proofs.read_field.Reads as read-field-reads
 use Rattle.buffer.proofs.least.Reads as least-reads
 
 abbrev Inv-loop : tie.InvT-loop
-Inv-loop out₀ codes first many s origin t n₀ i₀ k₀ out n i k = (k ≤ many) × (i ≤ length t) × (n ≤ 65536) × (length out ≡ length out₀) × ((xs : List ℕ) × Stands out₀ out n xs × Ahead (λ j ts. readField j origin ts) (kindsFrom s (fieldsOf codes) first many) (tokens t) (kindsFrom s (fieldsOf codes) (first + k) (many - k)) (tokens (drop i t)) k xs)
+Inv-loop out₀ codes first many s origin t n₀ i₀ k₀ out n i k =
+    (k ≤ many) × (i ≤ length t) × (n ≤ 65536) × (length out ≡ length out₀)
+    ×
+    ((xs : List ℕ) × Stands out₀ out n xs
+    × Ahead (λ j ts. readField j origin ts) (kindsFrom s (fieldsOf codes) first many) (tokens t)
+    (kindsFrom s (fieldsOf codes) (first + k) (many - k)) (tokens (drop i t)) k xs)
 
 abbrev μ-loop : tie.MeasureT-loop
 μ-loop out₀ codes first many s origin t n₀ i₀ k₀ out n i k = many - k
 
 loop-holds : tie.Need-loop-holds Inv-loop μ-loop
-loop-holds c = (search needs, search needs, search needs, search needs, ([], stands-none _, subst (λ ks. Ahead (λ j ts. readField j (c .before .before .before .before .args .origin .now) ts) (kindsFrom (c .before .before .before .before .args .s .now) (fieldsOf (c .before .before .before .before .args .codes .now)) (c .before .before .before .before .args .first) (c .before .before .before .before .args .many)) (tokens (c .before .before .before .before .args .t .now)) ks (tokens (c .before .before .before .before .args .t .now)) 0 []) (sym (all-kinds (c .before .before .before .before .args .s .now) (fieldsOf (c .before .before .before .before .args .codes .now)) (c .before .before .before .before .args .first) (c .before .before .before .before .args .many))) (ahead-start _ _ _)))
+loop-holds c =
+    let c4 = c .before .before .before .before in (
+      search needs,
+      search needs,
+      search needs,
+      search needs,
+      (
+        [],
+        stands-none _,
+        subst
+            (λ ks. Ahead (λ j ts. readField j (c4 .args .origin .now) ts)
+            (kindsFrom (c4 .args .s .now) (fieldsOf (c4 .args .codes .now)) (c4 .args .first) (c4 .args .many)) (tokens (c4 .args .t .now))
+            ks (tokens (c4 .args .t .now)) 0 [])
+            (sym (all-kinds (c4 .args .s .now) (fieldsOf (c4 .args .codes .now)) (c4 .args .first) (c4 .args .many))) (ahead-start _ _ _),
+      ),
+    )
 
 add-field : tie.Need-add-field Inv-loop μ-loop
-add-field c = omega (arith, c .before .before .before .before .before .before .pre .0 .within)
+add-field c =
+    let c6 = c .before .before .before .before .before .before in
+    omega (arith, c6 .pre .0 .within)
 
 mul-field : tie.Need-mul-field Inv-loop μ-loop
 mul-field c = search needs
 
 element-copy-out-field : tie.Need-element-copy-out-field Inv-loop μ-loop
-element-copy-out-field c = omega (arith, c .before .before .before .before .before .before .pre .0 .within)
+element-copy-out-field c =
+    let c6 = c .before .before .before .before .before .before in
+    omega (arith, c6 .pre .0 .within)
 
 field-requires : tie.Need-field-requires Inv-loop μ-loop
 field-requires c κs = search needs
 
 read-field-requires : tie.Need-read-field-requires Inv-loop μ-loop
-read-field-requires c κs = (omega (arith, c .before .before .before .before .loop .inv .2), subst (Usable (c .before .before .before .before .before .before .before .before .before .args .s .now)) (sym (read-at (c .before .before .before .before .before .before .before .before .before .args .codes .now) _ (c .before .field .ensures))) (c .before .before .before .before .before .before .before .before .before .pre .0 .fields (c .before .before .before .before .loop .k) (c .before .before .before .loop-test .taken)), c .before .before .before .before .before .before .before .before .before .pre .0 .short, c .before .before .before .before .before .before .before .before .before .pre .1, c .before .before .before .before .loop .inv .1, c .before .before .before .before .before .before .before .before .before .pre .2)
+read-field-requires c κs =
+    let c3 = c .before .before .before in
+    let c4 = c3 .before in
+    let c9 = c4 .before .before .before .before .before in (
+      omega (arith, c4 .loop .inv .2),
+      subst (Usable (c9 .args .s .now)) (sym (read-at (c9 .args .codes .now) _ (c .before .field .ensures)))
+          (c9 .pre .0 .fields (c4 .loop .k) (c3 .loop-test .taken)),
+      c9 .pre .0 .short,
+      c9 .pre .1,
+      c4 .loop .inv .1,
+      c9 .pre .2,
+    )
 
 enum-told : tie.Need-enum-told Inv-loop μ-loop
 enum-told c = search needs
@@ -59,7 +95,16 @@ same-length : tie.Need-same-length Inv-loop μ-loop
 same-length c = search needs
 
 returns : tie.Need-returns Inv-loop μ-loop
-returns c = ahead-missing _ (c .before .before .before .before .before .before .before .before .before .loop .inv .4 .2) _ _ (next-kind (c .before .before .before .before .before .before .before .before .before .before .before .before .before .before .args .s .now) (fieldsOf (c .before .before .before .before .before .before .before .before .before .before .before .before .before .before .args .codes .now)) (c .before .before .before .before .before .before .before .before .before .before .before .before .before .before .args .first) (c .before .before .before .before .before .before .before .before .before .before .before .before .before .before .args .many) (c .before .before .before .before .before .before .before .before .before .loop .k) (c .before .before .before .before .before .before .before .before .loop-test .taken) (c .before .before .before .before .before .before .field .result) (read-at (c .before .before .before .before .before .before .before .before .before .before .before .before .before .before .args .codes .now) _ (c .before .before .before .before .before .before .field .ensures))) (rw (c .enum-told .given .1) at (c .before .before .before .before .read-field .ensures))
+returns c =
+    let c4 = c .before .before .before .before in
+    let c6 = c4 .before .before in
+    let c8 = c6 .before .before in
+    let c9 = c8 .before in
+    let c14 = c9 .before .before .before .before .before in
+    ahead-missing _ (c9 .loop .inv .4 .2) _ _
+    (next-kind (c14 .args .s .now) (fieldsOf (c14 .args .codes .now)) (c14 .args .first) (c14 .args .many) (c9 .loop .k)
+    (c8 .loop-test .taken) (c6 .field .result) (read-at (c14 .args .codes .now) _ (c6 .field .ensures)))
+    (rw (c .enum-told .given .1) at (c4 .read-field .ensures))
 
 enum-told-2 : tie.Need-enum-told-2 Inv-loop μ-loop
 enum-told-2 c = search needs
@@ -74,7 +119,16 @@ same-length-2 : tie.Need-same-length-2 Inv-loop μ-loop
 same-length-2 c = search needs
 
 returns-2 : tie.Need-returns-2 Inv-loop μ-loop
-returns-2 c = ahead-bad _ (c .before .before .before .before .before .before .before .before .before .loop .inv .4 .2) _ _ (next-kind (c .before .before .before .before .before .before .before .before .before .before .before .before .before .before .args .s .now) (fieldsOf (c .before .before .before .before .before .before .before .before .before .before .before .before .before .before .args .codes .now)) (c .before .before .before .before .before .before .before .before .before .before .before .before .before .before .args .first) (c .before .before .before .before .before .before .before .before .before .before .before .before .before .before .args .many) (c .before .before .before .before .before .before .before .before .before .loop .k) (c .before .before .before .before .before .before .before .before .loop-test .taken) (c .before .before .before .before .before .before .field .result) (read-at (c .before .before .before .before .before .before .before .before .before .before .before .before .before .before .args .codes .now) _ (c .before .before .before .before .before .before .field .ensures))) (rw (c .enum-told2 .given .1) at (c .before .before .before .before .read-field .ensures))
+returns-2 c =
+    let c4 = c .before .before .before .before in
+    let c6 = c4 .before .before in
+    let c8 = c6 .before .before in
+    let c9 = c8 .before in
+    let c14 = c9 .before .before .before .before .before in
+    ahead-bad _ (c9 .loop .inv .4 .2) _ _
+    (next-kind (c14 .args .s .now) (fieldsOf (c14 .args .codes .now)) (c14 .args .first) (c14 .args .many) (c9 .loop .k)
+    (c8 .loop-test .taken) (c6 .field .result) (read-at (c14 .args .codes .now) _ (c6 .field .ensures)))
+    (rw (c .enum-told2 .given .1) at (c4 .read-field .ensures))
 
 enum-known-r : tie.Need-enum-known-r Inv-loop μ-loop
 enum-known-r c = search needs
@@ -89,7 +143,26 @@ loop-less : tie.Need-loop-less Inv-loop μ-loop
 loop-less c = search needs
 
 loop-again : tie.Need-loop-again Inv-loop μ-loop
-loop-again c = let g = rw (c .before .before .r .given .1) at (c .before .before .before .before .before .before .read-field .ensures) in (search needs, g .3, omega (arith, c .least .ensures), search needs, (c .before .before .before .before .before .before .before .before .before .before .before .loop .inv .4 .0 ++ g .0, stands-next {p = g .0} _ (c .before .before .before .before .before .before .before .before .before .before .before .loop .inv .4 .1) (g .2) (c .least .ensures), ahead-got _ (c .before .before .before .before .before .before .before .before .before .before .before .loop .inv .4 .2) _ _ (next-kind (c .before .before .before .before .before .before .before .before .before .before .before .before .before .before .before .before .args .s .now) (fieldsOf (c .before .before .before .before .before .before .before .before .before .before .before .before .before .before .before .before .args .codes .now)) (c .before .before .before .before .before .before .before .before .before .before .before .before .before .before .before .before .args .first) (c .before .before .before .before .before .before .before .before .before .before .before .before .before .before .before .before .args .many) (c .before .before .before .before .before .before .before .before .before .before .before .loop .k) (c .before .before .before .before .before .before .before .before .before .before .loop-test .taken) (c .before .before .before .before .before .before .before .before .field .result) (read-at (c .before .before .before .before .before .before .before .before .before .before .before .before .before .before .before .before .args .codes .now) _ (c .before .before .before .before .before .before .before .before .field .ensures))) (g .0) _ (g .1)))
+loop-again c =
+    let c2 = c .before .before in
+    let c6 = c2 .before .before .before .before in
+    let c8 = c6 .before .before in
+    let c10 = c8 .before .before in
+    let c11 = c10 .before in
+    let c16 = c11 .before .before .before .before .before in
+    let g = rw (c2 .r .given .1) at (c6 .read-field .ensures) in (
+      search needs,
+      g .3,
+      omega (arith, c .least .ensures),
+      search needs,
+      (
+        c11 .loop .inv .4 .0 ++ g .0,
+        stands-next {p = g .0} _ (c11 .loop .inv .4 .1) (g .2) (c .least .ensures),
+        ahead-got _ (c11 .loop .inv .4 .2) _ _
+            (next-kind (c16 .args .s .now) (fieldsOf (c16 .args .codes .now)) (c16 .args .first) (c16 .args .many) (c11 .loop .k)
+            (c10 .loop-test .taken) (c8 .field .result) (read-at (c16 .args .codes .now) _ (c8 .field .ensures))) (g .0) _ (g .1),
+      ),
+    )
 
 none-from-requires : tie.Need-none-from-requires Inv-loop μ-loop
 none-from-requires c κs = search needs
@@ -98,7 +171,14 @@ same-length-3 : tie.Need-same-length-3 Inv-loop μ-loop
 same-length-3 c = search needs
 
 returns-3 : tie.Need-returns-3 Inv-loop μ-loop
-returns-3 c = let (qs, e, f) = ahead-done _ (c .before .before .before .loop .inv .4 .2) (no-kind (c .before .before .before .before .before .before .before .before .args .s .now) (fieldsOf (c .before .before .before .before .before .before .before .before .args .codes .now)) (c .before .before .before .before .before .before .before .before .args .first) (c .before .before .before .before .before .before .before .before .args .many) (c .before .before .before .loop .k) (c .before .before .loop-test .left)) (sym (c .before .none-from .ensures) ∙ c .if1 .taken) in (qs, e, subst (λ xs. Stands (c .before .before .before .before .before .before .before .before .args .out .now) (c .before .before .before .loop .out) (c .before .before .before .loop .n) xs) (sym f) (c .before .before .before .loop .inv .4 .1))
+returns-3 c =
+    let c2 = c .before .before in
+    let c3 = c2 .before in
+    let c8 = c3 .before .before .before .before .before in
+    let (qs, e, f) = ahead-done _ (c3 .loop .inv .4 .2)
+    (no-kind (c8 .args .s .now) (fieldsOf (c8 .args .codes .now)) (c8 .args .first) (c8 .args .many) (c3 .loop .k) (c2 .loop-test .left))
+    (sym (c .before .none-from .ensures) ∙ c .if1 .taken) in
+    (qs, e, subst (λ xs. Stands (c8 .args .out .now) (c3 .loop .out) (c3 .loop .n) xs) (sym f) (c3 .loop .inv .4 .1))
 
 cast-t28 : tie.Need-cast-t28 Inv-loop μ-loop
 cast-t28 c = search needs
@@ -110,7 +190,18 @@ same-length-4 : tie.Need-same-length-4 Inv-loop μ-loop
 same-length-4 c = search needs
 
 returns-4 : tie.Need-returns-4 Inv-loop μ-loop
-returns-4 c = let q : c .before .before .before .loop .k ≡ c .before .before .before .before .before .before .before .before .args .many = omega arith in subst (λ n. readRun (λ k ts. readField k (c .before .before .before .before .before .before .before .before .args .origin .now) ts) (kindsFrom (c .before .before .before .before .before .before .before .before .args .s .now) (fieldsOf (c .before .before .before .before .before .before .before .before .args .codes .now)) (c .before .before .before .before .before .before .before .before .args .first) (c .before .before .before .before .before .before .before .before .args .many)) (tokens (c .before .before .before .before .before .before .before .before .args .t .now)) ≡ refused 10 (n + 1)) q (ahead-over _ (c .before .before .before .loop .inv .4 .2) (no-kind (c .before .before .before .before .before .before .before .before .args .s .now) (fieldsOf (c .before .before .before .before .before .before .before .before .args .codes .now)) (c .before .before .before .before .before .before .before .before .args .first) (c .before .before .before .before .before .before .before .before .args .many) (c .before .before .before .loop .k) (c .before .before .loop-test .left)) (sym (c .before .none-from .ensures) ∙ c .if1 .left))
+returns-4 c =
+    let c2 = c .before .before in
+    let c3 = c2 .before in
+    let c8 = c3 .before .before .before .before .before in
+    let q : c3 .loop .k ≡ c8 .args .many = omega arith in
+    subst
+    (λ n. readRun (λ k ts. readField k (c8 .args .origin .now) ts)
+    (kindsFrom (c8 .args .s .now) (fieldsOf (c8 .args .codes .now)) (c8 .args .first) (c8 .args .many)) (tokens (c8 .args .t .now))
+    ≡ refused 10 (n + 1)) q
+    (ahead-over _ (c3 .loop .inv .4 .2)
+    (no-kind (c8 .args .s .now) (fieldsOf (c8 .args .codes .now)) (c8 .args .first) (c8 .args .many) (c3 .loop .k)
+    (c2 .loop-test .left)) (sym (c .before .none-from .ensures) ∙ c .if1 .left))
 
 pub read-run-spec : {M : Type 1} → statement M
 read-run-spec =

@@ -20,28 +20,73 @@ skip-requires : tie.Need-skip-requires Inv-loop μ-loop
 skip-requires c κs = search needs
 
 returns : tie.Need-returns Inv-loop μ-loop
-returns c = twice-last _ _ _ _ (c .before .before .loop .inv .0) (c .before .before .before .before .pre .1) (c .before .skip .ensures) (c .before .before .before .before .args .ignoring) (c .if1 .taken) ∙ c .before .before .loop .inv .1
+returns c =
+    let c2 = c .before .before in
+    let c4 = c2 .before .before in
+    twice-last _ _ _ _ (c2 .loop .inv .0) (c4 .pre .1) (c .before .skip .ensures) (c4 .args .ignoring) (c .if1 .taken) ∙ c2 .loop .inv .1
 
 skip-requires-2 : tie.Need-skip-requires-2 Inv-loop μ-loop
-skip-requires-2 c κs = (omega arith, omega (arith, within _ _ _ _ (c .before .before .loop .inv .0) (c .before .before .before .before .pre .1) (c .before .skip .ensures)))
+skip-requires-2 c κs =
+    let c2 = c .before .before in
+    let c4 = c2 .before .before in
+    (omega arith, omega (arith, within _ _ _ _ (c2 .loop .inv .0) (c4 .pre .1) (c .before .skip .ensures)))
 
 add-later : tie.Need-add-later Inv-loop μ-loop
-add-later c = omega (arith, within _ _ _ _ (c .before .before .before .loop .inv .0) (c .before .before .before .before .before .pre .1) (c .before .before .skip .ensures))
+add-later c =
+    let c2 = c .before .before in
+    let c3 = c2 .before in
+    let c5 = c3 .before .before in
+    omega (arith, within _ _ _ _ (c3 .loop .inv .0) (c5 .pre .1) (c2 .skip .ensures))
 
 later-requires : tie.Need-later-requires Inv-loop μ-loop
-later-requires c κs = let v = within _ _ _ _ (c .before .before .before .loop .inv .0) (c .before .before .before .before .before .pre .1) (c .before .before .skip .ensures) in (omega arith, omega (arith, name-within _ _ _ _ (c .before .before .before .loop .inv .0) (c .before .before .before .before .before .pre .1) (c .before .before .skip .ensures) _ (c .skip2 .ensures)), omega arith, c .before .before .before .before .before .pre .1)
+later-requires c κs =
+    let c2 = c .before .before in
+    let c3 = c2 .before in
+    let c5 = c3 .before .before in
+    let v = within _ _ _ _ (c3 .loop .inv .0) (c5 .pre .1) (c2 .skip .ensures) in (
+      omega arith,
+      omega (arith, name-within _ _ _ _ (c3 .loop .inv .0) (c5 .pre .1) (c2 .skip .ensures) _ (c .skip2 .ensures)),
+      omega arith,
+      c5 .pre .1,
+    )
 
 returns-2 : tie.Need-returns-2 Inv-loop μ-loop
-returns-2 c = twice-found _ _ _ _ (c .before .before .before .before .before .loop .inv .0) (c .before .before .before .before .before .before .before .pre .1) (c .before .before .before .before .skip .ensures) (c .before .before .before .before .before .before .before .args .ignoring) _ (c .before .before .skip2 .ensures) (c .before .before .before .if1 .left) _ (c .before .later .ensures) (c .if2 .taken) ∙ c .before .before .before .before .before .loop .inv .1
+returns-2 c =
+    let c2 = c .before .before in
+    let c3 = c2 .before in
+    let c4 = c3 .before in
+    let c5 = c4 .before in
+    let c7 = c5 .before .before in
+    twice-found _ _ _ _ (c5 .loop .inv .0) (c7 .pre .1) (c4 .skip .ensures) (c7 .args .ignoring) _ (c2 .skip2 .ensures) (c3 .if1 .left) _
+    (c .before .later .ensures) (c .if2 .taken)
+    ∙ c5 .loop .inv .1
 
 add-i : tie.Need-add-i Inv-loop μ-loop
-add-i c = omega (arith, within _ _ _ _ (c .before .before .before .before .before .loop .inv .0) (c .before .before .before .before .before .before .before .pre .1) (c .before .before .before .before .skip .ensures))
+add-i c =
+    let c4 = c .before .before .before .before in
+    let c5 = c4 .before in
+    let c7 = c5 .before .before in
+    omega (arith, within _ _ _ _ (c5 .loop .inv .0) (c7 .pre .1) (c4 .skip .ensures))
 
 loop-less : tie.Need-loop-less Inv-loop μ-loop
-loop-less c = omega (arith, within _ _ _ _ (c .before .before .before .before .before .loop .inv .0) (c .before .before .before .before .before .before .before .pre .1) (c .before .before .before .before .skip .ensures))
+loop-less c =
+    let c4 = c .before .before .before .before in
+    let c5 = c4 .before in
+    let c7 = c5 .before .before in
+    omega (arith, within _ _ _ _ (c5 .loop .inv .0) (c7 .pre .1) (c4 .skip .ensures))
 
 loop-again : tie.Need-loop-again Inv-loop μ-loop
-loop-again c = (omega (arith, within _ _ _ _ (c .before .before .before .before .before .loop .inv .0) (c .before .before .before .before .before .before .before .pre .1) (c .before .before .before .before .skip .ensures)), twice-on _ _ _ _ (c .before .before .before .before .before .loop .inv .0) (c .before .before .before .before .before .before .before .pre .1) (c .before .before .before .before .skip .ensures) (c .before .before .before .before .before .before .before .args .ignoring) _ (c .before .before .skip2 .ensures) (c .before .before .before .if1 .left) _ (c .before .later .ensures) (c .if2 .left) ∙ c .before .before .before .before .before .loop .inv .1)
+loop-again c =
+    let c2 = c .before .before in
+    let c3 = c2 .before in
+    let c4 = c3 .before in
+    let c5 = c4 .before in
+    let c7 = c5 .before .before in (
+      omega (arith, within _ _ _ _ (c5 .loop .inv .0) (c7 .pre .1) (c4 .skip .ensures)),
+      twice-on _ _ _ _ (c5 .loop .inv .0) (c7 .pre .1) (c4 .skip .ensures) (c7 .args .ignoring) _ (c2 .skip2 .ensures) (c3 .if1 .left) _
+          (c .before .later .ensures) (c .if2 .left)
+          ∙ c5 .loop .inv .1,
+    )
 
 pub each-later-spec : {M : Type 1} → statement M
 each-later-spec =

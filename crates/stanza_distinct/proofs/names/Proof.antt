@@ -9,21 +9,21 @@ use Rattle.stanza_distinct.proofs.names.Lts as lts
 use Rattle.octets.proofs.skip.Reads as skip-reads
 use Rattle.stanza_distinct.proofs.starts_other.Reads as starts-other-reads
 
-starts-other-requires : tie.Need-starts-other-requires
-starts-other-requires c κs = search needs
-
 returns : tie.Need-returns
 returns c = sym (c .before .starts-other .ensures (c .if1 .taken))
 
-skip-requires : tie.Need-skip-requires
-skip-requires c κs = search needs
-
 same-requires : tie.Need-same-requires
-same-requires c κs = let z = front-in (c .before .before .before .before .args .s .now) (c .before .before .before .before .args .i) (c .before .before .before .before .args .z) (c .skip .result) (c .before .before .before .before .pre .2) (c .before .before .before .before .pre .3) (c .skip .ensures) in (c .before .before .before .before .pre .0, c .before .before .before .before .pre .1, z .0, omega (arith, z .1))
+same-requires c κs =
+    let c4 = c .before .before .before .before in
+    let z = front-in (c4 .args .s .now) (c4 .args .i) (c4 .args .z) (c .skip .result) (c4 .pre .2) (c4 .pre .3) (c .skip .ensures) in
+    (c4 .pre .0, c4 .pre .1, z .0, omega (arith, z .1))
 
 returns-2 : tie.Need-returns-2
-returns-2 c = named-in (c .before .before .before .before .before .args .ignoring) (c .before .before .before .before .before .args .s .now) (c .before .before .before .before .before .args .i) (c .before .before .before .before .before .args .z) (c .before .skip .result) (c .before .before .before .before .before .pre .2) (c .before .before .before .before .before .pre .3) (c .before .skip .ensures) _ _ (c .same .ensures)
+returns-2 c =
+    let c5 = c .before .before .before .before .before in
+    named-in (c5 .args .ignoring) (c5 .args .s .now) (c5 .args .i) (c5 .args .z) (c .before .skip .result) (c5 .pre .2) (c5 .pre .3)
+    (c .before .skip .ensures) _ _ (c .same .ensures)
 
 pub names-spec : {M : Type 1} → statement M
 names-spec =
-    tie.close (tie.spec starts-other-requires returns skip-requires same-requires returns-2)
+    tie.close (tie.spec (λ c κs. search needs) returns (λ c κs. search needs) same-requires returns-2)

@@ -4,24 +4,11 @@ use Rattle.octets.proofs.Numbers.{number-some}
 use Rattle.stanza_distinct.proofs.numbered.Statement.{statement}
 use Rattle.stanza_distinct.proofs.numbered.Tie as tie
 
-add-decimal : tie.Need-add-decimal
-add-decimal c = search needs
-
-decimal-requires : tie.Need-decimal-requires
-decimal-requires c κs = search needs
-
-enum-known-d : tie.Need-enum-known-d
-enum-known-d c = search needs
-
-enum-told : tie.Need-enum-told
-enum-told c = search needs
-
 returns : tie.Need-returns
-returns c = (refl, refl, number-some _ _ (sym (c .before .before .before .decimal .ensures) ∙ c .before .d .given .1))
-
-returns-2 : tie.Need-returns-2
-returns-2 c = search needs
+returns c =
+    let c3 = c .before .before .before in
+    (refl, refl, number-some _ _ (sym (c3 .decimal .ensures) ∙ c .before .d .given .1))
 
 pub numbered-spec : {M : Type 1} → statement M
 numbered-spec =
-    tie.close (tie.spec add-decimal decimal-requires enum-known-d enum-told returns returns-2)
+    tie.close (tie.spec (λ c. search needs) (λ c κs. search needs) (λ c. search needs) (λ c. search needs) returns (λ c. search needs))

@@ -16,7 +16,9 @@ use Rattle.stanza_distinct.proofs.plain_symbols.Statement.{statement}
 use Rattle.stanza_distinct.proofs.plain_symbols.Tie as tie
 
 abbrev Inv-loop : tie.InvT-loop
-Inv-loop limit s a b met₀ i₀ met i = (i ≤ b) × (length met ≡ 256) × (anyIn (NotSymbol limit) s i b ≡ anyIn (NotSymbol limit) s a b) × (Clear true met (piecesIn s i b) → twiceIn true s i b ≡ false → twiceIn true s a b ≡ false)
+Inv-loop limit s a b met₀ i₀ met i =
+    (i ≤ b) × (length met ≡ 256) × (anyIn (NotSymbol limit) s i b ≡ anyIn (NotSymbol limit) s a b)
+    × (Clear true met (piecesIn s i b) → twiceIn true s i b ≡ false → twiceIn true s a b ≡ false)
 
 abbrev μ-loop : tie.MeasureT-loop
 μ-loop limit s a b met₀ i₀ met i = b - i
@@ -40,28 +42,89 @@ returns-2 : tie.Need-returns-2 Inv-loop μ-loop
 returns-2 c = λ e. absurd (true≢false (sym e))
 
 bucket-requires : tie.Need-bucket-requires Inv-loop μ-loop
-bucket-requires c κs = let y = (rw (c .before .before .p .given .1) at (c .before .before .before .before .symbol-at .ensures)) in let v = within _ _ _ _ (c .before .before .before .before .before .loop .inv .0) (c .before .before .before .before .before .before .before .pre .1) (y .0) in let u = name-within _ _ _ _ (c .before .before .before .before .before .loop .inv .0) (c .before .before .before .before .before .before .before .pre .1) (y .0) _ (y .1) in (omega arith, omega (arith, v, u))
+bucket-requires c κs =
+    let c2 = c .before .before in
+    let c4 = c2 .before .before in
+    let c5 = c4 .before in
+    let c7 = c5 .before .before in
+    let y = (rw (c2 .p .given .1) at (c4 .symbol-at .ensures)) in
+    let v = within _ _ _ _ (c5 .loop .inv .0) (c7 .pre .1) (y .0) in
+    let u = name-within _ _ _ _ (c5 .loop .inv .0) (c7 .pre .1) (y .0) _ (y .1) in (omega arith, omega (arith, v, u))
 
 array-read-if2 : tie.Need-array-read-if2 Inv-loop μ-loop
-array-read-if2 c = rw (c .bucket .ensures) (bucket-below true (slice (c .before .before .before .before .before .before .loop .i) (c .before .before .before .p .given .0 .0) (c .before .before .before .before .before .before .before .before .args .s .now)))
+array-read-if2 c =
+    let c3 = c .before .before .before in
+    let c6 = c3 .before .before .before in
+    let c8 = c6 .before .before in
+    rw (c .bucket .ensures) (bucket-below true (slice (c6 .loop .i) (c3 .p .given .0 .0) (c8 .args .s .now)))
 
 returns-3 : tie.Need-returns-3 Inv-loop μ-loop
 returns-3 c = λ e. absurd (true≢false (sym e))
 
 returns-4 : tie.Need-returns-4 Inv-loop μ-loop
-returns-4 c = let y = (rw (c .before .before .before .before .before .p .given .1) at (c .before .before .before .before .before .before .before .symbol-at .ensures)) in λ x. (sym (c .before .before .before .before .before .before .before .before .loop .inv .2) ∙ any-last (c .before .before .before .before .before .before .before .before .before .before .args .s .now) (c .before .before .before .before .before .before .before .before .loop .i) (c .before .before .before .before .before .before .before .before .before .before .args .b) _ (c .before .before .before .before .before .before .before .before .loop .inv .0) (c .before .before .before .before .before .before .before .before .before .before .pre .1) (y .0) (λ p. holdsOf (NotSymbol (c .before .before .before .before .before .before .before .before .before .before .args .limit)) (qualifier p)) (c .if3 .taken) (below-limit (c .before .before .before .before .before .before .before .before .before .before .args .limit) (partIn (c .before .before .before .before .before .before .before .before .before .before .args .s .now) (c .before .before .before .before .before .before .before .before .loop .i) (c .before .before .before .before .before .p .given .0 .1 .0)) (partIn (c .before .before .before .before .before .before .before .before .before .before .args .s .now) (c .before .before .before .before .before .before .before .before .loop .i) (c .before .before .before .before .before .p .given .0 .0)) (c .before .before .before .before .before .p .given .0 .1 .1 .0) (y .2) (omega (arith, c .before .before .before .if1 .left))), apart-last true (c .before .before .before .before .before .before .before .before .before .before .args .s .now) (c .before .before .before .before .before .before .before .before .loop .i) (c .before .before .before .before .before .before .before .before .before .before .args .b) _ _ (c .before .before .before .before .before .before .before .before .loop .inv .0) (c .before .before .before .before .before .before .before .before .before .before .pre .1) (y .0) (y .1) (c .before .before .before .before .before .before .before .before .loop .met) _ (c .before .before .bucket .ensures) (c .before .if2 .left) (c .before .before .before .before .before .before .before .before .before .before .args .a) (c .before .before .before .before .before .before .before .before .loop .inv .3) (c .if3 .taken))
+returns-4 c =
+    let c2 = c .before .before in
+    let c3 = c2 .before in
+    let c5 = c3 .before .before in
+    let c7 = c5 .before .before in
+    let c8 = c7 .before in
+    let c10 = c8 .before .before in
+    let y = (rw (c5 .p .given .1) at (c7 .symbol-at .ensures)) in
+    λ x. (
+      sym (c8 .loop .inv .2)
+          ∙ any-last (c10 .args .s .now) (c8 .loop .i) (c10 .args .b) _ (c8 .loop .inv .0) (c10 .pre .1) (y .0)
+          (λ p. holdsOf (NotSymbol (c10 .args .limit)) (qualifier p)) (c .if3 .taken)
+          (below-limit (c10 .args .limit) (partIn (c10 .args .s .now) (c8 .loop .i) (c5 .p .given .0 .1 .0))
+          (partIn (c10 .args .s .now) (c8 .loop .i) (c5 .p .given .0 .0)) (c5 .p .given .0 .1 .1 .0) (y .2)
+          (omega (arith, c3 .if1 .left))),
+      apart-last true (c10 .args .s .now) (c8 .loop .i) (c10 .args .b) _ _ (c8 .loop .inv .0) (c10 .pre .1) (y .0) (y .1) (c8 .loop .met)
+          _ (c2 .bucket .ensures) (c .before .if2 .left) (c10 .args .a) (c8 .loop .inv .3) (c .if3 .taken),
+    )
 
 array-write-met : tie.Need-array-write-met Inv-loop μ-loop
-array-write-met c = rw (c .before .before .bucket .ensures) (bucket-below true (slice (c .before .before .before .before .before .before .before .before .loop .i) (c .before .before .before .before .before .p .given .0 .0) (c .before .before .before .before .before .before .before .before .before .before .args .s .now)))
+array-write-met c =
+    let c2 = c .before .before in
+    let c5 = c2 .before .before .before in
+    let c8 = c5 .before .before .before in
+    let c10 = c8 .before .before in
+    rw (c2 .bucket .ensures) (bucket-below true (slice (c8 .loop .i) (c5 .p .given .0 .0) (c10 .args .s .now)))
 
 add-i : tie.Need-add-i Inv-loop μ-loop
-add-i c = let y = (rw (c .before .before .before .before .before .p .given .1) at (c .before .before .before .before .before .before .before .symbol-at .ensures)) in omega (arith, within _ _ _ _ (c .before .before .before .before .before .before .before .before .loop .inv .0) (c .before .before .before .before .before .before .before .before .before .before .pre .1) (y .0))
+add-i c =
+    let c5 = c .before .before .before .before .before in
+    let c7 = c5 .before .before in
+    let c8 = c7 .before in
+    let c10 = c8 .before .before in
+    let y = (rw (c5 .p .given .1) at (c7 .symbol-at .ensures)) in omega (arith, within _ _ _ _ (c8 .loop .inv .0) (c10 .pre .1) (y .0))
 
 loop-less : tie.Need-loop-less Inv-loop μ-loop
-loop-less c = let y = (rw (c .before .before .before .before .before .p .given .1) at (c .before .before .before .before .before .before .before .symbol-at .ensures)) in omega (arith, within _ _ _ _ (c .before .before .before .before .before .before .before .before .loop .inv .0) (c .before .before .before .before .before .before .before .before .before .before .pre .1) (y .0))
+loop-less c =
+    let c5 = c .before .before .before .before .before in
+    let c7 = c5 .before .before in
+    let c8 = c7 .before in
+    let c10 = c8 .before .before in
+    let y = (rw (c5 .p .given .1) at (c7 .symbol-at .ensures)) in omega (arith, within _ _ _ _ (c8 .loop .inv .0) (c10 .pre .1) (y .0))
 
 loop-again : tie.Need-loop-again Inv-loop μ-loop
-loop-again c = let y = (rw (c .before .before .before .before .before .p .given .1) at (c .before .before .before .before .before .before .before .symbol-at .ensures)) in (omega (arith, within _ _ _ _ (c .before .before .before .before .before .before .before .before .loop .inv .0) (c .before .before .before .before .before .before .before .before .before .before .pre .1) (y .0)), search needs, any-next (c .before .before .before .before .before .before .before .before .before .before .args .s .now) (c .before .before .before .before .before .before .before .before .loop .i) (c .before .before .before .before .before .before .before .before .before .before .args .b) _ (c .before .before .before .before .before .before .before .before .loop .inv .0) (c .before .before .before .before .before .before .before .before .before .before .pre .1) (y .0) (λ p. holdsOf (NotSymbol (c .before .before .before .before .before .before .before .before .before .before .args .limit)) (qualifier p)) (c .if3 .left) (below-limit (c .before .before .before .before .before .before .before .before .before .before .args .limit) (partIn (c .before .before .before .before .before .before .before .before .before .before .args .s .now) (c .before .before .before .before .before .before .before .before .loop .i) (c .before .before .before .before .before .p .given .0 .1 .0)) (partIn (c .before .before .before .before .before .before .before .before .before .before .args .s .now) (c .before .before .before .before .before .before .before .before .loop .i) (c .before .before .before .before .before .p .given .0 .0)) (c .before .before .before .before .before .p .given .0 .1 .1 .0) (y .2) (omega (arith, c .before .before .before .if1 .left))) ∙ c .before .before .before .before .before .before .before .before .loop .inv .2, apart-next true (c .before .before .before .before .before .before .before .before .before .before .args .s .now) (c .before .before .before .before .before .before .before .before .loop .i) (c .before .before .before .before .before .before .before .before .before .before .args .b) _ _ (c .before .before .before .before .before .before .before .before .loop .inv .0) (c .before .before .before .before .before .before .before .before .before .before .pre .1) (y .0) (y .1) (c .before .before .before .before .before .before .before .before .loop .met) _ (c .before .before .bucket .ensures) (c .before .if2 .left) (c .before .before .before .before .before .before .before .before .before .before .args .a) (c .before .before .before .before .before .before .before .before .loop .inv .3) (c .if3 .left) (omega (arith, c .before .before .before .before .before .before .before .before .loop .inv .1)))
+loop-again c =
+    let c2 = c .before .before in
+    let c3 = c2 .before in
+    let c5 = c3 .before .before in
+    let c7 = c5 .before .before in
+    let c8 = c7 .before in
+    let c10 = c8 .before .before in
+    let y = (rw (c5 .p .given .1) at (c7 .symbol-at .ensures)) in (
+      omega (arith, within _ _ _ _ (c8 .loop .inv .0) (c10 .pre .1) (y .0)),
+      search needs,
+      any-next (c10 .args .s .now) (c8 .loop .i) (c10 .args .b) _ (c8 .loop .inv .0) (c10 .pre .1) (y .0)
+          (λ p. holdsOf (NotSymbol (c10 .args .limit)) (qualifier p)) (c .if3 .left)
+          (below-limit (c10 .args .limit) (partIn (c10 .args .s .now) (c8 .loop .i) (c5 .p .given .0 .1 .0))
+          (partIn (c10 .args .s .now) (c8 .loop .i) (c5 .p .given .0 .0)) (c5 .p .given .0 .1 .1 .0) (y .2)
+          (omega (arith, c3 .if1 .left)))
+          ∙ c8 .loop .inv .2,
+      apart-next true (c10 .args .s .now) (c8 .loop .i) (c10 .args .b) _ _ (c8 .loop .inv .0) (c10 .pre .1) (y .0) (y .1) (c8 .loop .met) _
+          (c2 .bucket .ensures) (c .before .if2 .left) (c10 .args .a) (c8 .loop .inv .3) (c .if3 .left) (omega (arith, c8 .loop .inv .1)),
+    )
 
 pub plain-symbols-spec : {M : Type 1} → statement M
 plain-symbols-spec =

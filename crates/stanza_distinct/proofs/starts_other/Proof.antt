@@ -14,20 +14,15 @@ returns c = λ e. absurd (true≢false (sym e))
 returns-2 : tie.Need-returns-2
 returns-2 c = λ e. absurd (true≢false (sym e))
 
-shared-slice-read-fold : tie.Need-shared-slice-read-fold
-shared-slice-read-fold c = search needs
-
-fold-requires : tie.Need-fold-requires
-fold-requires c κs = search needs
-
-shared-slice-read-fold-2 : tie.Need-shared-slice-read-fold-2
-shared-slice-read-fold-2 c = search needs
-
-fold-requires-2 : tie.Need-fold-requires-2
-fold-requires-2 c κs = search needs
-
 returns-3 : tie.Need-returns-3
-returns-3 c = λ e. first-other (c .before .before .before .before .before .before .before .args .ignoring) (c .before .before .before .before .before .before .before .args .s .now) (c .before .before .before .before .before .before .before .args .a) (c .before .before .before .before .before .before .before .args .n) (c .before .before .before .before .before .before .before .args .i) (c .before .before .before .before .before .before .before .args .z) (c .before .before .fold .result) (c .fold2 .result) (c .before .before .before .before .before .if1 .left) (c .before .before .before .before .before .before .before .pre .0) (c .before .before .before .before .if2 .left) (c .before .before .before .before .before .before .before .pre .1) (c .before .before .fold .ensures) (c .fold2 .ensures) (λ q. true≢false (sym e ∙ ap not (eq-eqb (c .before .before .fold .result) (c .fold2 .result) q)))
+returns-3 c =
+    let c2 = c .before .before in
+    let c4 = c2 .before .before in
+    let c5 = c4 .before in
+    let c7 = c5 .before .before in
+    λ e. first-other (c7 .args .ignoring) (c7 .args .s .now) (c7 .args .a) (c7 .args .n) (c7 .args .i) (c7 .args .z) (c2 .fold .result)
+    (c .fold2 .result) (c5 .if1 .left) (c7 .pre .0) (c4 .if2 .left) (c7 .pre .1) (c2 .fold .ensures) (c .fold2 .ensures)
+    (λ q. true≢false (sym e ∙ ap not (eq-eqb (c2 .fold .result) (c .fold2 .result) q)))
 
 pub starts-other-spec : {M : Type 1} → statement M
 starts-other-spec =
@@ -35,8 +30,8 @@ starts-other-spec =
     (tie.spec
     returns
     returns-2
-    shared-slice-read-fold
-    fold-requires
-    shared-slice-read-fold-2
-    fold-requires-2
+    (λ c. search needs)
+    (λ c κs. search needs)
+    (λ c. search needs)
+    (λ c κs. search needs)
     returns-3)

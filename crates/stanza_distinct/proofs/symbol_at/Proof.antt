@@ -8,55 +8,91 @@ use borrow.Author.Needs.{needs}
 use Rattle.stanza_distinct.proofs.symbol_at.Statement.{statement}
 use Rattle.stanza_distinct.proofs.symbol_at.Tie as tie
 
-skip-requires : tie.Need-skip-requires
-skip-requires c κs = search needs
-
 begins-name-requires : tie.Need-begins-name-requires
-begins-name-requires c κs = (omega (arith, c .skip .ensures), omega (arith, c .skip .ensures, front-within nameOctet (c .before .before .args .s .now) (c .before .before .args .i) (c .before .before .args .b) (c .before .before .pre .0) (c .before .before .pre .1)))
-
-octet-at-requires : tie.Need-octet-at-requires
-octet-at-requires c κs = search needs
-
-cast-if2 : tie.Need-cast-if2
-cast-if2 c = search needs
+begins-name-requires c κs =
+    let c2 = c .before .before in (
+      omega (arith, c .skip .ensures),
+      omega (arith, c .skip .ensures, front-within nameOctet (c2 .args .s .now) (c2 .args .i) (c2 .args .b) (c2 .pre .0) (c2 .pre .1)),
+    )
 
 add-skip : tie.Need-add-skip
-add-skip c = omega (arith, octet-there (c .before .before .before .before .before .before .args .s .now) (c .before .before .before .before .skip .result) (c .before .before .before .before .before .before .args .b) (c .before .before .before .before .before .before .pre .1) (sym (c .before .octet-at .ensures) ∙ c .if2 .taken))
+add-skip c =
+    let c4 = c .before .before .before .before in
+    let c6 = c4 .before .before in
+    omega (
+      arith,
+      octet-there (c6 .args .s .now) (c4 .skip .result) (c6 .args .b) (c6 .pre .1) (sym (c .before .octet-at .ensures) ∙ c .if2 .taken),
+    )
 
 skip-requires-2 : tie.Need-skip-requires-2
-skip-requires-2 c κs = (omega (arith, octet-there (c .before .before .before .before .before .before .args .s .now) (c .before .before .before .before .skip .result) (c .before .before .before .before .before .before .args .b) (c .before .before .before .before .before .before .pre .1) (sym (c .before .octet-at .ensures) ∙ c .if2 .taken)), c .before .before .before .before .before .before .pre .1)
+skip-requires-2 c κs =
+    let c4 = c .before .before .before .before in
+    let c6 = c4 .before .before in (
+      omega (
+        arith,
+        octet-there (c6 .args .s .now) (c4 .skip .result) (c6 .args .b) (c6 .pre .1) (sym (c .before .octet-at .ensures) ∙ c .if2 .taken),
+      ),
+      c6 .pre .1,
+    )
 
 ends-at-requires : tie.Need-ends-at-requires
-ends-at-requires c κs = let v = octet-there (c .before .before .before .before .before .before .before .args .s .now) (c .before .before .before .before .before .skip .result) (c .before .before .before .before .before .before .before .args .b) (c .before .before .before .before .before .before .before .pre .1) (sym (c .before .before .octet-at .ensures) ∙ c .before .if2 .taken) in (omega (arith, c .skip2 .ensures, front-within digit (c .before .before .before .before .before .before .before .args .s .now) (c .before .before .before .before .before .skip .result + 1) (c .before .before .before .before .before .before .before .args .b) (omega (arith, v)) (c .before .before .before .before .before .before .before .pre .1)), c .before .before .before .before .before .before .before .pre .1)
+ends-at-requires c κs =
+    let c2 = c .before .before in
+    let c5 = c2 .before .before .before in
+    let c7 = c5 .before .before in
+    let v = octet-there (c7 .args .s .now) (c5 .skip .result) (c7 .args .b) (c7 .pre .1)
+    (sym (c2 .octet-at .ensures) ∙ c .before .if2 .taken) in (
+      omega (
+        arith,
+        c .skip2 .ensures,
+        front-within digit (c7 .args .s .now) (c5 .skip .result + 1) (c7 .args .b) (omega (arith, v)) (c7 .pre .1),
+      ),
+      c7 .pre .1,
+    )
 
 numbered-requires : tie.Need-numbered-requires
-numbered-requires c κs = let v = octet-there (c .before .before .before .before .before .before .before .before .before .args .s .now) (c .before .before .before .before .before .before .before .skip .result) (c .before .before .before .before .before .before .before .before .before .args .b) (c .before .before .before .before .before .before .before .before .before .pre .1) (sym (c .before .before .before .before .octet-at .ensures) ∙ c .before .before .before .if2 .taken) in (omega (arith, c .before .before .skip2 .ensures), omega (arith, c .before .before .skip2 .ensures, front-within digit (c .before .before .before .before .before .before .before .before .before .args .s .now) (c .before .before .before .before .before .before .before .skip .result + 1) (c .before .before .before .before .before .before .before .before .before .args .b) (omega (arith, v)) (c .before .before .before .before .before .before .before .before .before .pre .1)))
+numbered-requires c κs =
+    let c2 = c .before .before in
+    let c3 = c2 .before in
+    let c4 = c3 .before in
+    let c7 = c4 .before .before .before in
+    let c9 = c7 .before .before in
+    let v = octet-there (c9 .args .s .now) (c7 .skip .result) (c9 .args .b) (c9 .pre .1) (sym (c4 .octet-at .ensures) ∙ c3 .if2 .taken) in (
+      omega (arith, c2 .skip2 .ensures),
+      omega (
+        arith,
+        c2 .skip2 .ensures,
+        front-within digit (c9 .args .s .now) (c7 .skip .result + 1) (c9 .args .b) (omega (arith, v)) (c9 .pre .1),
+      ),
+    )
 
 returns : tie.Need-returns
-returns c = symbol-found (c .before .before .before .before .before .before .before .before .before .before .args .s .now) (c .before .before .before .before .before .before .before .before .before .before .args .i) (c .before .before .before .before .before .before .before .before .before .before .args .b) _ _ (c .before .before .before .before .before .before .before .before .before .before .pre .0) (c .before .before .before .before .before .before .before .before .before .before .pre .1) (c .before .before .before .before .before .before .before .before .skip .ensures) (sym (c .before .before .before .before .before .before .before .begins-name .ensures) ∙ c .before .before .before .before .before .before .if1 .taken) (sym (c .before .before .before .before .before .octet-at .ensures) ∙ c .before .before .before .before .if2 .taken) (c .before .before .before .skip2 .ensures) (c .before .before .ends-at .ensures (c .before .if3 .taken)) (c .numbered .result) (c .numbered .ensures)
-
-returns-2 : tie.Need-returns-2
-returns-2 c = search needs
-
-returns-3 : tie.Need-returns-3
-returns-3 c = search needs
-
-returns-4 : tie.Need-returns-4
-returns-4 c = search needs
+returns c =
+    let c2 = c .before .before in
+    let c3 = c2 .before in
+    let c4 = c3 .before in
+    let c5 = c4 .before in
+    let c6 = c5 .before in
+    let c7 = c6 .before in
+    let c8 = c7 .before in
+    let c10 = c8 .before .before in
+    symbol-found (c10 .args .s .now) (c10 .args .i) (c10 .args .b) _ _ (c10 .pre .0) (c10 .pre .1) (c8 .skip .ensures)
+    (sym (c7 .begins-name .ensures) ∙ c6 .if1 .taken) (sym (c5 .octet-at .ensures) ∙ c4 .if2 .taken) (c3 .skip2 .ensures)
+    (c2 .ends-at .ensures (c .before .if3 .taken)) (c .numbered .result) (c .numbered .ensures)
 
 pub symbol-at-spec : {M : Type 1} → statement M
 symbol-at-spec =
     tie.close
     (tie.spec
-    skip-requires
+    (λ c κs. search needs)
     begins-name-requires
-    octet-at-requires
-    cast-if2
+    (λ c κs. search needs)
+    (λ c. search needs)
     add-skip
     skip-requires-2
     ends-at-requires
     numbered-requires
     returns
-    returns-2
-    returns-3
-    returns-4)
+    (λ c. search needs)
+    (λ c. search needs)
+    (λ c. search needs))

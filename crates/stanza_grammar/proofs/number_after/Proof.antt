@@ -9,51 +9,66 @@ use Rattle.octets.proofs.Numbers.{number-some, number-none}
 use Rattle.stanza_grammar.proofs.number_after.Statement.{statement}
 use Rattle.stanza_grammar.proofs.number_after.Tie as tie
 
-octet-at-requires : tie.Need-octet-at-requires
-octet-at-requires c κs = search needs
-
-cast-if1 : tie.Need-cast-if1
-cast-if1 c = search needs
-
-add-skip : tie.Need-add-skip
-add-skip c = search needs
-
 skip-requires : tie.Need-skip-requires
-skip-requires c κs = (omega (arith, first-in (c .before .before .before .args .s .now) (c .before .before .before .args .i) (c .before .before .before .args .end) 58 (omega arith) (sym (c .before .octet-at .ensures) ∙ c .if1 .taken)), c .before .before .before .pre .1)
-
-add-decimal : tie.Need-add-decimal
-add-decimal c = search needs
+skip-requires c κs =
+    let c3 = c .before .before .before in (
+      omega (
+        arith,
+        first-in (c3 .args .s .now) (c3 .args .i) (c3 .args .end) 58 (omega arith) (sym (c .before .octet-at .ensures) ∙ c .if1 .taken),
+      ),
+      c3 .pre .1,
+    )
 
 decimal-requires : tie.Need-decimal-requires
-decimal-requires c κs = let w : (c .before .before .before .before .args .i + 1 ≤ c .skip .result) × (c .skip .result ≤ c .before .before .before .before .args .end) = later-within digit (c .before .before .before .before .args .s .now) (c .before .before .before .before .args .i) (c .before .before .before .before .args .end) _ 58 (c .before .before .before .before .pre .1) (omega arith) (sym (c .before .before .octet-at .ensures) ∙ c .before .if1 .taken) (c .skip .ensures) in (w .0, omega (arith, c .before .before .before .before .pre .1))
-
-enum-known-n : tie.Need-enum-known-n
-enum-known-n c = search needs
+decimal-requires c κs =
+    let c2 = c .before .before in
+    let c4 = c2 .before .before in
+    let w : (c4 .args .i + 1 ≤ c .skip .result) × (c .skip .result ≤ c4 .args .end) = later-within digit (c4 .args .s .now) (c4 .args .i)
+    (c4 .args .end) _ 58 (c4 .pre .1) (omega arith) (sym (c2 .octet-at .ensures) ∙ c .before .if1 .taken) (c .skip .ensures) in
+    (w .0, omega (arith, c4 .pre .1))
 
 returns : tie.Need-returns
-returns c = (number-on (c .before .before .before .before .before .before .before .before .args .s .now) (c .before .before .before .before .before .before .before .before .args .i) (c .before .before .before .before .before .before .before .before .args .end) _ (c .before .before .before .before .before .before .before .before .pre .1) (sym (c .before .before .before .before .before .before .octet-at .ensures) ∙ c .before .before .before .before .before .if1 .taken) (c .before .before .before .before .skip .ensures) _ (number-some _ _ (sym (c .before .before .before .decimal .ensures) ∙ c .before .n .given .1)), later-within digit (c .before .before .before .before .before .before .before .before .args .s .now) (c .before .before .before .before .before .before .before .before .args .i) (c .before .before .before .before .before .before .before .before .args .end) _ 58 (c .before .before .before .before .before .before .before .before .pre .1) (omega arith) (sym (c .before .before .before .before .before .before .octet-at .ensures) ∙ c .before .before .before .before .before .if1 .taken) (c .before .before .before .before .skip .ensures) .1)
-
-enum-told : tie.Need-enum-told
-enum-told c = search needs
+returns c =
+    let c3 = c .before .before .before in
+    let c4 = c3 .before in
+    let c5 = c4 .before in
+    let c6 = c5 .before in
+    let c8 = c6 .before .before in (
+      number-on (c8 .args .s .now) (c8 .args .i) (c8 .args .end) _ (c8 .pre .1) (sym (c6 .octet-at .ensures) ∙ c5 .if1 .taken)
+          (c4 .skip .ensures) _ (number-some _ _ (sym (c3 .decimal .ensures) ∙ c .before .n .given .1)),
+      later-within digit (c8 .args .s .now) (c8 .args .i) (c8 .args .end) _ 58 (c8 .pre .1) (omega arith)
+          (sym (c6 .octet-at .ensures) ∙ c5 .if1 .taken) (c4 .skip .ensures) .1,
+    )
 
 returns-2 : tie.Need-returns-2
-returns-2 c = (number-off (c .before .before .before .before .before .before .before .args .s .now) (c .before .before .before .before .before .before .before .args .i) (c .before .before .before .before .before .before .before .args .end) _ (c .before .before .before .before .before .before .before .pre .1) (sym (c .before .before .before .before .before .octet-at .ensures) ∙ c .before .before .before .before .if1 .taken) (c .before .before .before .skip .ensures) (number-none _ (sym (c .before .before .decimal .ensures) ∙ c .enum-told .given .1)), tt)
+returns-2 c =
+    let c2 = c .before .before in
+    let c3 = c2 .before in
+    let c4 = c3 .before in
+    let c5 = c4 .before in
+    let c7 = c5 .before .before in (
+      number-off (c7 .args .s .now) (c7 .args .i) (c7 .args .end) _ (c7 .pre .1) (sym (c5 .octet-at .ensures) ∙ c4 .if1 .taken)
+          (c3 .skip .ensures) (number-none _ (sym (c2 .decimal .ensures) ∙ c .enum-told .given .1)),
+      tt,
+    )
 
 returns-3 : tie.Need-returns-3
-returns-3 c = (no-number (slice (c .before .before .before .args .i) (c .before .before .before .args .end) (c .before .before .before .args .s .now)) (λ h. c .if1 .left (c .before .octet-at .ensures ∙ h)), tt)
+returns-3 c =
+    let c3 = c .before .before .before in
+    (no-number (slice (c3 .args .i) (c3 .args .end) (c3 .args .s .now)) (λ h. c .if1 .left (c .before .octet-at .ensures ∙ h)), tt)
 
 pub number-after-spec : {M : Type 1} → statement M
 number-after-spec =
     tie.close
     (tie.spec
-    octet-at-requires
-    cast-if1
-    add-skip
+    (λ c κs. search needs)
+    (λ c. search needs)
+    (λ c. search needs)
     skip-requires
-    add-decimal
+    (λ c. search needs)
     decimal-requires
-    enum-known-n
+    (λ c. search needs)
     returns
-    enum-told
+    (λ c. search needs)
     returns-2
     returns-3)

@@ -4,25 +4,28 @@ use borrow.Author.Needs.{needs}
 use Rattle.stanza_grammar.proofs.text_after.Statement.{statement}
 use Rattle.stanza_grammar.proofs.text_after.Tie as tie
 
-after-options-requires : tie.Need-after-options-requires
-after-options-requires c κs = search needs
-
-enum-told : tie.Need-enum-told
-enum-told c = search needs
-
-enum-known-p : tie.Need-enum-known-p
-enum-known-p c = search needs
-
 free-text-requires : tie.Need-free-text-requires
-free-text-requires c κs = ((rw (c .before .p .given .1) at (c .before .before .before .after-options .ensures .1)) .1, c .before .before .before .before .before .pre .1)
+free-text-requires c κs =
+    let c3 = c .before .before .before in
+    let c5 = c3 .before .before in
+    ((rw (c .before .p .given .1) at (c3 .after-options .ensures .1)) .1, c5 .pre .1)
 
 returns : tie.Need-returns
-returns c = (text-not (c .before .before .before .before .args .s .now) (c .before .before .before .before .args .i) (c .before .before .before .before .args .end) (c .enum-told .given .1) (c .before .before .after-options .ensures .0), tt)
+returns c =
+    let c2 = c .before .before in
+    let c4 = c2 .before .before in
+    (text-not (c4 .args .s .now) (c4 .args .i) (c4 .args .end) (c .enum-told .given .1) (c2 .after-options .ensures .0), tt)
 
 returns-2 : tie.Need-returns-2
-returns-2 c = (c .free-text .ensures .0 ∙ text-by (c .before .before .before .before .before .before .args .s .now) (c .before .before .before .before .before .before .args .i) (c .before .before .before .before .before .before .args .end) (c .before .before .p .given .1) (c .before .before .before .before .after-options .ensures .0), from-earlier (rw (c .before .before .p .given .1) at (c .before .before .before .before .after-options .ensures .1)) (c .free-text .result) (c .free-text .ensures .1))
+returns-2 c =
+    let c2 = c .before .before in
+    let c4 = c2 .before .before in
+    let c6 = c4 .before .before in (
+      c .free-text .ensures .0 ∙ text-by (c6 .args .s .now) (c6 .args .i) (c6 .args .end) (c2 .p .given .1) (c4 .after-options .ensures .0),
+      from-earlier (rw (c2 .p .given .1) at (c4 .after-options .ensures .1)) (c .free-text .result) (c .free-text .ensures .1),
+    )
 
 pub text-after-spec : {M : Type 1} → statement M
 text-after-spec =
     tie.close
-    (tie.spec after-options-requires enum-told enum-known-p free-text-requires returns returns-2)
+    (tie.spec (λ c κs. search needs) (λ c. search needs) (λ c. search needs) free-text-requires returns returns-2)

@@ -1,4 +1,5 @@
-use Rattle.stanza_judge.proofs.Outlines.{Judging, noHeader, judging-start, line-count, line-within, turn-less, turn-skip, turn-head, add-room, turn-add, turn-refuse, judging-end}
+use Rattle.stanza_judge.proofs.Outlines.{Judging, noHeader, judging-start, line-count, line-within, turn-less, turn-skip, turn-head}
+use Rattle.stanza_judge.proofs.Outlines.{add-room, turn-add, turn-refuse, judging-end}
 use Rattle.stanza_code.specs.Code.{fieldsOf}
 use Rattle.stanza_code.proofs.Codes.{withoutTexts, codes-many, coded-start, coded-more}
 use Rattle.stanza_types.specs.declared.FieldDesc.{FieldDesc}
@@ -35,7 +36,14 @@ first-line-requires : tie.Need-first-line-requires Inv-loop μ-loop
 first-line-requires c κs = search needs
 
 loop-holds : tie.Need-loop-holds Inv-loop μ-loop
-loop-holds c = (_, fieldsOf (c .before .before .before .args .codes .now), judging-start _ noHeader _ _ _ (codes-many (c .before .before .before .args .codes .now) ∙ search needs) (search needs) (search needs) (c .before .at-start .result) (c .before .at-start .ensures) (c .first-line .result) (c .first-line .ensures), coded-start (c .before .before .before .args .codes .now))
+loop-holds c =
+    let c3 = c .before .before .before in (
+      _,
+      fieldsOf (c3 .args .codes .now),
+      judging-start _ noHeader _ _ _ (codes-many (c3 .args .codes .now) ∙ search needs) (search needs) (search needs)
+          (c .before .at-start .result) (c .before .at-start .ensures) (c .first-line .result) (c .first-line .ensures),
+      coded-start (c3 .args .codes .now),
+    )
 
 add-line : tie.Need-add-line Inv-loop μ-loop
 add-line c = omega (arith, line-count (c .before .loop .inv .2) (c .loop-test .taken))
@@ -50,37 +58,85 @@ slice-aggregate-line-step-2 : tie.Need-slice-aggregate-line-step-2 Inv-loop μ-l
 slice-aggregate-line-step-2 c = search needs
 
 line-step-requires : tie.Need-line-step-requires Inv-loop μ-loop
-line-step-requires c κs = line-within (c .before .before .before .before .loop .inv .2) (c .before .before .before .loop-test .taken) (c .before .before .line-end .result) (c .before .before .line-end .ensures)
+line-step-requires c κs =
+    let c2 = c .before .before in
+    let c3 = c2 .before in
+    let c4 = c3 .before in
+    line-within (c4 .loop .inv .2) (c3 .loop-test .taken) (c2 .line-end .result) (c2 .line-end .ensures)
 
 add-at : tie.Need-add-at Inv-loop μ-loop
-add-at c = omega (arith, line-within (c .before .before .before .before .before .loop .inv .2) (c .before .before .before .before .loop-test .taken) (c .before .before .before .line-end .result) (c .before .before .before .line-end .ensures))
+add-at c =
+    let c3 = c .before .before .before in
+    let c4 = c3 .before in
+    let c5 = c4 .before in
+    omega (arith, line-within (c5 .loop .inv .2) (c4 .loop-test .taken) (c3 .line-end .result) (c3 .line-end .ensures))
 
 enum-told : tie.Need-enum-told Inv-loop μ-loop
 enum-told c = search needs
 
 loop-less : tie.Need-loop-less Inv-loop μ-loop
-loop-less c = turn-less (c .before .before .before .before .before .before .before .loop .inv .2) (c .before .before .before .before .before .before .loop-test .taken) (c .before .before .before .before .before .line-end .result) (c .before .before .before .before .before .line-end .ensures)
+loop-less c =
+    let c5 = c .before .before .before .before .before in
+    let c6 = c5 .before in
+    let c7 = c6 .before in
+    turn-less (c7 .loop .inv .2) (c6 .loop-test .taken) (c5 .line-end .result) (c5 .line-end .ensures)
 
 loop-again : tie.Need-loop-again Inv-loop μ-loop
-loop-again c = (_, _, turn-skip (c .before .before .before .before .before .before .before .loop .inv .2) (c .before .before .before .before .before .before .loop-test .taken) (c .before .before .before .before .before .line-end .result) (c .before .before .before .before .before .line-end .ensures) (c .before .before .line-step .result) (c .before .before .line-step .ensures .0) (c .before .before .line-step .ensures .1) (c .enum-told .given .1), c .before .before .before .before .before .before .before .loop .inv .3)
+loop-again c =
+    let c2 = c .before .before in
+    let c5 = c2 .before .before .before in
+    let c6 = c5 .before in
+    let c7 = c6 .before in (
+      _,
+      _,
+      turn-skip (c7 .loop .inv .2) (c6 .loop-test .taken) (c5 .line-end .result) (c5 .line-end .ensures) (c2 .line-step .result)
+          (c2 .line-step .ensures .0) (c2 .line-step .ensures .1) (c .enum-told .given .1),
+      c7 .loop .inv .3,
+    )
 
 enum-known-step : tie.Need-enum-known-step Inv-loop μ-loop
 enum-known-step c = search needs
 
 loop-less-2 : tie.Need-loop-less-2 Inv-loop μ-loop
-loop-less-2 c = omega (arith, c .before .before .before .before .before .before .before .loop-test .taken)
+loop-less-2 c =
+    let c7 = c .before .before .before .before .before .before .before in
+    omega (arith, c7 .loop-test .taken)
 
 loop-again-2 : tie.Need-loop-again-2 Inv-loop μ-loop
-loop-again-2 c = (_, _, turn-refuse (c .before .before .before .before .before .before .before .before .loop .inv .2) (c .before .before .before .before .before .before .before .loop-test .taken) (c .before .before .before .before .before .before .line-end .result) (c .before .before .before .before .before .before .line-end .ensures) (c .before .before .before .line-step .result) (c .before .before .before .line-step .ensures .0) (c .before .before .before .line-step .ensures .1) (c .before .step .given .1), c .before .before .before .before .before .before .before .before .loop .inv .3)
+loop-again-2 c =
+    let c3 = c .before .before .before in
+    let c6 = c3 .before .before .before in
+    let c7 = c6 .before in
+    let c8 = c7 .before in (
+      _,
+      _,
+      turn-refuse (c8 .loop .inv .2) (c7 .loop-test .taken) (c6 .line-end .result) (c6 .line-end .ensures) (c3 .line-step .result)
+          (c3 .line-step .ensures .0) (c3 .line-step .ensures .1) (c .before .step .given .1),
+      c8 .loop .inv .3,
+    )
 
 enum-told-2 : tie.Need-enum-told-2 Inv-loop μ-loop
 enum-told-2 c = search needs
 
 loop-less-3 : tie.Need-loop-less-3 Inv-loop μ-loop
-loop-less-3 c = turn-less (c .before .before .before .before .before .before .before .loop .inv .2) (c .before .before .before .before .before .before .loop-test .taken) (c .before .before .before .before .before .line-end .result) (c .before .before .before .before .before .line-end .ensures)
+loop-less-3 c =
+    let c5 = c .before .before .before .before .before in
+    let c6 = c5 .before in
+    let c7 = c6 .before in
+    turn-less (c7 .loop .inv .2) (c6 .loop-test .taken) (c5 .line-end .result) (c5 .line-end .ensures)
 
 loop-again-3 : tie.Need-loop-again-3 Inv-loop μ-loop
-loop-again-3 c = (_, _, turn-head (c .before .before .before .before .before .before .before .loop .inv .2) (c .before .before .before .before .before .before .loop-test .taken) (c .before .before .before .before .before .line-end .result) (c .before .before .before .before .before .line-end .ensures) (c .before .before .line-step .result) (c .before .before .line-step .ensures .0) (c .before .before .line-step .ensures .1) (c .enum-told2 .given .1), c .before .before .before .before .before .before .before .loop .inv .3)
+loop-again-3 c =
+    let c2 = c .before .before in
+    let c5 = c2 .before .before .before in
+    let c6 = c5 .before in
+    let c7 = c6 .before in (
+      _,
+      _,
+      turn-head (c7 .loop .inv .2) (c6 .loop-test .taken) (c5 .line-end .result) (c5 .line-end .ensures) (c2 .line-step .result)
+          (c2 .line-step .ensures .0) (c2 .line-step .ensures .1) (c .enum-told2 .given .1),
+      c7 .loop .inv .3,
+    )
 
 enum-known-step-2 : tie.Need-enum-known-step-2 Inv-loop μ-loop
 enum-known-step-2 c = search needs
@@ -92,19 +148,40 @@ mul-codes : tie.Need-mul-codes Inv-loop μ-loop
 mul-codes c = search needs
 
 element-write-codes : tie.Need-element-write-codes Inv-loop μ-loop
-element-write-codes c = add-room (c .before .before .before .before .before .before .before .before .before .before .loop .inv .2) (c .before .before .before .before .before .before .before .before .before .loop-test .taken) (c .before .before .before .before .before .before .before .before .line-end .result) (c .before .before .before .before .before .before .before .before .line-end .ensures) (c .before .before .before .before .before .line-step .result) (c .before .before .before .before .before .line-step .ensures .0) (c .before .before .before .before .before .line-step .ensures .1) (c .before .before .before .step2 .given .1)
+element-write-codes c =
+    let c3 = c .before .before .before in
+    let c5 = c3 .before .before in
+    let c8 = c5 .before .before .before in
+    let c9 = c8 .before in
+    let c10 = c9 .before in
+    add-room (c10 .loop .inv .2) (c9 .loop-test .taken) (c8 .line-end .result) (c8 .line-end .ensures) (c5 .line-step .result)
+    (c5 .line-step .ensures .0) (c5 .line-step .ensures .1) (c3 .step2 .given .1)
 
 mul-names : tie.Need-mul-names Inv-loop μ-loop
 mul-names c = search needs
 
 array-write-names : tie.Need-array-write-names Inv-loop μ-loop
-array-write-names c = add-room (c .before .before .before .before .before .before .before .before .before .before .loop .inv .2) (c .before .before .before .before .before .before .before .before .before .loop-test .taken) (c .before .before .before .before .before .before .before .before .line-end .result) (c .before .before .before .before .before .before .before .before .line-end .ensures) (c .before .before .before .before .before .line-step .result) (c .before .before .before .before .before .line-step .ensures .0) (c .before .before .before .before .before .line-step .ensures .1) (c .before .before .before .step2 .given .1)
+array-write-names c =
+    let c3 = c .before .before .before in
+    let c5 = c3 .before .before in
+    let c8 = c5 .before .before .before in
+    let c9 = c8 .before in
+    let c10 = c9 .before in
+    add-room (c10 .loop .inv .2) (c9 .loop-test .taken) (c8 .line-end .result) (c8 .line-end .ensures) (c5 .line-step .result)
+    (c5 .line-step .ensures .0) (c5 .line-step .ensures .1) (c3 .step2 .given .1)
 
 mul-ends : tie.Need-mul-ends Inv-loop μ-loop
 mul-ends c = search needs
 
 array-write-ends : tie.Need-array-write-ends Inv-loop μ-loop
-array-write-ends c = add-room (c .before .before .before .before .before .before .before .before .before .before .loop .inv .2) (c .before .before .before .before .before .before .before .before .before .loop-test .taken) (c .before .before .before .before .before .before .before .before .line-end .result) (c .before .before .before .before .before .before .before .before .line-end .ensures) (c .before .before .before .before .before .line-step .result) (c .before .before .before .before .before .line-step .ensures .0) (c .before .before .before .before .before .line-step .ensures .1) (c .before .before .before .step2 .given .1)
+array-write-ends c =
+    let c3 = c .before .before .before in
+    let c5 = c3 .before .before in
+    let c8 = c5 .before .before .before in
+    let c9 = c8 .before in
+    let c10 = c9 .before in
+    add-room (c10 .loop .inv .2) (c9 .loop-test .taken) (c8 .line-end .result) (c8 .line-end .ensures) (c5 .line-step .result)
+    (c5 .line-step .ensures .0) (c5 .line-step .ensures .1) (c3 .step2 .given .1)
 
 tail-after-requires : tie.Need-tail-after-requires Inv-loop μ-loop
 tail-after-requires c κs = search needs
@@ -113,16 +190,34 @@ add-n : tie.Need-add-n Inv-loop μ-loop
 add-n c = search needs
 
 loop-less-4 : tie.Need-loop-less-4 Inv-loop μ-loop
-loop-less-4 c = turn-less (c .before .before .before .before .before .before .before .before .before .before .before .loop .inv .2) (c .before .before .before .before .before .before .before .before .before .before .loop-test .taken) (c .before .before .before .before .before .before .before .before .before .line-end .result) (c .before .before .before .before .before .before .before .before .before .line-end .ensures)
+loop-less-4 c =
+    let c9 = c .before .before .before .before .before .before .before .before .before in
+    let c10 = c9 .before in
+    let c11 = c10 .before in
+    turn-less (c11 .loop .inv .2) (c10 .loop-test .taken) (c9 .line-end .result) (c9 .line-end .ensures)
 
 loop-again-4 : tie.Need-loop-again-4 Inv-loop μ-loop
-loop-again-4 c = (_, _, turn-add (c .before .before .before .before .before .before .before .before .before .before .before .loop .inv .2) (c .before .before .before .before .before .before .before .before .before .before .loop-test .taken) (c .before .before .before .before .before .before .before .before .before .line-end .result) (c .before .before .before .before .before .before .before .before .before .line-end .ensures) (c .before .before .before .before .before .before .line-step .result) (c .before .before .before .before .before .before .line-step .ensures .0) (c .before .before .before .before .before .before .line-step .ensures .1) (c .before .before .before .before .step2 .given .1) _ (c .tail-after .ensures _), coded-more (c .before .before .before .before .before .before .before .before .before .before .before .loop .codes) (c .before .before .before .before .before .before .before .before .before .before .before .loop .inv .1) (c .before .before .before .before .before .before .before .before .before .before .before .loop .n) (c .before .code .result) (c .before .before .before .before .step2 .given .0 .0 .field) (c .before .before .before .before .before .before .before .before .before .before .before .loop .inv .3) (c .before .code .ensures))
+loop-again-4 c =
+    let c4 = c .before .before .before .before in
+    let c6 = c4 .before .before in
+    let c9 = c6 .before .before .before in
+    let c10 = c9 .before in
+    let c11 = c10 .before in (
+      _,
+      _,
+      turn-add (c11 .loop .inv .2) (c10 .loop-test .taken) (c9 .line-end .result) (c9 .line-end .ensures) (c6 .line-step .result)
+          (c6 .line-step .ensures .0) (c6 .line-step .ensures .1) (c4 .step2 .given .1) _ (c .tail-after .ensures _),
+      coded-more (c11 .loop .codes) (c11 .loop .inv .1) (c11 .loop .n) (c .before .code .result) (c4 .step2 .given .0 .0 .field)
+          (c11 .loop .inv .3) (c .before .code .ensures),
+    )
 
 at-end-requires : tie.Need-at-end-requires Inv-loop μ-loop
 at-end-requires c κs = search needs
 
 returns : tie.Need-returns Inv-loop μ-loop
-returns c = judging-end (c .before .before .loop .inv .2) (c .before .before .loop .inv .3) (c .before .loop-test .left) (c .at-end .result) (c .at-end .ensures)
+returns c =
+    let c2 = c .before .before in
+    judging-end (c2 .loop .inv .2) (c2 .loop .inv .3) (c .before .loop-test .left) (c .at-end .result) (c .at-end .ensures)
 
 pub judged-outline-spec : {M : Type 1} → statement M
 judged-outline-spec =

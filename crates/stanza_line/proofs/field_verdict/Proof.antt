@@ -9,34 +9,46 @@ use Rattle.stanza_grammar.proofs.field_shape.Reads as field-shape-reads
 use Rattle.stanza_line.proofs.field_meant.Reads as field-meant-reads
 
 returns : tie.Need-returns
-returns c = (tt, λ d. outdented (c .before .before .args .s .now) (c .before .before .args .at) (c .before .before .args .t) (c .before .before .args .e) (c .before .before .pre .0) (c .if1 .taken) _ _)
-
-field-shape-requires : tie.Need-field-shape-requires
-field-shape-requires c κs = search needs
-
-enum-told : tie.Need-enum-told
-enum-told c = search needs
-
-enum-known-f : tie.Need-enum-known-f
-enum-known-f c = search needs
+returns c =
+    let c2 = c .before .before in
+    (tt, λ d. outdented (c2 .args .s .now) (c2 .args .at) (c2 .args .t) (c2 .args .e) (c2 .pre .0) (c .if1 .taken) _ _)
 
 field-meant-requires : tie.Need-field-meant-requires
-field-meant-requires c κs = (rw (c .before .f .given .1) at (c .before .before .before .field-shape .ensures .1), c .before .before .before .before .before .before .pre .2, c .before .before .before .before .before .before .pre .3)
+field-meant-requires c κs =
+    let c3 = c .before .before .before in
+    let c6 = c3 .before .before .before in
+    (rw (c .before .f .given .1) at (c3 .field-shape .ensures .1), c6 .pre .2, c6 .pre .3)
 
 returns-2 : tie.Need-returns-2
-returns-2 c = (tt, λ d. no-field (c .before .before .before .before .before .args .s .now) (c .before .before .before .before .before .args .t) (c .before .before .before .before .before .args .e) (c .before .before .field-shape .result) (c .before .before .field-shape .ensures .0) d (c .enum-told .given .1) ∙ indented (c .before .before .before .before .before .args .s .now) (c .before .before .before .before .before .args .at) (c .before .before .before .before .before .args .t) (c .before .before .before .before .before .args .e) (c .before .before .before .if1 .left) _ _)
+returns-2 c =
+    let c2 = c .before .before in
+    let c3 = c2 .before in
+    let c5 = c3 .before .before in (
+      tt,
+      λ d. no-field (c5 .args .s .now) (c5 .args .t) (c5 .args .e) (c2 .field-shape .result) (c2 .field-shape .ensures .0) d
+          (c .enum-told .given .1) ∙ indented (c5 .args .s .now) (c5 .args .at) (c5 .args .t) (c5 .args .e) (c3 .if1 .left) _ _,
+    )
 
 returns-3 : tie.Need-returns-3
-returns-3 c = (c .field-meant .ensures .0, λ d. c .field-meant .ensures .1 d ∙ is-field (c .before .before .before .before .before .before .before .args .s .now) (c .before .before .before .before .before .before .before .args .t) (c .before .before .before .before .before .before .before .args .e) (c .before .before .before .before .field-shape .result) (c .before .before .before .before .field-shape .ensures .0) d (c .before .before .f .given .1) ∙ indented (c .before .before .before .before .before .before .before .args .s .now) (c .before .before .before .before .before .before .before .args .at) (c .before .before .before .before .before .before .before .args .t) (c .before .before .before .before .before .before .before .args .e) (c .before .before .before .before .before .if1 .left) _ _)
+returns-3 c =
+    let c2 = c .before .before in
+    let c4 = c2 .before .before in
+    let c5 = c4 .before in
+    let c7 = c5 .before .before in (
+      c .field-meant .ensures .0,
+      λ d. c .field-meant .ensures .1 d ∙ is-field (c7 .args .s .now) (c7 .args .t) (c7 .args .e) (c4 .field-shape .result)
+          (c4 .field-shape .ensures .0) d (c2 .f .given .1) ∙ indented (c7 .args .s .now) (c7 .args .at) (c7 .args .t) (c7 .args .e)
+          (c5 .if1 .left) _ _,
+    )
 
 pub field-verdict-spec : {M : Type 1} → statement M
 field-verdict-spec =
     tie.close
     (tie.spec
     returns
-    field-shape-requires
-    enum-told
-    enum-known-f
+    (λ c κs. search needs)
+    (λ c. search needs)
+    (λ c. search needs)
     field-meant-requires
     returns-2
     returns-3)

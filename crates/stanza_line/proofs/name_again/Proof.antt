@@ -16,7 +16,9 @@ abbrev μ-loop : tie.MeasureT-loop
 μ-loop s names ends n a e k₀ k = n - k
 
 loop-holds : tie.Need-loop-holds Inv-loop μ-loop
-loop-holds c = (search needs, from-first (c .before .before .before .args .s .now) (c .before .before .before .args .names .now) (c .before .before .before .args .ends .now) (c .before .before .before .args .a) (c .before .before .before .args .e) (c .before .before .before .args .n))
+loop-holds c =
+    let c3 = c .before .before .before in
+    (search needs, from-first (c3 .args .s .now) (c3 .args .names .now) (c3 .args .ends .now) (c3 .args .a) (c3 .args .e) (c3 .args .n))
 
 mul-same-name : tie.Need-mul-same-name Inv-loop μ-loop
 mul-same-name c = search needs
@@ -34,7 +36,14 @@ same-name-requires : tie.Need-same-name-requires Inv-loop μ-loop
 same-name-requires c κs = search needs
 
 returns : tie.Need-returns Inv-loop μ-loop
-returns c = sym (name-found (c .before .before .before .before .before .before .before .before .before .args .s .now) (c .before .before .before .before .before .before .before .before .before .args .names .now) (c .before .before .before .before .before .before .before .before .before .args .ends .now) (c .before .before .before .before .before .before .before .before .before .args .a) (c .before .before .before .before .before .before .before .before .before .args .e) (c .before .before .before .before .before .loop .k) (c .before .before .before .before .before .before .before .before .before .args .n) (c .before .before .before .before .loop-test .taken) (sym (c .before .same-name .ensures) ∙ c .if1 .taken)) ∙ c .before .before .before .before .before .loop .inv .1
+returns c =
+    let c4 = c .before .before .before .before in
+    let c5 = c4 .before in
+    let c9 = c5 .before .before .before .before in
+    sym
+    (name-found (c9 .args .s .now) (c9 .args .names .now) (c9 .args .ends .now) (c9 .args .a) (c9 .args .e) (c5 .loop .k) (c9 .args .n)
+    (c4 .loop-test .taken) (sym (c .before .same-name .ensures) ∙ c .if1 .taken))
+    ∙ c5 .loop .inv .1
 
 add-k : tie.Need-add-k Inv-loop μ-loop
 add-k c = search needs
@@ -43,10 +52,23 @@ loop-less : tie.Need-loop-less Inv-loop μ-loop
 loop-less c = search needs
 
 loop-again : tie.Need-loop-again Inv-loop μ-loop
-loop-again c = (search needs, name-next (c .before .before .before .before .before .before .before .before .before .args .s .now) (c .before .before .before .before .before .before .before .before .before .args .names .now) (c .before .before .before .before .before .before .before .before .before .args .ends .now) (c .before .before .before .before .before .before .before .before .before .args .a) (c .before .before .before .before .before .before .before .before .before .args .e) (c .before .before .before .before .before .loop .k) (c .before .before .before .before .before .before .before .before .before .args .n) (c .before .before .before .before .loop-test .taken) (sym (c .before .same-name .ensures) ∙ c .if1 .left) ∙ c .before .before .before .before .before .loop .inv .1)
+loop-again c =
+    let c4 = c .before .before .before .before in
+    let c5 = c4 .before in
+    let c9 = c5 .before .before .before .before in (
+      search needs,
+      name-next (c9 .args .s .now) (c9 .args .names .now) (c9 .args .ends .now) (c9 .args .a) (c9 .args .e) (c5 .loop .k) (c9 .args .n)
+          (c4 .loop-test .taken) (sym (c .before .same-name .ensures) ∙ c .if1 .left)
+          ∙ c5 .loop .inv .1,
+    )
 
 returns-2 : tie.Need-returns-2 Inv-loop μ-loop
-returns-2 c = sym (no-name (c .before .before .before .before .before .args .s .now) (c .before .before .before .before .before .args .names .now) (c .before .before .before .before .before .args .ends .now) (c .before .before .before .before .before .args .a) (c .before .before .before .before .before .args .e) (c .before .loop .k) (c .before .before .before .before .before .args .n) (c .loop-test .left)) ∙ c .before .loop .inv .1
+returns-2 c =
+    let c5 = c .before .before .before .before .before in
+    sym
+    (no-name (c5 .args .s .now) (c5 .args .names .now) (c5 .args .ends .now) (c5 .args .a) (c5 .args .e) (c .before .loop .k)
+    (c5 .args .n) (c .loop-test .left))
+    ∙ c .before .loop .inv .1
 
 pub name-again-spec : {M : Type 1} → statement M
 name-again-spec =

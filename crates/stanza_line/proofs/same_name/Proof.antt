@@ -6,17 +6,17 @@ use Rattle.stanza_line.proofs.same_name.Reads as reads
 use Rattle.stanza_line.proofs.same_name.Lts as lts
 use Rattle.buffer.proofs.least.Reads as least-reads
 
-least-requires : tie.Need-least-requires
-least-requires c κs = search needs
-
-same-requires : tie.Need-same-requires
-same-requires c κs = search needs
-
 returns : tie.Need-returns
-returns c = same-there (c .before .before .before .before .args .s .now) (c .before .before .before .before .args .x) (c .before .before .before .before .args .y) _ (c .before .before .before .before .args .a) (c .before .before .before .before .args .e) _ (c .before .before .least .ensures) (c .before .if1 .taken) (c .same .ensures)
+returns c =
+    let c2 = c .before .before in
+    let c4 = c2 .before .before in
+    same-there (c4 .args .s .now) (c4 .args .x) (c4 .args .y) _ (c4 .args .a) (c4 .args .e) _ (c2 .least .ensures) (c .before .if1 .taken)
+    (c .same .ensures)
 
 returns-2 : tie.Need-returns-2
-returns-2 c = same-not (c .before .before .before .args .s .now) (c .before .before .before .args .x) (c .before .before .before .args .y) _ (c .before .before .before .args .a) (c .before .before .before .args .e) (c .before .least .ensures) (c .if1 .left)
+returns-2 c =
+    let c3 = c .before .before .before in
+    same-not (c3 .args .s .now) (c3 .args .x) (c3 .args .y) _ (c3 .args .a) (c3 .args .e) (c .before .least .ensures) (c .if1 .left)
 
 pub same-name-spec : {M : Type 1} → statement M
-same-name-spec = tie.close (tie.spec least-requires same-requires returns returns-2)
+same-name-spec = tie.close (tie.spec (λ c κs. search needs) (λ c κs. search needs) returns returns-2)

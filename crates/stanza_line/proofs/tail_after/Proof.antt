@@ -8,11 +8,8 @@ use Rattle.stanza_line.proofs.is_tail.Reads as is-tail-reads
 returns : tie.Need-returns
 returns c = λ l. rw (c .if1 .taken)
 
-is-tail-requires : tie.Need-is-tail-requires
-is-tail-requires c κs = search needs
-
 returns-2 : tie.Need-returns-2
 returns-2 c = λ l. rw (c .before .if1 .left) (c .is-tail .ensures l)
 
 pub tail-after-spec : {M : Type 1} → statement M
-tail-after-spec = tie.close (tie.spec returns is-tail-requires returns-2)
+tail-after-spec = tie.close (tie.spec returns (λ c κs. search needs) returns-2)

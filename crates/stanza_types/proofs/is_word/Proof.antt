@@ -39,13 +39,22 @@ loop-less : tie.Need-loop-less Inv-loop μ-loop
 loop-less c = search needs
 
 loop-again : tie.Need-loop-again Inv-loop μ-loop
-loop-again c = (search needs, c .before .before .before .before .loop .inv .1, λ l. same-on _ _ _ _ l _ (omega arith) (c .before .before .before .loop-test .taken) (c .if2 .taken) ∙ c .before .before .before .before .loop .inv .2 l)
+loop-again c =
+    let c3 = c .before .before .before in
+    let c4 = c3 .before in
+    (search needs, c4 .loop .inv .1, λ l. same-on _ _ _ _ l _ (omega arith) (c3 .loop-test .taken) (c .if2 .taken) ∙ c4 .loop .inv .2 l)
 
 returns : tie.Need-returns Inv-loop μ-loop
-returns c = sym (same-off _ _ _ _ (c .before .before .before .before .before .before .pre .1) _ (omega arith) (c .before .before .before .loop-test .taken) (c .if2 .left)) ∙ c .before .before .before .before .loop .inv .2 (c .before .before .before .before .before .before .pre .1)
+returns c =
+    let c3 = c .before .before .before in
+    let c4 = c3 .before in
+    let c6 = c4 .before .before in
+    sym (same-off _ _ _ _ (c6 .pre .1) _ (omega arith) (c3 .loop-test .taken) (c .if2 .left)) ∙ c4 .loop .inv .2 (c6 .pre .1)
 
 returns-2 : tie.Need-returns-2 Inv-loop μ-loop
-returns-2 c = sym (same-end _ _ _ _ (c .before .before .before .pre .1) _ (c .before .loop .inv .1) (c .loop-test .left)) ∙ c .before .loop .inv .2 (c .before .before .before .pre .1)
+returns-2 c =
+    let c3 = c .before .before .before in
+    sym (same-end _ _ _ _ (c3 .pre .1) _ (c .before .loop .inv .1) (c .loop-test .left)) ∙ c .before .loop .inv .2 (c3 .pre .1)
 
 returns-3 : tie.Need-returns-3 Inv-loop μ-loop
 returns-3 c = sym (same-other _ _ _ _ (c .before .pre .1) (c .before .pre .0) (c .if1 .left))

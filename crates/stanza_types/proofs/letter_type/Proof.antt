@@ -24,7 +24,23 @@ returns-6 : tie.Need-returns-6
 returns-6 c = rw (c .if6 .taken)
 
 returns-7 : tie.Need-returns-7
-returns-7 c = rw (ne-eqb (c .before .before .before .before .before .before .args .x) 78 (c .before .before .before .before .before .if1 .left), ne-eqb (c .before .before .before .before .before .before .args .x) 83 (c .before .before .before .before .if2 .left), ne-eqb (c .before .before .before .before .before .before .args .x) 65 (c .before .before .before .if3 .left), ne-eqb (c .before .before .before .before .before .before .args .x) 88 (c .before .before .if4 .left), ne-eqb (c .before .before .before .before .before .before .args .x) 82 (c .before .if5 .left), ne-eqb (c .before .before .before .before .before .before .args .x) 84 (c .if6 .left), and-false, and-false, and-false)
+returns-7 c =
+    let c2 = c .before .before in
+    let c3 = c2 .before in
+    let c4 = c3 .before in
+    let c5 = c4 .before in
+    let c6 = c5 .before in
+    rw (
+      ne-eqb (c6 .args .x) 78 (c5 .if1 .left),
+      ne-eqb (c6 .args .x) 83 (c4 .if2 .left),
+      ne-eqb (c6 .args .x) 65 (c3 .if3 .left),
+      ne-eqb (c6 .args .x) 88 (c2 .if4 .left),
+      ne-eqb (c6 .args .x) 82 (c .before .if5 .left),
+      ne-eqb (c6 .args .x) 84 (c .if6 .left),
+      and-false,
+      and-false,
+      and-false,
+    )
 
 pub letter-type-spec : {M : Type 1} → statement M
 letter-type-spec =

@@ -20,7 +20,9 @@ returns-4 : tie.Need-returns-4
 returns-4 c = rw (c .if4 .taken)
 
 returns-5 : tie.Need-returns-5
-returns-5 c = let q : c .before .before .before .before .args .w ≡ 0 = omega arith in rw q
+returns-5 c =
+    let c4 = c .before .before .before .before in
+    let q : c4 .args .w ≡ 0 = omega arith in rw q
 
 pub limit-spec : {M : Type 1} → statement M
 limit-spec = tie.close (tie.spec returns returns-2 returns-3 returns-4 returns-5)

@@ -1,4 +1,5 @@
-use Rattle.stanza_types.proofs.Meanings.{malformed, not-of-known, not-allowed, no-symbols, symbols-twice, symbols-once, no-words, words-twice, words-once, nothing-taken}
+use Rattle.stanza_types.proofs.Meanings.{malformed, not-of-known, not-allowed, no-symbols, symbols-twice, symbols-once, no-words}
+use Rattle.stanza_types.proofs.Meanings.{words-twice, words-once, nothing-taken}
 use mathlib.Core.Path.{_≡_, refl, sym, ap, _∙_}
 use native.Mathlib.Omega.{arith}
 use borrow.Author.Needs.{needs}
@@ -11,35 +12,39 @@ use Rattle.stanza_distinct.proofs.twice.Reads as twice-reads
 use Rattle.stanza_types.proofs.made.Reads as made-reads
 use Rattle.stanza_types.proofs.refused.Reads as refused-reads
 
-any-requires : tie.Need-any-requires
-any-requires c κs = search needs
-
-refused-requires : tie.Need-refused-requires
-refused-requires c κs = search needs
-
 returns : tie.Need-returns
-returns c = c .refused .ensures ∙ no-words (c .before .before .before .before .args .w) (c .before .before .before .before .args .s .now) (c .before .before .before .before .args .a) (c .before .before .before .before .args .b) (sym (c .before .before .any .ensures) ∙ c .before .if1 .taken)
-
-twice-requires : tie.Need-twice-requires
-twice-requires c κs = search needs
+returns c =
+    let c2 = c .before .before in
+    let c4 = c2 .before .before in
+    c .refused .ensures
+    ∙ no-words (c4 .args .w) (c4 .args .s .now) (c4 .args .a) (c4 .args .b) (sym (c2 .any .ensures) ∙ c .before .if1 .taken)
 
 returns-2 : tie.Need-returns-2
-returns-2 c = words-twice (c .before .before .before .before .before .args .w) (c .before .before .before .before .before .args .s .now) (c .before .before .before .before .before .args .a) (c .before .before .before .before .before .args .b) (sym (c .before .before .before .any .ensures) ∙ c .before .before .if1 .left) (sym (c .before .twice .ensures) ∙ c .if2 .taken)
-
-made-requires : tie.Need-made-requires
-made-requires c κs = search needs
+returns-2 c =
+    let c2 = c .before .before in
+    let c3 = c2 .before in
+    let c5 = c3 .before .before in
+    words-twice (c5 .args .w) (c5 .args .s .now) (c5 .args .a) (c5 .args .b) (sym (c3 .any .ensures) ∙ c2 .if1 .left)
+    (sym (c .before .twice .ensures) ∙ c .if2 .taken)
 
 returns-3 : tie.Need-returns-3
-returns-3 c = rw (c .made .ensures) (words-once (c .before .before .before .before .before .before .args .w) (c .before .before .before .before .before .before .args .s .now) (c .before .before .before .before .before .before .args .a) (c .before .before .before .before .before .before .args .b) (sym (c .before .before .before .before .any .ensures) ∙ c .before .before .before .if1 .left) (sym (c .before .before .twice .ensures) ∙ c .before .if2 .left))
+returns-3 c =
+    let c2 = c .before .before in
+    let c3 = c2 .before in
+    let c4 = c3 .before in
+    let c6 = c4 .before .before in
+    rw (c .made .ensures)
+    (words-once (c6 .args .w) (c6 .args .s .now) (c6 .args .a) (c6 .args .b) (sym (c4 .any .ensures) ∙ c3 .if1 .left)
+    (sym (c2 .twice .ensures) ∙ c .before .if2 .left))
 
 pub listed-meant-spec : {M : Type 1} → statement M
 listed-meant-spec =
     tie.close
     (tie.spec
-    any-requires
-    refused-requires
+    (λ c κs. search needs)
+    (λ c κs. search needs)
     returns
-    twice-requires
+    (λ c κs. search needs)
     returns-2
-    made-requires
+    (λ c κs. search needs)
     returns-3)

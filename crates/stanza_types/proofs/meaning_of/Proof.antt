@@ -11,21 +11,20 @@ use Rattle.stanza_types.proofs.plain_meant.Reads as plain-meant-reads
 use Rattle.stanza_types.proofs.qualified.Reads as qualified-reads
 use Rattle.stanza_types.proofs.type_of.Reads as type-of-reads
 
-type-of-requires : tie.Need-type-of-requires
-type-of-requires c κs = search needs
-
-plain-meant-requires : tie.Need-plain-meant-requires
-plain-meant-requires c κs = search needs
-
 returns : tie.Need-returns
-returns c = plain-in (slice (c .before .before .before .before .args .k) (c .before .before .before .before .args .e) (c .before .before .before .before .args .s .now)) (c .before .before .before .before .args .s .now) (c .before .before .before .before .args .a) (c .before .before .before .before .args .b) _ (c .before .before .type-of .ensures) (c .plain-meant .result) (c .before .if1 .taken) (c .plain-meant .ensures)
-
-qualified-requires : tie.Need-qualified-requires
-qualified-requires c κs = search needs
+returns c =
+    let c2 = c .before .before in
+    let c4 = c2 .before .before in
+    plain-in (slice (c4 .args .k) (c4 .args .e) (c4 .args .s .now)) (c4 .args .s .now) (c4 .args .a) (c4 .args .b) _ (c2 .type-of .ensures)
+    (c .plain-meant .result) (c .before .if1 .taken) (c .plain-meant .ensures)
 
 returns-2 : tie.Need-returns-2
-returns-2 c = qualified-in (slice (c .before .before .before .before .args .k) (c .before .before .before .before .args .e) (c .before .before .before .before .args .s .now)) (c .before .before .before .before .args .s .now) (c .before .before .before .before .args .a) (c .before .before .before .before .args .b) _ (c .before .before .type-of .ensures) (c .qualified .result) (c .before .if1 .left) (c .qualified .ensures)
+returns-2 c =
+    let c2 = c .before .before in
+    let c4 = c2 .before .before in
+    qualified-in (slice (c4 .args .k) (c4 .args .e) (c4 .args .s .now)) (c4 .args .s .now) (c4 .args .a) (c4 .args .b) _
+    (c2 .type-of .ensures) (c .qualified .result) (c .before .if1 .left) (c .qualified .ensures)
 
 pub meaning-of-spec : {M : Type 1} → statement M
 meaning-of-spec =
-    tie.close (tie.spec type-of-requires plain-meant-requires returns qualified-requires returns-2)
+    tie.close (tie.spec (λ c κs. search needs) (λ c κs. search needs) returns (λ c κs. search needs) returns-2)

@@ -8,10 +8,9 @@ returns : tie.Need-returns
 returns c = λ s a b e. rw (letter-alone s a b (c .before .args .x) 77 (c .if1 .taken) e)
 
 returns-2 : tie.Need-returns-2
-returns-2 c = λ s a b e. rw (letter-alone s a b (c .before .before .args .x) 88 (c .if2 .taken) e)
-
-returns-3 : tie.Need-returns-3
-returns-3 c = search needs
+returns-2 c =
+    let c2 = c .before .before in
+    λ s a b e. rw (letter-alone s a b (c2 .args .x) 88 (c .if2 .taken) e)
 
 pub string-by-letter-spec : {M : Type 1} → statement M
-string-by-letter-spec = tie.close (tie.spec returns returns-2 returns-3)
+string-by-letter-spec = tie.close (tie.spec returns returns-2 (λ c. search needs))

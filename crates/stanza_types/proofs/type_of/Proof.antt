@@ -8,31 +8,28 @@ use borrow.Author.Needs.{needs}
 use Rattle.stanza_types.proofs.type_of.Statement.{statement}
 use Rattle.stanza_types.proofs.type_of.Tie as tie
 
-sub-if1 : tie.Need-sub-if1
-sub-if1 c = search needs
-
-shared-slice-read-letter-type : tie.Need-shared-slice-read-letter-type
-shared-slice-read-letter-type c = search needs
-
-letter-type-requires : tie.Need-letter-type-requires
-letter-type-requires c κs = search needs
-
 returns : tie.Need-returns
-returns c = c .letter-type .ensures ∙ ap (takesOf typeRows) (sym (letter-word (c .before .before .before .before .args .s .now) (c .before .before .before .before .args .a) (c .before .before .before .before .args .e) (omega arith) (c .before .before .before .before .pre .1) (c .before .before .if1 .taken)))
-
-word-type-requires : tie.Need-word-type-requires
-word-type-requires c κs = search needs
+returns c =
+    let c2 = c .before .before in
+    let c4 = c2 .before .before in
+    c .letter-type .ensures
+    ∙ ap (takesOf typeRows) (sym (letter-word (c4 .args .s .now) (c4 .args .a) (c4 .args .e) (omega arith) (c4 .pre .1) (c2 .if1 .taken)))
 
 returns-2 : tie.Need-returns-2
-returns-2 c = c .word-type .ensures ∙ sym (longer-only typeRows (slice (c .before .before .before .args .a) (c .before .before .before .args .e) (c .before .before .before .args .s .now)) (λ q. c .before .if1 .left (sym (length-slice (c .before .before .before .args .a) (c .before .before .before .args .e) (c .before .before .before .args .s .now) (c .before .before .before .pre .1)) ∙ q)))
+returns-2 c =
+    let c3 = c .before .before .before in
+    c .word-type .ensures
+    ∙ sym
+    (longer-only typeRows (slice (c3 .args .a) (c3 .args .e) (c3 .args .s .now))
+    (λ q. c .before .if1 .left (sym (length-slice (c3 .args .a) (c3 .args .e) (c3 .args .s .now) (c3 .pre .1)) ∙ q)))
 
 pub type-of-spec : {M : Type 1} → statement M
 type-of-spec =
     tie.close
     (tie.spec
-    sub-if1
-    shared-slice-read-letter-type
-    letter-type-requires
+    (λ c. search needs)
+    (λ c. search needs)
+    (λ c κs. search needs)
     returns
-    word-type-requires
+    (λ c κs. search needs)
     returns-2)

@@ -4,39 +4,25 @@ use borrow.Author.Needs.{needs}
 use Rattle.stanza_words.proofs.any.Statement.{statement}
 use Rattle.stanza_words.proofs.any.Tie as tie
 
-sub-if1 : tie.Need-sub-if1
-sub-if1 c = search needs
-
-shared-slice-read-is-in : tie.Need-shared-slice-read-is-in
-shared-slice-read-is-in c = search needs
-
-is-in-requires : tie.Need-is-in-requires
-is-in-requires c κs = search needs
-
-shared-slice-read-holds-letter : tie.Need-shared-slice-read-holds-letter
-shared-slice-read-holds-letter c = search needs
-
-holds-letter-requires : tie.Need-holds-letter-requires
-holds-letter-requires c κs = search needs
-
 returns : tie.Need-returns
-returns c = c .holds-letter .ensures ∙ any-letter (c .before .before .before .before .before .before .before .args .s .now) (c .before .before .before .before .before .before .before .args .a) (c .before .before .before .before .before .before .before .args .b) (c .before .before .before .before .before .before .before .pre .0) (c .before .before .before .before .before .before .before .pre .1) (c .before .before .before .before .before .if1 .taken) (sym (c .before .before .before .is-in .ensures) ∙ c .before .before .if2 .taken) (c .before .before .before .before .before .before .before .args .t)
-
-any-of-requires : tie.Need-any-of-requires
-any-of-requires c κs = search needs
-
-returns-2 : tie.Need-returns-2
-returns-2 c = search needs
+returns c =
+    let c2 = c .before .before in
+    let c3 = c2 .before in
+    let c5 = c3 .before .before in
+    let c7 = c5 .before .before in
+    c .holds-letter .ensures
+    ∙ any-letter (c7 .args .s .now) (c7 .args .a) (c7 .args .b) (c7 .pre .0) (c7 .pre .1) (c5 .if1 .taken)
+    (sym (c3 .is-in .ensures) ∙ c2 .if2 .taken) (c7 .args .t)
 
 pub any-spec : {M : Type 1} → statement M
 any-spec =
     tie.close
     (tie.spec
-    sub-if1
-    shared-slice-read-is-in
-    is-in-requires
-    shared-slice-read-holds-letter
-    holds-letter-requires
+    (λ c. search needs)
+    (λ c. search needs)
+    (λ c κs. search needs)
+    (λ c. search needs)
+    (λ c κs. search needs)
     returns
-    any-of-requires
-    returns-2)
+    (λ c κs. search needs)
+    (λ c. search needs))

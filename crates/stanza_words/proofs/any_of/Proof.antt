@@ -21,22 +21,56 @@ skip-requires : tie.Need-skip-requires Inv-loop μ-loop
 skip-requires c κs = search needs
 
 holds-requires : tie.Need-holds-requires Inv-loop μ-loop
-holds-requires c κs = (omega arith, omega (arith, within _ _ _ _ (c .before .loop .inv .0) (c .before .before .before .pre .1) (c .skip .ensures)))
+holds-requires c κs =
+    let c3 = c .before .before .before in
+    (omega arith, omega (arith, within _ _ _ _ (c .before .loop .inv .0) (c3 .pre .1) (c .skip .ensures)))
 
 returns : tie.Need-returns Inv-loop μ-loop
-returns c = sym (any-found _ _ _ _ (c .before .before .before .loop .inv .0) (c .before .before .before .before .before .pre .1) (c .before .before .skip .ensures) (λ p. holdsOf (c .before .before .before .before .before .args .t) (qualifier p)) (sym (c .before .holds .ensures) ∙ c .if1 .taken)) ∙ c .before .before .before .loop .inv .1
+returns c =
+    let c2 = c .before .before in
+    let c3 = c2 .before in
+    let c5 = c3 .before .before in
+    sym
+    (any-found _ _ _ _ (c3 .loop .inv .0) (c5 .pre .1) (c2 .skip .ensures) (λ p. holdsOf (c5 .args .t) (qualifier p))
+    (sym (c .before .holds .ensures) ∙ c .if1 .taken))
+    ∙ c3 .loop .inv .1
 
 returns-2 : tie.Need-returns-2 Inv-loop μ-loop
-returns-2 c = sym (any-last _ _ _ _ (c .before .before .before .before .loop .inv .0) (c .before .before .before .before .before .before .pre .1) (c .before .before .before .skip .ensures) (λ p. holdsOf (c .before .before .before .before .before .before .args .t) (qualifier p)) (c .if2 .taken) (sym (c .before .before .holds .ensures) ∙ c .before .if1 .left)) ∙ c .before .before .before .before .loop .inv .1
+returns-2 c =
+    let c2 = c .before .before in
+    let c3 = c2 .before in
+    let c4 = c3 .before in
+    let c6 = c4 .before .before in
+    sym
+    (any-last _ _ _ _ (c4 .loop .inv .0) (c6 .pre .1) (c3 .skip .ensures) (λ p. holdsOf (c6 .args .t) (qualifier p)) (c .if2 .taken)
+    (sym (c2 .holds .ensures) ∙ c .before .if1 .left))
+    ∙ c4 .loop .inv .1
 
 add-i : tie.Need-add-i Inv-loop μ-loop
-add-i c = omega (arith, within _ _ _ _ (c .before .before .before .before .loop .inv .0) (c .before .before .before .before .before .before .pre .1) (c .before .before .before .skip .ensures))
+add-i c =
+    let c3 = c .before .before .before in
+    let c4 = c3 .before in
+    let c6 = c4 .before .before in
+    omega (arith, within _ _ _ _ (c4 .loop .inv .0) (c6 .pre .1) (c3 .skip .ensures))
 
 loop-less : tie.Need-loop-less Inv-loop μ-loop
-loop-less c = omega (arith, within _ _ _ _ (c .before .before .before .before .loop .inv .0) (c .before .before .before .before .before .before .pre .1) (c .before .before .before .skip .ensures))
+loop-less c =
+    let c3 = c .before .before .before in
+    let c4 = c3 .before in
+    let c6 = c4 .before .before in
+    omega (arith, within _ _ _ _ (c4 .loop .inv .0) (c6 .pre .1) (c3 .skip .ensures))
 
 loop-again : tie.Need-loop-again Inv-loop μ-loop
-loop-again c = (omega (arith, within _ _ _ _ (c .before .before .before .before .loop .inv .0) (c .before .before .before .before .before .before .pre .1) (c .before .before .before .skip .ensures)), any-next _ _ _ _ (c .before .before .before .before .loop .inv .0) (c .before .before .before .before .before .before .pre .1) (c .before .before .before .skip .ensures) (λ p. holdsOf (c .before .before .before .before .before .before .args .t) (qualifier p)) (c .if2 .left) (sym (c .before .before .holds .ensures) ∙ c .before .if1 .left) ∙ c .before .before .before .before .loop .inv .1)
+loop-again c =
+    let c2 = c .before .before in
+    let c3 = c2 .before in
+    let c4 = c3 .before in
+    let c6 = c4 .before .before in (
+      omega (arith, within _ _ _ _ (c4 .loop .inv .0) (c6 .pre .1) (c3 .skip .ensures)),
+      any-next _ _ _ _ (c4 .loop .inv .0) (c6 .pre .1) (c3 .skip .ensures) (λ p. holdsOf (c6 .args .t) (qualifier p)) (c .if2 .left)
+          (sym (c2 .holds .ensures) ∙ c .before .if1 .left)
+          ∙ c4 .loop .inv .1,
+    )
 
 pub any-of-spec : {M : Type 1} → statement M
 any-of-spec =

@@ -9,7 +9,8 @@ use Rattle.stanza_words.proofs.same.Statement.{statement}
 use Rattle.stanza_words.proofs.same.Tie as tie
 
 abbrev Inv-loop : tie.InvT-loop
-Inv-loop ignoring s a e t b f i₀ j₀ i j = (i ≤ e) × (j ≤ f) × (e - i ≡ f - j) × (sameBy ignoring (slice i e s) (slice j f t) ≡ sameBy ignoring (slice a e s) (slice b f t))
+Inv-loop ignoring s a e t b f i₀ j₀ i j =
+    (i ≤ e) × (j ≤ f) × (e - i ≡ f - j) × (sameBy ignoring (slice i e s) (slice j f t) ≡ sameBy ignoring (slice a e s) (slice b f t))
 
 abbrev μ-loop : tie.MeasureT-loop
 μ-loop ignoring s a e t b f i₀ j₀ i j = e - i
@@ -21,7 +22,10 @@ sub-if1-2 : tie.Need-sub-if1-2 Inv-loop μ-loop
 sub-if1-2 c = search needs
 
 returns : tie.Need-returns Inv-loop μ-loop
-returns c = same-lengths (c .before .before .before .args .ignoring) (c .before .before .before .args .s .now) (c .before .before .before .args .t .now) (c .before .before .before .args .a) (c .before .before .before .args .e) (c .before .before .before .args .b) (c .before .before .before .args .f) (c .before .before .before .pre .1) (c .before .before .before .pre .3) (c .if1 .taken)
+returns c =
+    let c3 = c .before .before .before in
+    same-lengths (c3 .args .ignoring) (c3 .args .s .now) (c3 .args .t .now) (c3 .args .a) (c3 .args .e) (c3 .args .b) (c3 .args .f)
+    (c3 .pre .1) (c3 .pre .3) (c .if1 .taken)
 
 loop-holds : tie.Need-loop-holds Inv-loop μ-loop
 loop-holds c = (search needs, search needs, search needs, refl)
@@ -39,7 +43,14 @@ fold-requires-2 : tie.Need-fold-requires-2 Inv-loop μ-loop
 fold-requires-2 c κs = search needs
 
 returns-2 : tie.Need-returns-2 Inv-loop μ-loop
-returns-2 c = same-off (c .before .before .before .before .before .before .before .before .before .before .args .ignoring) (c .before .before .before .before .before .before .before .before .before .before .args .s .now) (c .before .before .before .before .before .before .before .before .before .before .args .t .now) (c .before .before .before .before .before .before .loop .i) (c .before .before .before .before .before .before .before .before .before .before .args .e) (c .before .before .before .before .before .before .loop .j) (c .before .before .before .before .before .before .before .before .before .before .args .f) _ _ (c .before .before .before .before .before .loop-test .taken) (c .before .before .before .before .before .before .before .before .before .before .pre .1) (omega arith) (c .before .before .before .before .before .before .before .before .before .before .pre .3) (c .before .before .before .fold .ensures) (c .before .fold2 .ensures) (c .if2 .taken) ∙ c .before .before .before .before .before .before .loop .inv .3
+returns-2 c =
+    let c3 = c .before .before .before in
+    let c5 = c3 .before .before in
+    let c6 = c5 .before in
+    let c10 = c6 .before .before .before .before in
+    same-off (c10 .args .ignoring) (c10 .args .s .now) (c10 .args .t .now) (c6 .loop .i) (c10 .args .e) (c6 .loop .j) (c10 .args .f) _ _
+    (c5 .loop-test .taken) (c10 .pre .1) (omega arith) (c10 .pre .3) (c3 .fold .ensures) (c .before .fold2 .ensures) (c .if2 .taken)
+    ∙ c6 .loop .inv .3
 
 add-i : tie.Need-add-i Inv-loop μ-loop
 add-i c = search needs
@@ -51,10 +62,25 @@ loop-less : tie.Need-loop-less Inv-loop μ-loop
 loop-less c = search needs
 
 loop-again : tie.Need-loop-again Inv-loop μ-loop
-loop-again c = (search needs, search needs, search needs, same-on (c .before .before .before .before .before .before .before .before .before .before .args .ignoring) (c .before .before .before .before .before .before .before .before .before .before .args .s .now) (c .before .before .before .before .before .before .before .before .before .before .args .t .now) (c .before .before .before .before .before .before .loop .i) (c .before .before .before .before .before .before .before .before .before .before .args .e) (c .before .before .before .before .before .before .loop .j) (c .before .before .before .before .before .before .before .before .before .before .args .f) _ _ (c .before .before .before .before .before .loop-test .taken) (c .before .before .before .before .before .before .before .before .before .before .pre .1) (omega arith) (c .before .before .before .before .before .before .before .before .before .before .pre .3) (c .before .before .before .fold .ensures) (c .before .fold2 .ensures) (c .if2 .left) ∙ c .before .before .before .before .before .before .loop .inv .3)
+loop-again c =
+    let c3 = c .before .before .before in
+    let c5 = c3 .before .before in
+    let c6 = c5 .before in
+    let c10 = c6 .before .before .before .before in (
+      search needs,
+      search needs,
+      search needs,
+      same-on (c10 .args .ignoring) (c10 .args .s .now) (c10 .args .t .now) (c6 .loop .i) (c10 .args .e) (c6 .loop .j) (c10 .args .f) _ _
+          (c5 .loop-test .taken) (c10 .pre .1) (omega arith) (c10 .pre .3) (c3 .fold .ensures) (c .before .fold2 .ensures) (c .if2 .left)
+          ∙ c6 .loop .inv .3,
+    )
 
 returns-3 : tie.Need-returns-3 Inv-loop μ-loop
-returns-3 c = same-end (c .before .before .before .before .before .args .ignoring) (c .before .before .before .before .before .args .s .now) (c .before .before .before .before .before .args .t .now) (c .before .loop .i) (c .before .before .before .before .before .args .e) (c .before .loop .j) (c .before .before .before .before .before .args .f) (c .loop-test .left) (omega arith) ∙ c .before .loop .inv .3
+returns-3 c =
+    let c5 = c .before .before .before .before .before in
+    same-end (c5 .args .ignoring) (c5 .args .s .now) (c5 .args .t .now) (c .before .loop .i) (c5 .args .e) (c .before .loop .j)
+    (c5 .args .f) (c .loop-test .left) (omega arith)
+    ∙ c .before .loop .inv .3
 
 pub same-spec : {M : Type 1} → statement M
 same-spec =

@@ -6,39 +6,31 @@ use borrow.Author.Needs.{needs}
 use Rattle.tokens.proofs.escape_at.Statement.{statement}
 use Rattle.tokens.proofs.escape_at.Tie as tie
 
-sub-if1 : tie.Need-sub-if1
-sub-if1 c = search needs
-
 returns : tie.Need-returns
-returns c = short (drop (c .before .before .args .j) (c .before .before .args .t .now)) (omega (arith, length-drop (c .before .before .args .j) (c .before .before .args .t .now)))
-
-shared-slice-read-if2 : tie.Need-shared-slice-read-if2
-shared-slice-read-if2 c = search needs
+returns c =
+    let c2 = c .before .before in
+    short (drop (c2 .args .j) (c2 .args .t .now)) (omega (arith, length-drop (c2 .args .j) (c2 .args .t .now)))
 
 returns-2 : tie.Need-returns-2
-returns-2 c = rw (next-two (c .before .before .before .before .args .t .now) (c .before .before .before .before .args .j) (search needs), ne-eqb _ _ (c .if2 .taken))
-
-add-is-text : tie.Need-add-is-text
-add-is-text c = search needs
-
-shared-slice-read-is-text : tie.Need-shared-slice-read-is-text
-shared-slice-read-is-text c = search needs
-
-is-text-requires : tie.Need-is-text-requires
-is-text-requires c κs = search needs
+returns-2 c =
+    let c4 = c .before .before .before .before in
+    rw (next-two (c4 .args .t .now) (c4 .args .j) (search needs), ne-eqb _ _ (c .if2 .taken))
 
 returns-3 : tie.Need-returns-3
-returns-3 c = rw (next-two (c .before .before .before .before .before .before .args .t .now) (c .before .before .before .before .before .before .args .j) (search needs), eq-eqb _ _ (c .before .before .if2 .left)) (c .is-text .ensures)
+returns-3 c =
+    let c2 = c .before .before in
+    let c6 = c2 .before .before .before .before in
+    rw (next-two (c6 .args .t .now) (c6 .args .j) (search needs), eq-eqb _ _ (c2 .if2 .left)) (c .is-text .ensures)
 
 pub escape-at-spec : {M : Type 1} → statement M
 escape-at-spec =
     tie.close
     (tie.spec
-    sub-if1
+    (λ c. search needs)
     returns
-    shared-slice-read-if2
+    (λ c. search needs)
     returns-2
-    add-is-text
-    shared-slice-read-is-text
-    is-text-requires
+    (λ c. search needs)
+    (λ c. search needs)
+    (λ c κs. search needs)
     returns-3)

@@ -6,14 +6,10 @@ use Rattle.tokens.proofs.parted_at.Tie as tie
 returns : tie.Need-returns
 returns c = rw (none _ _ (c .if1 .taken))
 
-shared-slice-read-is-in : tie.Need-shared-slice-read-is-in
-shared-slice-read-is-in c = search needs
-
-is-in-requires : tie.Need-is-in-requires
-is-in-requires c κs = search needs
-
 returns-2 : tie.Need-returns-2
-returns-2 c = rw (next _ _ (c .before .before .if1 .left)) (c .is-in .ensures)
+returns-2 c =
+    let c2 = c .before .before in
+    rw (next _ _ (c2 .if1 .left)) (c .is-in .ensures)
 
 pub parted-at-spec : {M : Type 1} → statement M
-parted-at-spec = tie.close (tie.spec returns shared-slice-read-is-in is-in-requires returns-2)
+parted-at-spec = tie.close (tie.spec returns (λ c. search needs) (λ c κs. search needs) returns-2)

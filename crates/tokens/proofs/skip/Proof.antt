@@ -6,21 +6,23 @@ use borrow.Author.Needs.{needs}
 use Rattle.tokens.proofs.skip.Statement.{statement}
 use Rattle.tokens.proofs.skip.Tie as tie
 
-near-requires : tie.Need-near-requires
-near-requires c κs = search needs
-
-skip-to-requires : tie.Need-skip-to-requires
-skip-to-requires c κs = search needs
-
 returns : tie.Need-returns
-returns c = c .before .skip-to .ensures ∙ part-front (standing (c .before .before .before .before .args .q)) (c .before .before .before .before .args .t .now) (c .before .before .before .before .args .i) (c .before .before .near .result) (c .before .before .near .ensures .0) (c .before .before .near .ensures .1) (omega (arith, c .before .skip-to .ensures))
-
-skip-long-requires : tie.Need-skip-long-requires
-skip-long-requires c κs = search needs
+returns c =
+    let c2 = c .before .before in
+    let c4 = c2 .before .before in
+    c .before .skip-to .ensures
+    ∙ part-front (standing (c4 .args .q)) (c4 .args .t .now) (c4 .args .i) (c2 .near .result) (c2 .near .ensures .0) (c2 .near .ensures .1)
+    (omega (arith, c .before .skip-to .ensures))
 
 returns-2 : tie.Need-returns-2
-returns-2 c = c .skip-long .ensures ∙ whole-front (standing (c .before .before .before .before .before .args .q)) (c .before .before .before .before .before .args .t .now) (c .before .before .before .before .before .args .i) (c .before .before .before .near .result) (c .before .before .before .near .ensures .0) (c .before .before .before .near .ensures .1) (omega (arith, c .before .before .skip-to .ensures))
+returns-2 c =
+    let c2 = c .before .before in
+    let c3 = c2 .before in
+    let c5 = c3 .before .before in
+    c .skip-long .ensures
+    ∙ whole-front (standing (c5 .args .q)) (c5 .args .t .now) (c5 .args .i) (c3 .near .result) (c3 .near .ensures .0) (c3 .near .ensures .1)
+    (omega (arith, c2 .skip-to .ensures))
 
 pub skip-spec : {M : Type 1} → statement M
 skip-spec =
-    tie.close (tie.spec near-requires skip-to-requires returns skip-long-requires returns-2)
+    tie.close (tie.spec (λ c κs. search needs) (λ c κs. search needs) returns (λ c κs. search needs) returns-2)

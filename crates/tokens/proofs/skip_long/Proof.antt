@@ -21,19 +21,33 @@ block-at-requires : tie.Need-block-at-requires Inv-loop μ-loop
 block-at-requires c κs = search needs
 
 add-j : tie.Need-add-j Inv-loop μ-loop
-add-j c = omega (arith, block-within (c .before .before .before .before .args .q) (c .before .before .before .before .args .t .now) (c .before .before .loop .j) (sym (c .before .block-at .ensures) ∙ c .if1 .taken))
+add-j c =
+    let c2 = c .before .before in
+    let c4 = c2 .before .before in
+    omega (arith, block-within (c4 .args .q) (c4 .args .t .now) (c2 .loop .j) (sym (c .before .block-at .ensures) ∙ c .if1 .taken))
 
 loop-less : tie.Need-loop-less Inv-loop μ-loop
-loop-less c = omega (arith, block-within (c .before .before .before .before .args .q) (c .before .before .before .before .args .t .now) (c .before .before .loop .j) (sym (c .before .block-at .ensures) ∙ c .if1 .taken))
+loop-less c =
+    let c2 = c .before .before in
+    let c4 = c2 .before .before in
+    omega (arith, block-within (c4 .args .q) (c4 .args .t .now) (c2 .loop .j) (sym (c .before .block-at .ensures) ∙ c .if1 .taken))
 
 loop-again : tie.Need-loop-again Inv-loop μ-loop
-loop-again c = let e = sym (c .before .block-at .ensures) ∙ c .if1 .taken in (block-within (c .before .before .before .before .args .q) (c .before .before .before .before .args .t .now) (c .before .before .loop .j) e, block-front (c .before .before .before .before .args .q) (c .before .before .before .before .args .t .now) (c .before .before .loop .j) e ∙ c .before .before .loop .inv .1)
+loop-again c =
+    let c2 = c .before .before in
+    let c4 = c2 .before .before in
+    let e = sym (c .before .block-at .ensures) ∙ c .if1 .taken in (
+      block-within (c4 .args .q) (c4 .args .t .now) (c2 .loop .j) e,
+      block-front (c4 .args .q) (c4 .args .t .now) (c2 .loop .j) e ∙ c2 .loop .inv .1,
+    )
 
 skip-to-requires : tie.Need-skip-to-requires Inv-loop μ-loop
 skip-to-requires c κs = search needs
 
 returns : tie.Need-returns Inv-loop μ-loop
-returns c = c .skip-to .ensures ∙ c .before .before .before .loop .inv .1
+returns c =
+    let c3 = c .before .before .before in
+    c .skip-to .ensures ∙ c3 .loop .inv .1
 
 pub skip-long-spec : {M : Type 1} → statement M
 skip-long-spec =

@@ -18,7 +18,9 @@ skip-requires : tie.Need-skip-requires Inv-loop μ-loop
 skip-requires c κs = search needs
 
 loop-holds : tie.Need-loop-holds Inv-loop μ-loop
-loop-holds c = (kept-run _ _ _ _ _ (c .skip .ensures) (kept-none _ _ _ (c .before .before .pre .0)), front-stops _ _ _ _ (c .before .before .pre .0) (c .skip .ensures))
+loop-holds c =
+    let c2 = c .before .before in
+    (kept-run _ _ _ _ _ (c .skip .ensures) (kept-none _ _ _ (c2 .pre .0)), front-stops _ _ _ _ (c2 .pre .0) (c .skip .ensures))
 
 escape-at-requires : tie.Need-escape-at-requires Inv-loop μ-loop
 escape-at-requires c κs = search needs
@@ -27,19 +29,38 @@ add-skip : tie.Need-add-skip Inv-loop μ-loop
 add-skip c = search needs
 
 skip-requires-2 : tie.Need-skip-requires-2 Inv-loop μ-loop
-skip-requires-2 c κs = escape-within (c .before .before .before .before .before .args .t .now) (c .before .before .loop .j) (sym (c .before .escape-at .ensures) ∙ c .if1 .taken)
+skip-requires-2 c κs =
+    let c2 = c .before .before in
+    let c5 = c2 .before .before .before in
+    escape-within (c5 .args .t .now) (c2 .loop .j) (sym (c .before .escape-at .ensures) ∙ c .if1 .taken)
 
 loop-less : tie.Need-loop-less Inv-loop μ-loop
-loop-less c = omega (arith, c .skip2 .ensures, escape-within (c .before .before .before .before .before .before .args .t .now) (c .before .before .before .loop .j) (sym (c .before .before .escape-at .ensures) ∙ c .before .if1 .taken))
+loop-less c =
+    let c2 = c .before .before in
+    let c3 = c2 .before in
+    let c6 = c3 .before .before .before in
+    omega (arith, c .skip2 .ensures, escape-within (c6 .args .t .now) (c3 .loop .j) (sym (c2 .escape-at .ensures) ∙ c .before .if1 .taken))
 
 loop-again : tie.Need-loop-again Inv-loop μ-loop
-loop-again c = let k = kept-escape _ _ _ _ (c .before .before .before .loop .inv .0) (c .before .before .before .before .before .before .pre .1) (sym (c .before .before .escape-at .ensures) ∙ c .before .if1 .taken) in (kept-run _ _ _ _ _ (c .skip2 .ensures) k, front-stops _ _ _ _ (k .within) (c .skip2 .ensures))
+loop-again c =
+    let c2 = c .before .before in
+    let c3 = c2 .before in
+    let c6 = c3 .before .before .before in
+    let k = kept-escape _ _ _ _ (c3 .loop .inv .0) (c6 .pre .1) (sym (c2 .escape-at .ensures) ∙ c .before .if1 .taken) in
+    (kept-run _ _ _ _ _ (c .skip2 .ensures) k, front-stops _ _ _ _ (k .within) (c .skip2 .ensures))
 
 ended-requires : tie.Need-ended-requires Inv-loop μ-loop
 ended-requires c κs = search needs
 
 returns : tie.Need-returns Inv-loop μ-loop
-returns c = rw (c .ended .ensures) (token-ended _ _ _ _ (c .before .before .before .before .before .before .pre .1) (c .before .before .before .loop .inv .0) (c .before .before .before .loop .inv .1) (sym (c .before .before .escape-at .ensures) ∙ c .before .if1 .left), token-from _ _ _ _ (c .before .before .before .loop .inv .0))
+returns c =
+    let c2 = c .before .before in
+    let c3 = c2 .before in
+    let c6 = c3 .before .before .before in
+    rw (c .ended .ensures) (
+      token-ended _ _ _ _ (c6 .pre .1) (c3 .loop .inv .0) (c3 .loop .inv .1) (sym (c2 .escape-at .ensures) ∙ c .before .if1 .left),
+      token-from _ _ _ _ (c3 .loop .inv .0),
+    )
 
 pub token-spec : {M : Type 1} → statement M
 token-spec =

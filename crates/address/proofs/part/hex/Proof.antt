@@ -24,16 +24,33 @@ hex-value-requires : tie.Need-hex-value-requires Inv-loop μ-loop
 hex-value-requires c κs = search needs
 
 returns : tie.Need-returns Inv-loop μ-loop
-returns c = ap numberOf (sym (sym (hex-start (slice (c .before .before .before .before .before .before .args .i) (c .before .before .before .before .before .before .args .e) (c .before .before .before .before .before .before .args .t .now))) ∙ sym (c .before .before .before .before .loop .inv .3) ∙ hex-off (c .before .before .before .before .before .before .args .t .now) _ _ _ _ (c .before .before .before .loop-test .taken) (c .before .before .before .before .before .before .pre .1) (omega (arith, c .before .before .shared-slice-known2 .given (c .before .before .before .before .loop .j))) (c .before .hex-value .ensures) (c .if1 .taken)))
+returns c =
+    let c2 = c .before .before in
+    let c3 = c2 .before in
+    let c4 = c3 .before in
+    let c6 = c4 .before .before in
+    ap numberOf
+    (sym
+    (sym (hex-start (slice (c6 .args .i) (c6 .args .e) (c6 .args .t .now))) ∙ sym (c4 .loop .inv .3)
+    ∙ hex-off (c6 .args .t .now) _ _ _ _ (c3 .loop-test .taken) (c6 .pre .1)
+    (omega (arith, c2 .shared-slice-known2 .given (c4 .loop .j))) (c .before .hex-value .ensures) (c .if1 .taken)))
 
 mul-v : tie.Need-mul-v Inv-loop μ-loop
-mul-v c = omega (arith, hex-fits (c .before .before .before .before .loop .v) (c .before .before .before .before .loop .j - c .before .before .before .before .before .before .args .i) (omega (arith, c .before .before .before .loop-test .taken, c .before .before .before .before .before .before .pre .2)) (c .before .before .before .before .loop .inv .2))
+mul-v c =
+    let c3 = c .before .before .before in
+    let c4 = c3 .before in
+    let c6 = c4 .before .before in
+    omega (arith, hex-fits (c4 .loop .v) (c4 .loop .j - c6 .args .i) (omega (arith, c3 .loop-test .taken, c6 .pre .2)) (c4 .loop .inv .2))
 
 cast-v : tie.Need-cast-v Inv-loop μ-loop
 cast-v c = search needs
 
 add-v : tie.Need-add-v Inv-loop μ-loop
-add-v c = omega (arith, hex-fits (c .before .before .before .before .loop .v) (c .before .before .before .before .loop .j - c .before .before .before .before .before .before .args .i) (omega (arith, c .before .before .before .loop-test .taken, c .before .before .before .before .before .before .pre .2)) (c .before .before .before .before .loop .inv .2))
+add-v c =
+    let c3 = c .before .before .before in
+    let c4 = c3 .before in
+    let c6 = c4 .before .before in
+    omega (arith, hex-fits (c4 .loop .v) (c4 .loop .j - c6 .args .i) (omega (arith, c3 .loop-test .taken, c6 .pre .2)) (c4 .loop .inv .2))
 
 add-j : tie.Need-add-j Inv-loop μ-loop
 add-j c = search needs
@@ -42,10 +59,28 @@ loop-less : tie.Need-loop-less Inv-loop μ-loop
 loop-less c = search needs
 
 loop-again : tie.Need-loop-again Inv-loop μ-loop
-loop-again c = (search needs, search needs, hex-more _ _ _ _ (c .before .before .before .before .loop .inv .0) (c .before .before .before .before .loop .inv .2) (c .if1 .left), sym (hex-on (c .before .before .before .before .before .before .args .t .now) _ _ _ _ (c .before .before .before .loop-test .taken) (c .before .before .before .before .before .before .pre .1) (omega (arith, c .before .before .shared-slice-known2 .given (c .before .before .before .before .loop .j))) (c .before .hex-value .ensures) (c .if1 .left)) ∙ c .before .before .before .before .loop .inv .3)
+loop-again c =
+    let c2 = c .before .before in
+    let c3 = c2 .before in
+    let c4 = c3 .before in
+    let c6 = c4 .before .before in (
+      search needs,
+      search needs,
+      hex-more _ _ _ _ (c4 .loop .inv .0) (c4 .loop .inv .2) (c .if1 .left),
+      sym
+          (hex-on (c6 .args .t .now) _ _ _ _ (c3 .loop-test .taken) (c6 .pre .1)
+          (omega (arith, c2 .shared-slice-known2 .given (c4 .loop .j)))
+          (c .before .hex-value .ensures) (c .if1 .left))
+          ∙ c4 .loop .inv .3,
+    )
 
 returns-2 : tie.Need-returns-2 Inv-loop μ-loop
-returns-2 c = ap numberOf (sym (sym (hex-start (slice (c .before .before .before .args .i) (c .before .before .before .args .e) (c .before .before .before .args .t .now))) ∙ sym (c .before .loop .inv .3) ∙ hex-end (c .before .before .before .args .t .now) _ _ _ (c .loop-test .left)))
+returns-2 c =
+    let c3 = c .before .before .before in
+    ap numberOf
+    (sym
+    (sym (hex-start (slice (c3 .args .i) (c3 .args .e) (c3 .args .t .now))) ∙ sym (c .before .loop .inv .3)
+    ∙ hex-end (c3 .args .t .now) _ _ _ (c .loop-test .left)))
 
 pub hex-spec : {M : Type 1} → statement M
 hex-spec =

@@ -20,7 +20,11 @@ shared-slice-read-if1 : tie.Need-shared-slice-read-if1 Inv-loop μ-loop
 shared-slice-read-if1 c = search needs
 
 returns : tie.Need-returns Inv-loop μ-loop
-returns c = front-off (apart (c .before .before .before .before .args .c)) _ _ _ (c .before .before .loop-test .taken) (c .before .before .before .before .pre .1) (rw (eq-eqb _ _ (c .if1 .taken))) ∙ c .before .before .before .loop .inv .1
+returns c =
+    let c2 = c .before .before in
+    let c3 = c2 .before in
+    let c4 = c3 .before in
+    front-off (apart (c4 .args .c)) _ _ _ (c2 .loop-test .taken) (c4 .pre .1) (rw (eq-eqb _ _ (c .if1 .taken))) ∙ c3 .loop .inv .1
 
 add-j : tie.Need-add-j Inv-loop μ-loop
 add-j c = search needs
@@ -29,10 +33,18 @@ loop-less : tie.Need-loop-less Inv-loop μ-loop
 loop-less c = search needs
 
 loop-again : tie.Need-loop-again Inv-loop μ-loop
-loop-again c = (search needs, front-on (apart (c .before .before .before .before .args .c)) _ _ _ (c .before .before .loop-test .taken) (c .before .before .before .before .pre .1) (rw (ne-eqb _ _ (c .if1 .left))) ∙ c .before .before .before .loop .inv .1)
+loop-again c =
+    let c2 = c .before .before in
+    let c3 = c2 .before in
+    let c4 = c3 .before in (
+      search needs,
+      front-on (apart (c4 .args .c)) _ _ _ (c2 .loop-test .taken) (c4 .pre .1) (rw (ne-eqb _ _ (c .if1 .left))) ∙ c3 .loop .inv .1,
+    )
 
 returns-2 : tie.Need-returns-2 Inv-loop μ-loop
-returns-2 c = front-end (apart (c .before .before .args .c)) _ _ _ (c .loop-test .left) ∙ c .before .loop .inv .1
+returns-2 c =
+    let c2 = c .before .before in
+    front-end (apart (c2 .args .c)) _ _ _ (c .loop-test .left) ∙ c .before .loop .inv .1
 
 pub part-end-spec : {M : Type 1} → statement M
 part-end-spec =

@@ -4,35 +4,31 @@ use borrow.Author.Needs.{needs}
 use Rattle.address.proofs.part.piece.Statement.{statement}
 use Rattle.address.proofs.part.piece.Tie as tie
 
-number-requires : tie.Need-number-requires
-number-requires c κs = search needs
-
-enum-known-q : tie.Need-enum-known-q
-enum-known-q c = search needs
-
-put-number-requires : tie.Need-put-number-requires
-put-number-requires c κs = search needs
-
-enum-told : tie.Need-enum-told
-enum-told c = search needs
-
-same-length : tie.Need-same-length
-same-length c = search needs
-
 returns : tie.Need-returns
-returns c = (_, piece-some _ (slice (c .before .before .before .before .before .before .before .before .before .before .args .i) (c .before .before .before .before .before .before .before .before .before .before .args .e) (c .before .before .before .before .before .before .before .before .before .before .args .t .now)) _ (c .before .before .before .before .before .before .before .number .ensures) _ (c .before .before .before .before .before .q .given .1), c .before .before .put-number .ensures)
+returns c =
+    let c2 = c .before .before in
+    let c5 = c2 .before .before .before in
+    let c7 = c5 .before .before in
+    let c10 = c7 .before .before .before in (
+      _,
+      piece-some _ (slice (c10 .args .i) (c10 .args .e) (c10 .args .t .now)) _ (c7 .number .ensures) _ (c5 .q .given .1),
+      c2 .put-number .ensures,
+    )
 
 returns-2 : tie.Need-returns-2
-returns-2 c = piece-none _ (slice (c .before .before .before .before .before .args .i) (c .before .before .before .before .before .args .e) (c .before .before .before .before .before .args .t .now)) _ (c .before .before .number .ensures) (c .enum-told .given .1)
+returns-2 c =
+    let c2 = c .before .before in
+    let c5 = c2 .before .before .before in
+    piece-none _ (slice (c5 .args .i) (c5 .args .e) (c5 .args .t .now)) _ (c2 .number .ensures) (c .enum-told .given .1)
 
 pub piece-spec : {M : Type 1} → statement M
 piece-spec =
     tie.close
     (tie.spec
-    number-requires
-    enum-known-q
-    put-number-requires
-    enum-told
-    same-length
+    (λ c κs. search needs)
+    (λ c. search needs)
+    (λ c κs. search needs)
+    (λ c. search needs)
+    (λ c. search needs)
     returns
     returns-2)

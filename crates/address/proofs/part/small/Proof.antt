@@ -4,39 +4,46 @@ use borrow.Author.Needs.{needs}
 use Rattle.address.proofs.part.small.Statement.{statement}
 use Rattle.address.proofs.part.small.Tie as tie
 
-decimal-requires : tie.Need-decimal-requires
-decimal-requires c κs = search needs
-
-enum-known-q : tie.Need-enum-known-q
-enum-known-q c = search needs
-
 returns : tie.Need-returns
-returns c = large (slice (c .before .before .before .before .before .before .args .i) (c .before .before .before .before .before .before .args .e) (c .before .before .before .before .before .before .args .t .now)) _ (c .before .before .before .before .decimal .ensures) _ (c .before .before .q .given .1) (c .if1 .taken)
-
-zero-first-requires : tie.Need-zero-first-requires
-zero-first-requires c κs = search needs
+returns c =
+    let c2 = c .before .before in
+    let c4 = c2 .before .before in
+    let c6 = c4 .before .before in
+    large (slice (c6 .args .i) (c6 .args .e) (c6 .args .t .now)) _ (c4 .decimal .ensures) _ (c2 .q .given .1) (c .if1 .taken)
 
 returns-2 : tie.Need-returns-2
-returns-2 c = leading (slice (c .before .before .before .before .before .before .before .before .args .i) (c .before .before .before .before .before .before .before .before .args .e) (c .before .before .before .before .before .before .before .before .args .t .now)) _ (c .before .before .before .before .before .before .decimal .ensures) _ (c .before .before .before .before .q .given .1) _ (c .before .before .if1 .left) (c .before .zero-first .ensures) (c .if2 .taken)
-
-enum-told : tie.Need-enum-told
-enum-told c = search needs
+returns-2 c =
+    let c2 = c .before .before in
+    let c4 = c2 .before .before in
+    let c6 = c4 .before .before in
+    let c8 = c6 .before .before in
+    leading (slice (c8 .args .i) (c8 .args .e) (c8 .args .t .now)) _ (c6 .decimal .ensures) _ (c4 .q .given .1) _ (c2 .if1 .left)
+    (c .before .zero-first .ensures) (c .if2 .taken)
 
 returns-3 : tie.Need-returns-3
-returns-3 c = is-small (slice (c .before .before .before .before .before .before .before .before .args .i) (c .before .before .before .before .before .before .before .before .args .e) (c .before .before .before .before .before .before .before .before .args .t .now)) _ (c .before .before .before .before .before .before .decimal .ensures) _ (c .before .before .before .before .q .given .1) _ (c .before .before .if1 .left) (c .before .zero-first .ensures) (c .if2 .left)
+returns-3 c =
+    let c2 = c .before .before in
+    let c4 = c2 .before .before in
+    let c6 = c4 .before .before in
+    let c8 = c6 .before .before in
+    is-small (slice (c8 .args .i) (c8 .args .e) (c8 .args .t .now)) _ (c6 .decimal .ensures) _ (c4 .q .given .1) _ (c2 .if1 .left)
+    (c .before .zero-first .ensures) (c .if2 .left)
 
 returns-4 : tie.Need-returns-4
-returns-4 c = no-small (slice (c .before .before .before .before .args .i) (c .before .before .before .before .args .e) (c .before .before .before .before .args .t .now)) _ (c .before .before .decimal .ensures) (c .enum-told .given .1)
+returns-4 c =
+    let c2 = c .before .before in
+    let c4 = c2 .before .before in
+    no-small (slice (c4 .args .i) (c4 .args .e) (c4 .args .t .now)) _ (c2 .decimal .ensures) (c .enum-told .given .1)
 
 pub small-spec : {M : Type 1} → statement M
 small-spec =
     tie.close
     (tie.spec
-    decimal-requires
-    enum-known-q
+    (λ c κs. search needs)
+    (λ c. search needs)
     returns
-    zero-first-requires
+    (λ c κs. search needs)
     returns-2
-    enum-told
+    (λ c. search needs)
     returns-3
     returns-4)

@@ -15,7 +15,9 @@ use Rattle.address.proofs.print.dotted.Statement.{statement}
 use Rattle.address.proofs.print.dotted.Tie as tie
 
 abbrev Inv-loop : tie.InvT-loop
-Inv-loop out₀ n p i e m₀ j₀ out m j = (i < j) × (j ≤ e) × (m ≤ n + 11 * (j - i)) × Left out₀ m₀ (later (46 ∷ []) decimal (slice (i + 1) e p)) out m (later (46 ∷ []) decimal (slice j e p))
+Inv-loop out₀ n p i e m₀ j₀ out m j =
+    (i < j) × (j ≤ e) × (m ≤ n + 11 * (j - i))
+    × Left out₀ m₀ (later (46 ∷ []) decimal (slice (i + 1) e p)) out m (later (46 ∷ []) decimal (slice j e p))
 
 abbrev μ-loop : tie.MeasureT-loop
 μ-loop out₀ n p i e m₀ j₀ out m j = e - j
@@ -27,16 +29,27 @@ shared-slice-read-put-decimal : tie.Need-shared-slice-read-put-decimal Inv-loop 
 shared-slice-read-put-decimal c = search needs
 
 cast-put-decimal : tie.Need-cast-put-decimal Inv-loop μ-loop
-cast-put-decimal c = omega (arith, c .shared-slice-known2 .given (c .before .before .before .before .before .args .i))
+cast-put-decimal c =
+    let c5 = c .before .before .before .before .before in
+    omega (arith, c .shared-slice-known2 .given (c5 .args .i))
 
 put-decimal-requires : tie.Need-put-decimal-requires Inv-loop μ-loop
-put-decimal-requires c κs = omega (arith, c .shared-slice-known2 .given (c .before .before .before .before .before .args .i))
+put-decimal-requires c κs =
+    let c5 = c .before .before .before .before .before in
+    omega (arith, c .shared-slice-known2 .given (c5 .args .i))
 
 add-j : tie.Need-add-j Inv-loop μ-loop
 add-j c = search needs
 
 loop-holds : tie.Need-loop-holds Inv-loop μ-loop
-loop-holds c = (search needs, search needs, omega (arith, c .before .before .put-decimal .ensures .count, decimal-10 (getD (c .before .before .before .before .before .before .before .before .args .p .now) (c .before .before .before .before .before .before .before .before .args .i) 0)), left-all _ _ _)
+loop-holds c =
+    let c2 = c .before .before in
+    let c8 = c2 .before .before .before .before .before .before in (
+      search needs,
+      search needs,
+      omega (arith, c2 .put-decimal .ensures .count, decimal-10 (getD (c8 .args .p .now) (c8 .args .i) 0)),
+      left-all _ _ _,
+    )
 
 put-octet-requires : tie.Need-put-octet-requires Inv-loop μ-loop
 put-octet-requires c κs = search needs
@@ -45,10 +58,15 @@ shared-slice-read-put-decimal-2 : tie.Need-shared-slice-read-put-decimal-2 Inv-l
 shared-slice-read-put-decimal-2 c = search needs
 
 cast-put-decimal-2 : tie.Need-cast-put-decimal-2 Inv-loop μ-loop
-cast-put-decimal-2 c = omega (arith, c .shared-slice-known3 .given (c .before .before .before .before .before .before .before .loop .j))
+cast-put-decimal-2 c =
+    let c7 = c .before .before .before .before .before .before .before in
+    omega (arith, c .shared-slice-known3 .given (c7 .loop .j))
 
 put-decimal-requires-2 : tie.Need-put-decimal-requires-2 Inv-loop μ-loop
-put-decimal-requires-2 c κs = omega (arith, c .before .before .before .before .put-octet .ensures .count, c .shared-slice-known3 .given (c .before .before .before .before .before .before .before .loop .j))
+put-decimal-requires-2 c κs =
+    let c4 = c .before .before .before .before in
+    let c7 = c4 .before .before .before in
+    omega (arith, c4 .put-octet .ensures .count, c .shared-slice-known3 .given (c7 .loop .j))
 
 add-j-2 : tie.Need-add-j-2 Inv-loop μ-loop
 add-j-2 c = search needs
@@ -57,13 +75,30 @@ loop-less : tie.Need-loop-less Inv-loop μ-loop
 loop-less c = search needs
 
 loop-again : tie.Need-loop-again Inv-loop μ-loop
-loop-again c = (search needs, search needs, omega (arith, c .before .before .before .before .before .before .before .put-octet .ensures .count, c .before .before .put-decimal2 .ensures .count, decimal-10 (getD (c .before .before .before .before .before .before .before .before .before .before .before .before .before .before .before .before .before .before .before .args .p .now) (c .before .before .before .before .before .before .before .before .before .before .loop .j) 0)), went-on (46 ∷ []) decimal _ _ _ (next (c .before .before .before .before .before .before .before .before .before .before .before .before .before .before .before .before .before .before .before .args .p .now) (c .before .before .before .before .before .before .before .before .before .before .loop .j) (c .before .before .before .before .before .before .before .before .before .before .before .before .before .before .before .before .before .before .before .args .e) (c .before .before .before .before .before .before .before .before .before .loop-test .taken) (c .before .before .before .before .before .before .before .before .before .before .before .before .before .before .before .before .before .before .before .pre .2)) (c .before .before .before .before .before .before .before .before .before .before .loop .inv .3) (c .before .before .before .before .before .before .before .put-octet .ensures) (c .before .before .put-decimal2 .ensures))
+loop-again c =
+    let c2 = c .before .before in
+    let c7 = c2 .before .before .before .before .before in
+    let c9 = c7 .before .before in
+    let c10 = c9 .before in
+    let c19 = c10 .before .before .before .before .before .before .before .before .before in (
+      search needs,
+      search needs,
+      omega
+          (arith, c7 .put-octet .ensures .count, c2 .put-decimal2 .ensures .count, decimal-10 (getD (c19 .args .p .now) (c10 .loop .j) 0)),
+      went-on (46 ∷ []) decimal _ _ _ (next (c19 .args .p .now) (c10 .loop .j) (c19 .args .e) (c9 .loop-test .taken) (c19 .pre .2))
+          (c10 .loop .inv .3) (c7 .put-octet .ensures) (c2 .put-decimal2 .ensures),
+    )
 
 same-length : tie.Need-same-length Inv-loop μ-loop
 same-length c = search needs
 
 returns-2 : tie.Need-returns-2 Inv-loop μ-loop
-returns-2 c = wrote-parted (46 ∷ []) decimal _ _ _ (next (c .before .before .before .before .before .before .before .before .before .before .args .p .now) (c .before .before .before .before .before .before .before .before .before .before .args .i) (c .before .before .before .before .before .before .before .before .before .before .args .e) (c .before .before .before .before .before .before .before .if1 .left) (c .before .before .before .before .before .before .before .before .before .before .pre .2)) (c .before .before .before .before .put-decimal .ensures) (left-none (c .before .loop .inv .3) (ap (later (46 ∷ []) decimal) (none _ _ _ (c .loop-test .left))))
+returns-2 c =
+    let c4 = c .before .before .before .before in
+    let c7 = c4 .before .before .before in
+    let c10 = c7 .before .before .before in
+    wrote-parted (46 ∷ []) decimal _ _ _ (next (c10 .args .p .now) (c10 .args .i) (c10 .args .e) (c7 .if1 .left) (c10 .pre .2))
+    (c4 .put-decimal .ensures) (left-none (c .before .loop .inv .3) (ap (later (46 ∷ []) decimal) (none _ _ _ (c .loop-test .left))))
 
 pub dotted-spec : {M : Type 1} → statement M
 dotted-spec =

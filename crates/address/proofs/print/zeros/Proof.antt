@@ -3,9 +3,6 @@ use borrow.Author.Needs.{needs}
 use Rattle.address.proofs.print.zeros.Statement.{statement}
 use Rattle.address.proofs.print.zeros.Tie as tie
 
-add-result : tie.Need-add-result
-add-result c = search needs
-
 returns : tie.Need-returns
 returns c = ((λ gs q. zero-before _ _ gs (c .if1 .taken) q), search needs)
 
@@ -13,4 +10,4 @@ returns-2 : tie.Need-returns-2
 returns-2 c = ((λ gs q. other-before _ gs (c .if1 .left)), search needs)
 
 pub zeros-spec : {M : Type 1} → statement M
-zeros-spec = tie.close (tie.spec add-result returns returns-2)
+zeros-spec = tie.close (tie.spec (λ c. search needs) returns returns-2)

@@ -5,55 +5,50 @@ use borrow.Author.Needs.{needs}
 use Rattle.address.proofs.read.around.Statement.{statement}
 use Rattle.address.proofs.read.around.Tie as tie
 
-side-requires : tie.Need-side-requires
-side-requires c κs = search needs
-
-enum-told : tie.Need-enum-told
-enum-told c = search needs
-
-enum-known-x : tie.Need-enum-known-x
-enum-known-x c = search needs
-
 sub-g : tie.Need-sub-g
-sub-g c = both-count (slice (c .before .before .before .before .before .before .before .before .before .args .i) (c .before .before .before .before .before .before .before .before .before .args .p) (c .before .before .before .before .before .before .before .before .before .args .t .now)) (slice (c .before .before .before .before .before .before .before .before .before .args .p + 2) (c .before .before .before .before .before .before .before .before .before .args .e) (c .before .before .before .before .before .before .before .before .before .args .t .now)) _ _ _ _ (c .before .before .before .before .before .side .ensures) _ (c .before .x .given .1)
-
-same-length : tie.Need-same-length
-same-length c = search needs
+sub-g c =
+    let c5 = c .before .before .before .before .before in
+    let c9 = c5 .before .before .before .before in
+    both-count (slice (c9 .args .i) (c9 .args .p) (c9 .args .t .now)) (slice (c9 .args .p + 2) (c9 .args .e) (c9 .args .t .now)) _ _ _ _
+    (c5 .side .ensures) _ (c .before .x .given .1)
 
 returns : tie.Need-returns
-returns c = both-long (slice (c .before .before .before .before .before .before .before .before .before .before .args .i) (c .before .before .before .before .before .before .before .before .before .before .args .p) (c .before .before .before .before .before .before .before .before .before .before .args .t .now)) (slice (c .before .before .before .before .before .before .before .before .before .before .args .p + 2) (c .before .before .before .before .before .before .before .before .before .before .args .e) (c .before .before .before .before .before .before .before .before .before .before .args .t .now)) _ _ _ _ (c .before .before .before .before .before .before .side .ensures) _ (c .before .before .x .given .1) (c .if1 .taken)
-
-add-right : tie.Need-add-right
-add-right c = search needs
-
-right-requires : tie.Need-right-requires
-right-requires c κs = search needs
-
-same-length-2 : tie.Need-same-length-2
-same-length-2 c = search needs
+returns c =
+    let c2 = c .before .before in
+    let c6 = c2 .before .before .before .before in
+    let c10 = c6 .before .before .before .before in
+    both-long (slice (c10 .args .i) (c10 .args .p) (c10 .args .t .now)) (slice (c10 .args .p + 2) (c10 .args .e) (c10 .args .t .now)) _ _ _
+    _ (c6 .side .ensures) _ (c2 .x .given .1) (c .if1 .taken)
 
 returns-2 : tie.Need-returns-2
-returns-2 c = both-fault (slice (c .before .before .before .before .before .before .before .before .args .i) (c .before .before .before .before .before .before .before .before .args .p) (c .before .before .before .before .before .before .before .before .args .t .now)) (slice (c .before .before .before .before .before .before .before .before .args .p + 2) (c .before .before .before .before .before .before .before .before .args .e) (c .before .before .before .before .before .before .before .before .args .t .now)) _ _ _ _ (c .before .before .before .before .side .ensures) (c .enum-told .given .1)
-
-same-length-3 : tie.Need-same-length-3
-same-length-3 c = search needs
+returns-2 c =
+    let c4 = c .before .before .before .before in
+    let c8 = c4 .before .before .before .before in
+    both-fault (slice (c8 .args .i) (c8 .args .p) (c8 .args .t .now)) (slice (c8 .args .p + 2) (c8 .args .e) (c8 .args .t .now)) _ _ _ _
+    (c4 .side .ensures) (c .enum-told .given .1)
 
 returns-3 : tie.Need-returns-3
-returns-3 c = both-all (slice (c .before .before .before .before .before .before .before .before .before .before .before .before .before .before .args .i) (c .before .before .before .before .before .before .before .before .before .before .before .before .before .before .args .p) (c .before .before .before .before .before .before .before .before .before .before .before .before .before .before .args .t .now)) (slice (c .before .before .before .before .before .before .before .before .before .before .before .before .before .before .args .p + 2) (c .before .before .before .before .before .before .before .before .before .before .before .before .before .before .args .e) (c .before .before .before .before .before .before .before .before .before .before .before .before .before .before .args .t .now)) _ _ _ _ (c .before .before .before .before .before .before .before .before .before .before .side .ensures) _ (c .before .before .before .before .before .before .x .given .1) _ (c .before .before .right .result) (c .before .before .right .ensures)
+returns-3 c =
+    let c2 = c .before .before in
+    let c6 = c2 .before .before .before .before in
+    let c10 = c6 .before .before .before .before in
+    let c14 = c10 .before .before .before .before in
+    both-all (slice (c14 .args .i) (c14 .args .p) (c14 .args .t .now)) (slice (c14 .args .p + 2) (c14 .args .e) (c14 .args .t .now)) _ _ _ _
+    (c10 .side .ensures) _ (c6 .x .given .1) _ (c2 .right .result) (c2 .right .ensures)
 
 pub around-spec : {M : Type 1} → statement M
 around-spec =
     tie.close
     (tie.spec
-    side-requires
-    enum-told
-    enum-known-x
+    (λ c κs. search needs)
+    (λ c. search needs)
+    (λ c. search needs)
     sub-g
-    same-length
+    (λ c. search needs)
     returns
-    add-right
-    right-requires
-    same-length-2
+    (λ c. search needs)
+    (λ c κs. search needs)
+    (λ c. search needs)
     returns-2
-    same-length-3
+    (λ c. search needs)
     returns-3)

@@ -4,14 +4,11 @@ use borrow.Author.Needs.{needs}
 use Rattle.address.proofs.read.dotted.Statement.{statement}
 use Rattle.address.proofs.read.dotted.Tie as tie
 
-parts-requires : tie.Need-parts-requires
-parts-requires c κs = search needs
-
-same-length : tie.Need-same-length
-same-length c = search needs
-
 returns : tie.Need-returns
-returns c = rw (a-parts (slice (c .before .before .before .before .before .before .args .i) (c .before .before .before .before .before .before .args .e) (c .before .before .before .before .before .before .args .t .now))) at (c .before .before .parts .ensures)
+returns c =
+    let c2 = c .before .before in
+    let c6 = c2 .before .before .before .before in
+    rw (a-parts (slice (c6 .args .i) (c6 .args .e) (c6 .args .t .now))) at (c2 .parts .ensures)
 
 pub dotted-spec : {M : Type 1} → statement M
-dotted-spec = tie.close (tie.spec parts-requires same-length returns)
+dotted-spec = tie.close (tie.spec (λ c κs. search needs) (λ c. search needs) returns)

@@ -21,7 +21,12 @@ two-colons-requires : tie.Need-two-colons-requires Inv-loop μ-loop
 two-colons-requires c κs = search needs
 
 returns : tie.Need-returns Inv-loop μ-loop
-returns c = passed-found (c .before .before .before .before .before .args .t .now) _ _ _ (c .before .before .before .loop .inv .0) (c .before .before .before .before .before .pre .1) (c .before .before .before .loop .inv .2) (c .before .before .loop-test .taken) (sym (c .before .two-colons .ensures) ∙ c .if1 .taken)
+returns c =
+    let c2 = c .before .before in
+    let c3 = c2 .before in
+    let c5 = c3 .before .before in
+    passed-found (c5 .args .t .now) _ _ _ (c3 .loop .inv .0) (c5 .pre .1) (c3 .loop .inv .2) (c2 .loop-test .taken)
+    (sym (c .before .two-colons .ensures) ∙ c .if1 .taken)
 
 add-j : tie.Need-add-j Inv-loop μ-loop
 add-j c = search needs
@@ -30,10 +35,20 @@ loop-less : tie.Need-loop-less Inv-loop μ-loop
 loop-less c = search needs
 
 loop-again : tie.Need-loop-again Inv-loop μ-loop
-loop-again c = (search needs, search needs, passed-on (c .before .before .before .before .before .args .t .now) _ _ _ (c .before .before .before .loop .inv .0) (c .before .before .before .before .before .pre .1) (c .before .before .before .loop .inv .2) (c .before .before .loop-test .taken) (sym (c .before .two-colons .ensures) ∙ c .if1 .left))
+loop-again c =
+    let c2 = c .before .before in
+    let c3 = c2 .before in
+    let c5 = c3 .before .before in (
+      search needs,
+      search needs,
+      passed-on (c5 .args .t .now) _ _ _ (c3 .loop .inv .0) (c5 .pre .1) (c3 .loop .inv .2) (c2 .loop-test .taken)
+          (sym (c .before .two-colons .ensures) ∙ c .if1 .left),
+    )
 
 returns-2 : tie.Need-returns-2 Inv-loop μ-loop
-returns-2 c = passed-all (c .before .before .before .args .t .now) _ _ _ (c .before .loop .inv .0) (c .before .before .before .pre .1) (c .before .loop .inv .2) (c .before .before .before .pre .0) (c .loop-test .left)
+returns-2 c =
+    let c3 = c .before .before .before in
+    passed-all (c3 .args .t .now) _ _ _ (c .before .loop .inv .0) (c3 .pre .1) (c .before .loop .inv .2) (c3 .pre .0) (c .loop-test .left)
 
 pub double-colon-spec : {M : Type 1} → statement M
 double-colon-spec =

@@ -29,7 +29,14 @@ loop-less : tie.Need-loop-less Inv-loop μ-loop
 loop-less c = search needs
 
 loop-again : tie.Need-loop-again Inv-loop μ-loop
-loop-again c = (omega (arith, c .before .before .before .before .before .loop .inv .0, c .before .before .before .before .loop-test .taken), omega (arith, c .before .before .before .before .before .loop .inv .1), left-one _ _ _ (c .before .before .before .before .before .loop .inv .2) (one-zero _ (c .before .before .before .before .loop-test .taken)) (c .before .before .put .ensures))
+loop-again c =
+    let c2 = c .before .before in
+    let c4 = c2 .before .before in
+    let c5 = c4 .before in (
+      omega (arith, c5 .loop .inv .0, c4 .loop-test .taken),
+      omega (arith, c5 .loop .inv .1),
+      left-one _ _ _ (c5 .loop .inv .2) (one-zero _ (c4 .loop-test .taken)) (c2 .put .ensures),
+    )
 
 same-length : tie.Need-same-length Inv-loop μ-loop
 same-length c = c .before .loop .inv .2 .kept

@@ -9,67 +9,73 @@ use borrow.Author.Needs.{needs}
 use Rattle.address.proofs.read.right.Statement.{statement}
 use Rattle.address.proofs.read.right.Tie as tie
 
-side-requires : tie.Need-side-requires
-side-requires c κs = search needs
-
-enum-told : tie.Need-enum-told
-enum-told c = search needs
-
-enum-known-x : tie.Need-enum-known-x
-enum-known-x c = search needs
-
 sub-h : tie.Need-sub-h
-sub-h c = right-count (c .before .before .before .before .before .before .before .before .before .args .g) (sideIn true (slice (c .before .before .before .before .before .before .before .before .before .args .i) (c .before .before .before .before .before .before .before .before .before .args .e) (c .before .before .before .before .before .before .before .before .before .args .t .now))) _ _ _ _ (c .before .before .before .before .before .side .ensures) _ (c .before .x .given .1)
-
-sub-if1 : tie.Need-sub-if1
-sub-if1 c = search needs
-
-same-length : tie.Need-same-length
-same-length c = search needs
+sub-h c =
+    let c5 = c .before .before .before .before .before in
+    let c9 = c5 .before .before .before .before in
+    right-count (c9 .args .g) (sideIn true (slice (c9 .args .i) (c9 .args .e) (c9 .args .t .now))) _ _ _ _ (c5 .side .ensures) _
+    (c .before .x .given .1)
 
 returns : tie.Need-returns
-returns c = right-long _ (sideIn true (slice (c .before .before .before .before .before .before .before .before .before .before .args .i) (c .before .before .before .before .before .before .before .before .before .before .args .e) (c .before .before .before .before .before .before .before .before .before .before .args .t .now))) _ _ _ _ (c .before .before .before .before .before .before .side .ensures) _ (c .before .before .x .given .1) (c .before .before .before .before .before .before .before .before .before .before .pre .1) (omega (arith, c .if1 .taken))
-
-add-put-zeros : tie.Need-add-put-zeros
-add-put-zeros c = search needs
-
-sub-put-zeros : tie.Need-sub-put-zeros
-sub-put-zeros c = search needs
-
-put-zeros-requires : tie.Need-put-zeros-requires
-put-zeros-requires c κs = search needs
+returns c =
+    let c2 = c .before .before in
+    let c6 = c2 .before .before .before .before in
+    let c10 = c6 .before .before .before .before in
+    right-long _ (sideIn true (slice (c10 .args .i) (c10 .args .e) (c10 .args .t .now))) _ _ _ _ (c6 .side .ensures) _ (c2 .x .given .1)
+    (c10 .pre .1) (omega (arith, c .if1 .taken))
 
 side-requires-2 : tie.Need-side-requires-2
-side-requires-2 c κs = (omega (arith, c .before .before .before .put-zeros .ensures .count, length-replicate {A = ℕ} (16 - (c .before .before .before .before .before .before .before .before .before .before .before .before .before .before .before .args .g + (c .before .before .before .before .before .before .before .x .given .0 .0 - c .before .before .before .before .before .before .before .before .before .before .before .before .before .before .before .args .n))) 0, c .before .before .before .before .before .before .before .before .before .before .before .before .before .before .before .pre .0, c .before .before .before .before .before .before .before .before .before .before .before .before .before .before .before .pre .1, c .before .before .before .before .before .if1 .left), c .before .before .before .before .before .before .before .before .before .before .before .before .before .before .before .pre .2, c .before .before .before .before .before .before .before .before .before .before .before .before .before .before .before .pre .3, c .before .before .before .before .before .before .before .before .before .before .before .before .before .before .before .pre .4)
-
-same-length-2 : tie.Need-same-length-2
-same-length-2 c = search needs
+side-requires-2 c κs =
+    let c3 = c .before .before .before in
+    let c5 = c3 .before .before in
+    let c7 = c5 .before .before in
+    let c15 = c7 .before .before .before .before .before .before .before .before in (
+      omega (
+        arith,
+        c3 .put-zeros .ensures .count,
+        length-replicate {A = ℕ} (16 - (c15 .args .g + (c7 .x .given .0 .0 - c15 .args .n))) 0,
+        c15 .pre .0,
+        c15 .pre .1,
+        c5 .if1 .left,
+      ),
+      c15 .pre .2,
+      c15 .pre .3,
+      c15 .pre .4,
+    )
 
 returns-2 : tie.Need-returns-2
-returns-2 c = right-fault _ (sideIn true (slice (c .before .before .before .before .before .before .before .before .args .i) (c .before .before .before .before .before .before .before .before .args .e) (c .before .before .before .before .before .before .before .before .args .t .now))) _ _ _ _ (c .before .before .before .before .side .ensures) (c .enum-told .given .1)
-
-same-length-3 : tie.Need-same-length-3
-same-length-3 c = search needs
+returns-2 c =
+    let c4 = c .before .before .before .before in
+    let c8 = c4 .before .before .before .before in
+    right-fault _ (sideIn true (slice (c8 .args .i) (c8 .args .e) (c8 .args .t .now))) _ _ _ _ (c4 .side .ensures) (c .enum-told .given .1)
 
 returns-3 : tie.Need-returns-3
-returns-3 c = right-all _ (sideIn true (slice (c .before .before .before .before .before .before .before .before .before .before .before .before .before .before .before .before .before .before .args .i) (c .before .before .before .before .before .before .before .before .before .before .before .before .before .before .before .before .before .before .args .e) (c .before .before .before .before .before .before .before .before .before .before .before .before .before .before .before .before .before .before .args .t .now))) _ _ _ _ (c .before .before .before .before .before .before .before .before .before .before .before .before .before .before .side .ensures) _ (c .before .before .before .before .before .before .before .before .before .before .x .given .1) _ _ _ (c .before .before .side2 .result) (c .before .before .before .before .before .before .before .before .before .before .before .before .before .before .before .before .before .before .pre .1) (omega (arith, c .before .before .before .before .before .before .before .before .if1 .left)) (c .before .before .before .before .before .before .put-zeros .ensures) (c .before .before .side2 .ensures)
+returns-3 c =
+    let c2 = c .before .before in
+    let c6 = c2 .before .before .before .before in
+    let c8 = c6 .before .before in
+    let c10 = c8 .before .before in
+    let c14 = c10 .before .before .before .before in
+    let c18 = c14 .before .before .before .before in
+    right-all _ (sideIn true (slice (c18 .args .i) (c18 .args .e) (c18 .args .t .now))) _ _ _ _ (c14 .side .ensures) _ (c10 .x .given .1) _
+    _ _ (c2 .side2 .result) (c18 .pre .1) (omega (arith, c8 .if1 .left)) (c6 .put-zeros .ensures) (c2 .side2 .ensures)
 
 pub right-spec : {M : Type 1} → statement M
 right-spec =
     tie.close
     (tie.spec
-    side-requires
-    enum-told
-    enum-known-x
+    (λ c κs. search needs)
+    (λ c. search needs)
+    (λ c. search needs)
     sub-h
-    sub-if1
-    same-length
+    (λ c. search needs)
+    (λ c. search needs)
     returns
-    add-put-zeros
-    sub-put-zeros
-    put-zeros-requires
+    (λ c. search needs)
+    (λ c. search needs)
+    (λ c κs. search needs)
     side-requires-2
-    same-length-2
+    (λ c. search needs)
     returns-2
-    same-length-3
+    (λ c. search needs)
     returns-3)

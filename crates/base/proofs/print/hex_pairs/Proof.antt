@@ -45,7 +45,14 @@ loop-less : tie.Need-loop-less Inv-loop μ-loop
 loop-less c = search needs
 
 loop-again : tie.Need-loop-again Inv-loop μ-loop
-loop-again c = (search needs, search needs, rw (c .before .hex-digit .ensures, c .hex-digit2 .ensures) (left-piece _ _ _ _ (c .before .before .before .before .loop .inv .2) (ap hexText (next _ _ (c .before .before .before .loop-test .taken))) (wrote-two _ _ _ _ _ _ refl refl)))
+loop-again c =
+    let c3 = c .before .before .before in
+    let c4 = c3 .before in (
+      search needs,
+      search needs,
+      rw (c .before .hex-digit .ensures, c .hex-digit2 .ensures)
+          (left-piece _ _ _ _ (c4 .loop .inv .2) (ap hexText (next _ _ (c3 .loop-test .taken))) (wrote-two _ _ _ _ _ _ refl refl)),
+    )
 
 same-length : tie.Need-same-length Inv-loop μ-loop
 same-length c = search needs

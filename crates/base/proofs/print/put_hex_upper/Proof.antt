@@ -11,68 +11,51 @@ use borrow.Author.Needs.{needs}
 use Rattle.base.proofs.print.put_hex_upper.Statement.{statement}
 use Rattle.base.proofs.print.put_hex_upper.Tie as tie
 
-fitting-requires : tie.Need-fitting-requires
-fitting-requires c κs = search needs
-
-sub-hex-pairs : tie.Need-sub-hex-pairs
-sub-hex-pairs c = search needs
-
-part-hex-pairs-start : tie.Need-part-hex-pairs-start
-part-hex-pairs-start c = search needs
-
-part-hex-pairs-end : tie.Need-part-hex-pairs-end
-part-hex-pairs-end c = search needs
-
-hex-pairs-requires : tie.Need-hex-pairs-requires
-hex-pairs-requires c κs = search needs
-
-same-length : tie.Need-same-length
-same-length c = search needs
-
 returns : tie.Need-returns
 returns c =
-    wrote-text _ _ (hex-all (c .before .before .before .before .before .before .before .before .before .args .s .now) (c .before .before .before .before .before .before .fitting .result) (c .if1 .taken)) (rw (sub-zero (c .before .before .before .before .before .before .fitting .result)) at (c .before .before .before .hex-pairs .ensures))
-
-shared-slice-read-put-hex-octet : tie.Need-shared-slice-read-put-hex-octet
-shared-slice-read-put-hex-octet c = search needs
+    let c3 = c .before .before .before in
+    let c6 = c3 .before .before .before in
+    let c9 = c6 .before .before .before in
+    wrote-text _ _ (hex-all (c9 .args .s .now) (c6 .fitting .result) (c .if1 .taken))
+    (rw (sub-zero (c6 .fitting .result)) at (c3 .hex-pairs .ensures))
 
 put-hex-octet-requires : tie.Need-put-hex-octet-requires
 put-hex-octet-requires c κs =
-    omega (arith, c .before .before .before .before .before .hex-pairs .ensures .count, hex-count (c .before .before .before .before .before .before .before .before .before .before .before .args .s .now) (c .before .before .before .before .before .before .before .before .fitting .result - 0) (omega arith))
-
-mul-result : tie.Need-mul-result
-mul-result c = search needs
-
-add-result : tie.Need-add-result
-add-result c = search needs
-
-same-length-2 : tie.Need-same-length-2
-same-length-2 c = search needs
+    let c5 = c .before .before .before .before .before in
+    let c8 = c5 .before .before .before in
+    let c11 = c8 .before .before .before in
+    omega (arith, c5 .hex-pairs .ensures .count, hex-count (c11 .args .s .now) (c8 .fitting .result - 0) (omega arith))
 
 returns-2 : tie.Need-returns-2
 returns-2 c =
-    let s = c .before .before .before .before .before .before .before .before .before .before .before .before .before .before .args .s .now in
-    let k = c .before .before .before .before .before .before .before .before .before .before .before .fitting .result in
-    let w = rw (sub-zero k) at (c .before .before .before .before .before .before .before .before .hex-pairs .ensures) in
-    let v = c .before .before .put-hex-octet .ensures in
-    let m : c .before .before .put-hex-octet .result ≡ c .before .before .before .before .before .before .before .before .before .before .before .before .before .before .args .n + 2 * k + 2 = omega (arith, v .count, w .count, hex-count s k (omega arith)) in
-    wrote-text _ _ (hex-parts s k (c .before .before .before .before .before .if1 .left))
-    (wrote-out _ (hexText (drop (k + 1) s)) (wrote-append w v) (omega arith) (omega (arith, hex-length (drop (k + 1) s), length-drop (k + 1) s)))
+    let c2 = c .before .before in
+    let c5 = c2 .before .before .before in
+    let c8 = c5 .before .before .before in
+    let c11 = c8 .before .before .before in
+    let c14 = c11 .before .before .before in
+    let s = c14 .args .s .now in
+    let k = c11 .fitting .result in
+    let w = rw (sub-zero k) at (c8 .hex-pairs .ensures) in
+    let v = c2 .put-hex-octet .ensures in
+    let m : c2 .put-hex-octet .result ≡ c14 .args .n + 2 * k + 2 = omega (arith, v .count, w .count, hex-count s k (omega arith)) in
+    wrote-text _ _ (hex-parts s k (c5 .if1 .left))
+    (wrote-out _ (hexText (drop (k + 1) s)) (wrote-append w v) (omega arith)
+    (omega (arith, hex-length (drop (k + 1) s), length-drop (k + 1) s)))
 
 pub put-hex-upper-spec : {M : Type 1} → statement M
 put-hex-upper-spec =
     tie.close
     (tie.spec
-    fitting-requires
-    sub-hex-pairs
-    part-hex-pairs-start
-    part-hex-pairs-end
-    hex-pairs-requires
-    same-length
+    (λ c κs. search needs)
+    (λ c. search needs)
+    (λ c. search needs)
+    (λ c. search needs)
+    (λ c κs. search needs)
+    (λ c. search needs)
     returns
-    shared-slice-read-put-hex-octet
+    (λ c. search needs)
     put-hex-octet-requires
-    mul-result
-    add-result
-    same-length-2
+    (λ c. search needs)
+    (λ c. search needs)
+    (λ c. search needs)
     returns-2)

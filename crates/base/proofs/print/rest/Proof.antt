@@ -7,53 +7,32 @@ use borrow.Author.Needs.{needs}
 use Rattle.base.proofs.print.rest.Statement.{statement}
 use Rattle.base.proofs.print.rest.Tie as tie
 
-add-least : tie.Need-add-least
-add-least c = search needs
-
-least-requires : tie.Need-least-requires
-least-requires c κs = search needs
-
-group-requires : tie.Need-group-requires
-group-requires c κs = search needs
-
-sub-result : tie.Need-sub-result
-sub-result c = search needs
-
-mul-result : tie.Need-mul-result
-mul-result c = search needs
-
-add-result : tie.Need-add-result
-add-result c = search needs
-
-sub-result-2 : tie.Need-sub-result-2
-sub-result-2 c = search needs
-
-div-result : tie.Need-div-result
-div-result c = search needs
-
 add-result-2 : tie.Need-add-result-2
-add-result-2 c = record { fits = omega (arith, div-le-self (8 * (c .before .before .before .before .before .before .before .before .args .e - c .before .before .before .before .before .before .before .before .args .i) + c .before .before .before .before .before .before .before .before .args .w - 1) (c .before .before .before .before .before .before .before .before .args .w)) }
-
-same-length : tie.Need-same-length
-same-length c = search needs
+add-result-2 c =
+    let c8 = c .before .before .before .before .before .before .before .before in
+    record { fits = omega (arith, div-le-self (8 * (c8 .args .e - c8 .args .i) + c8 .args .w - 1) (c8 .args .w)) }
 
 returns : tie.Need-returns
 returns c =
-    let a = c .before .before .before .before .before .before .before .before .args in
-    rest-wrote (a .w) (a .g) (a .t .now) (a .p .now) (c .before .before .before .before .before .before .before .before .pre .0) (a .i) (a .e) _ _ (c .before .before .before .before .least .ensures) (omega arith) (omega arith) (c .before .before .before .before .before .before .before .before .pre .5) refl (c .before .before .group .ensures)
+    let c2 = c .before .before in
+    let c4 = c2 .before .before in
+    let c8 = c4 .before .before .before .before in
+    let a = c8 .args in
+    rest-wrote (a .w) (a .g) (a .t .now) (a .p .now) (c8 .pre .0) (a .i) (a .e) _ _ (c4 .least .ensures) (omega arith) (omega arith)
+    (c8 .pre .5) refl (c2 .group .ensures)
 
 pub rest-spec : {M : Type 1} → statement M
 rest-spec =
     tie.close
     (tie.spec
-    add-least
-    least-requires
-    group-requires
-    sub-result
-    mul-result
-    add-result
-    sub-result-2
-    div-result
+    (λ c. search needs)
+    (λ c κs. search needs)
+    (λ c κs. search needs)
+    (λ c. search needs)
+    (λ c. search needs)
+    (λ c. search needs)
+    (λ c. search needs)
+    (λ c. search needs)
     add-result-2
-    same-length
+    (λ c. search needs)
     returns)

@@ -12,7 +12,8 @@ use Rattle.base.proofs.print.store.Statement.{statement}
 use Rattle.base.proofs.print.store.Tie as tie
 
 abbrev Inv-loop : tie.InvT-loop
-Inv-loop out₀ n t k v i₀ x₀ out i x = (i ≤ k) × (length out ≡ length out₀) × (sets out n (chars t (digits (length t) i x)) ≡ sets out₀ n (chars t (digits (length t) k v)))
+Inv-loop out₀ n t k v i₀ x₀ out i x =
+    (i ≤ k) × (length out ≡ length out₀) × (sets out n (chars t (digits (length t) i x)) ≡ sets out₀ n (chars t (digits (length t) k v)))
 
 abbrev μ-loop : tie.MeasureT-loop
 μ-loop out₀ n t k v i₀ x₀ out i x = i
@@ -42,7 +43,13 @@ loop-less : tie.Need-loop-less Inv-loop μ-loop
 loop-less c = search needs
 
 loop-again : tie.Need-loop-again Inv-loop μ-loop
-loop-again c = (search needs, simp length-set (omega arith), last-digit (λ d. getD (c .before .before .before .args .t .now) d 0) _ _ _ _ _ _ (c .before .loop-test .taken) refl ∙ c .before .before .loop .inv .2)
+loop-again c =
+    let c2 = c .before .before in
+    let c3 = c2 .before in (
+      search needs,
+      simp length-set (omega arith),
+      last-digit (λ d. getD (c3 .args .t .now) d 0) _ _ _ _ _ _ (c .before .loop-test .taken) refl ∙ c2 .loop .inv .2,
+    )
 
 same-length : tie.Need-same-length Inv-loop μ-loop
 same-length c = search needs

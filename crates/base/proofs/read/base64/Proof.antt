@@ -11,11 +11,5 @@ base64-by-requires : tie.Need-base64-by-requires
 unfolding base64Numbers
 base64-by-requires c κs = (search needs, search needs, search needs, refl)
 
-same-length : tie.Need-same-length
-same-length c = search needs
-
-returns : tie.Need-returns
-returns c = search needs
-
 pub base64-spec : {M : Type 1} → statement M
-base64-spec = tie.close (tie.spec base64-by-requires same-length returns)
+base64-spec = tie.close (tie.spec base64-by-requires (λ c. search needs) (λ c. search needs))

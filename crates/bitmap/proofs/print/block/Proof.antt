@@ -13,7 +13,10 @@ use Rattle.bitmap.proofs.print.block.Statement.{statement}
 use Rattle.bitmap.proofs.print.block.Tie as tie
 
 abbrev Inv-loop : tie.InvT-loop
-Inv-loop out₀ n start p i e v m₀ t₀ j₀ out m t j = (start ≤ m) × (i ≤ j) × (j ≤ e) × (t ≡ v + 8 * (j - i)) × Left out₀ n (typesText (ltb start n) (typesFrom (atOctets v (e - i)) (slice i e p))) out m (typesText (ltb start m) (typesFrom (atOctets t (e - j)) (slice j e p)))
+Inv-loop out₀ n start p i e v m₀ t₀ j₀ out m t j =
+    (start ≤ m) × (i ≤ j) × (j ≤ e) × (t ≡ v + 8 * (j - i))
+    × Left out₀ n (typesText (ltb start n) (typesFrom (atOctets v (e - i)) (slice i e p))) out m
+    (typesText (ltb start m) (typesFrom (atOctets t (e - j)) (slice j e p)))
 
 abbrev μ-loop : tie.MeasureT-loop
 μ-loop out₀ n start p i e v m₀ t₀ j₀ out m t j = e - j
@@ -25,7 +28,18 @@ shared-slice-read-octet : tie.Need-shared-slice-read-octet Inv-loop μ-loop
 shared-slice-read-octet c = search needs
 
 octet-requires : tie.Need-octet-requires Inv-loop μ-loop
-octet-requires c κs = (search needs, omega (arith, c .before .before .before .loop .inv .4 .count, block-length (ltb (c .before .before .before .before .before .before .args .start) (c .before .before .before .before .before .before .args .n)) (atOctets (c .before .before .before .before .before .before .args .v) (c .before .before .before .before .before .before .args .e - c .before .before .before .before .before .before .args .i)) (c .before .before .before .before .before .before .args .p .now) (c .before .before .before .before .before .before .args .i) (c .before .before .before .before .before .before .args .e) (c .before .before .before .before .before .before .pre .2)), search needs)
+octet-requires c κs =
+    let c3 = c .before .before .before in
+    let c6 = c3 .before .before .before in (
+      search needs,
+      omega (
+        arith,
+        c3 .loop .inv .4 .count,
+        block-length (ltb (c6 .args .start) (c6 .args .n)) (atOctets (c6 .args .v) (c6 .args .e - c6 .args .i)) (c6 .args .p .now)
+            (c6 .args .i) (c6 .args .e) (c6 .pre .2),
+      ),
+      search needs,
+    )
 
 add-t : tie.Need-add-t Inv-loop μ-loop
 add-t c = search needs
@@ -37,13 +51,28 @@ loop-less : tie.Need-loop-less Inv-loop μ-loop
 loop-less c = search needs
 
 loop-again : tie.Need-loop-again Inv-loop μ-loop
-loop-again c = (omega (arith, c .before .before .octet .ensures .count), search needs, search needs, search needs, types-left (c .before .before .before .before .before .before .before .before .before .args .start) _ _ _ _ (c .before .before .before .before .before .before .loop .inv .4) (octet-types (c .before .before .before .before .before .before .before .before .before .args .p .now) (c .before .before .before .before .before .before .loop .j) (c .before .before .before .before .before .before .before .before .before .args .e) (c .before .before .before .before .before .before .loop .t) (c .before .before .before .before .before .loop-test .taken) (c .before .before .before .before .before .before .before .before .before .pre .2)) (c .before .before .before .before .before .before .loop .inv .0) (c .before .before .octet .ensures))
+loop-again c =
+    let c2 = c .before .before in
+    let c5 = c2 .before .before .before in
+    let c6 = c5 .before in
+    let c9 = c6 .before .before .before in (
+      omega (arith, c2 .octet .ensures .count),
+      search needs,
+      search needs,
+      search needs,
+      types-left (c9 .args .start) _ _ _ _ (c6 .loop .inv .4)
+          (octet-types (c9 .args .p .now) (c6 .loop .j) (c9 .args .e) (c6 .loop .t) (c5 .loop-test .taken) (c9 .pre .2)) (c6 .loop .inv .0)
+          (c2 .octet .ensures),
+    )
 
 same-length : tie.Need-same-length Inv-loop μ-loop
 same-length c = search needs
 
 returns : tie.Need-returns Inv-loop μ-loop
-returns c = types-done (ltb (c .before .before .before .before .args .start) (c .before .loop .m)) (c .before .loop .inv .4) (no-octets (c .before .before .before .before .args .p .now) (c .before .loop .j) (c .before .before .before .before .args .e) (c .before .loop .t) (c .loop-test .left))
+returns c =
+    let c4 = c .before .before .before .before in
+    types-done (ltb (c4 .args .start) (c .before .loop .m)) (c .before .loop .inv .4)
+    (no-octets (c4 .args .p .now) (c .before .loop .j) (c4 .args .e) (c .before .loop .t) (c .loop-test .left))
 
 pub block-spec : {M : Type 1} → statement M
 block-spec =

@@ -17,19 +17,29 @@ use Rattle.bitmap.proofs.print.field.Statement.{statement}
 use Rattle.bitmap.proofs.print.field.Tie as tie
 
 abbrev Inv-loop : tie.InvT-loop
-Inv-loop out₀ n p i e m₀ j₀ out m j = (n ≤ m) × (j ≤ e) × Left out₀ n (bitmapText typeText (slice i e p)) out m (typesText (ltb n m) (types (slice j e p))) × Whole (slice j e p)
+Inv-loop out₀ n p i e m₀ j₀ out m j =
+    (n ≤ m) × (j ≤ e) × Left out₀ n (bitmapText typeText (slice i e p)) out m (typesText (ltb n m) (types (slice j e p)))
+    × Whole (slice j e p)
 
 abbrev μ-loop : tie.MeasureT-loop
 μ-loop out₀ n p i e m₀ j₀ out m j = e - j
 
 loop-holds : tie.Need-loop-holds Inv-loop μ-loop
-loop-holds c = (search needs, search needs, rw (le-ltb (c .before .before .args .n) (c .before .before .args .n) (omega arith)) (left-all _ _ _), whole-first _ _ _ (c .before .before .pre .2) (c .before .before .pre .4))
+loop-holds c =
+    let c2 = c .before .before in (
+      search needs,
+      search needs,
+      rw (le-ltb (c2 .args .n) (c2 .args .n) (omega arith)) (left-all _ _ _),
+      whole-first _ _ _ (c2 .pre .2) (c2 .pre .4),
+    )
 
 shared-slice-read-w : tie.Need-shared-slice-read-w Inv-loop μ-loop
 shared-slice-read-w c = search needs
 
 cast-w : tie.Need-cast-w Inv-loop μ-loop
-cast-w c = omega (arith, c .shared-slice-known2 .given (c .before .before .loop .j))
+cast-w c =
+    let c2 = c .before .before in
+    omega (arith, c .shared-slice-known2 .given (c2 .loop .j))
 
 add-k : tie.Need-add-k Inv-loop μ-loop
 add-k c = search needs
@@ -38,34 +48,70 @@ add-k-2 : tie.Need-add-k-2 Inv-loop μ-loop
 add-k-2 c = search needs
 
 shared-slice-read-k : tie.Need-shared-slice-read-k Inv-loop μ-loop
-shared-slice-read-k c = omega (arith, count-there (c .before .before .before .before .before .before .args .p .now) (c .before .before .before .loop .j) (c .before .before .before .before .before .before .args .e) (c .before .before .loop-test .taken) (c .before .before .before .before .before .before .pre .2) (c .before .before .before .loop .inv .3))
+shared-slice-read-k c =
+    let c2 = c .before .before in
+    let c3 = c2 .before in
+    let c6 = c3 .before .before .before in
+    omega (arith, count-there (c6 .args .p .now) (c3 .loop .j) (c6 .args .e) (c2 .loop-test .taken) (c6 .pre .2) (c3 .loop .inv .3))
 
 cast-k : tie.Need-cast-k Inv-loop μ-loop
-cast-k c = omega (arith, c .shared-slice-known3 .given (c .before .before .before .loop .j + 1))
+cast-k c =
+    let c3 = c .before .before .before in
+    omega (arith, c .shared-slice-known3 .given (c3 .loop .j + 1))
 
 add-k-3 : tie.Need-add-k-3 Inv-loop μ-loop
-add-k-3 c = omega (arith, c .shared-slice-known3 .given (c .before .before .before .loop .j + 1))
+add-k-3 c =
+    let c3 = c .before .before .before in
+    omega (arith, c .shared-slice-known3 .given (c3 .loop .j + 1))
 
 add-block : tie.Need-add-block Inv-loop μ-loop
 add-block c = search needs
 
 mul-block : tie.Need-mul-block Inv-loop μ-loop
-mul-block c = omega (arith, c .before .before .shared-slice-known2 .given (c .before .before .before .before .loop .j))
+mul-block c =
+    let c2 = c .before .before in
+    let c4 = c2 .before .before in
+    omega (arith, c2 .shared-slice-known2 .given (c4 .loop .j))
 
 block-requires : tie.Need-block-requires Inv-loop μ-loop
-block-requires c κs = let b = block-there (c .before .before .before .before .before .before .before .args .p .now) (c .before .before .before .before .loop .j) (c .before .before .before .before .before .before .before .args .e) (c .before .before .before .loop-test .taken) (c .before .before .before .before .before .before .before .pre .2) (c .before .before .before .before .loop .inv .3) in (search needs, search needs, omega (arith, b), omega (arith, c .before .before .before .before .loop .inv .2 .count, block-length false atWindow (c .before .before .before .before .before .before .before .args .p .now) (c .before .before .before .before .before .before .before .args .i) (c .before .before .before .before .before .before .before .args .e) (c .before .before .before .before .before .before .before .pre .2)), omega (arith, b, c .before .before .shared-slice-known2 .given (c .before .before .before .before .loop .j)))
+block-requires c κs =
+    let c2 = c .before .before in
+    let c3 = c2 .before in
+    let c4 = c3 .before in
+    let c7 = c4 .before .before .before in
+    let b = block-there (c7 .args .p .now) (c4 .loop .j) (c7 .args .e) (c3 .loop-test .taken) (c7 .pre .2) (c4 .loop .inv .3) in (
+      search needs,
+      search needs,
+      omega (arith, b),
+      omega (arith, c4 .loop .inv .2 .count, block-length false atWindow (c7 .args .p .now) (c7 .args .i) (c7 .args .e) (c7 .pre .2)),
+      omega (arith, b, c2 .shared-slice-known2 .given (c4 .loop .j)),
+    )
 
 loop-less : tie.Need-loop-less Inv-loop μ-loop
 loop-less c = search needs
 
 loop-again : tie.Need-loop-again Inv-loop μ-loop
-loop-again c = let b = block-there (c .before .before .before .before .before .before .before .before .before .before .args .p .now) (c .before .before .before .before .before .before .before .loop .j) (c .before .before .before .before .before .before .before .before .before .before .args .e) (c .before .before .before .before .before .before .loop-test .taken) (c .before .before .before .before .before .before .before .before .before .before .pre .2) (c .before .before .before .before .before .before .before .loop .inv .3) in (omega (arith, c .before .before .block .ensures .count), omega (arith, b), types-left (c .before .before .before .before .before .before .before .before .before .before .args .n) _ _ _ _ (c .before .before .before .before .before .before .before .loop .inv .2) (block-types (c .before .before .before .before .before .before .before .before .before .before .args .p .now) (c .before .before .before .before .before .before .before .loop .j) (c .before .before .before .before .before .before .before .before .before .before .args .e) _ refl (b .1) (c .before .before .before .before .before .before .before .before .before .before .pre .2)) (c .before .before .before .before .before .before .before .loop .inv .0) (c .before .before .block .ensures), b .2)
+loop-again c =
+    let c2 = c .before .before in
+    let c6 = c2 .before .before .before .before in
+    let c7 = c6 .before in
+    let c10 = c7 .before .before .before in
+    let b = block-there (c10 .args .p .now) (c7 .loop .j) (c10 .args .e) (c6 .loop-test .taken) (c10 .pre .2) (c7 .loop .inv .3) in (
+      omega (arith, c2 .block .ensures .count),
+      omega (arith, b),
+      types-left (c10 .args .n) _ _ _ _ (c7 .loop .inv .2)
+          (block-types (c10 .args .p .now) (c7 .loop .j) (c10 .args .e) _ refl (b .1) (c10 .pre .2)) (c7 .loop .inv .0)
+          (c2 .block .ensures),
+      b .2,
+    )
 
 same-length : tie.Need-same-length Inv-loop μ-loop
 same-length c = search needs
 
 returns : tie.Need-returns Inv-loop μ-loop
-returns c = types-done (ltb (c .before .before .before .before .args .n) (c .before .loop .m)) (c .before .loop .inv .2) (ap types (none _ _ _ (c .loop-test .left)))
+returns c =
+    let c4 = c .before .before .before .before in
+    types-done (ltb (c4 .args .n) (c .before .loop .m)) (c .before .loop .inv .2) (ap types (none _ _ _ (c .loop-test .left)))
 
 pub field-spec : {M : Type 1} → statement M
 field-spec =

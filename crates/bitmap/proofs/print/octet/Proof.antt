@@ -4,41 +4,78 @@ use Rattle.format.specs.Digits.{digits}
 use Rattle.format.specs.Bitmap.{setBits}
 use Rattle.buffer.proofs.Laws.{Left}
 use Rattle.bitmap.specs.Types.{typesText}
-use Rattle.bitmap.proofs.Texts.{types-done, types-left, octet-length, Within, octet-within, octet-left, typesLeft, bit-there, bit-within, bit-next, bits-done}
+use Rattle.bitmap.proofs.Texts.{types-done, types-left, octet-length, Within, octet-within, octet-left, typesLeft, bit-there}
+use Rattle.bitmap.proofs.Texts.{bit-within, bit-next, bits-done}
 use native.Mathlib.Omega.{arith}
 use borrow.Author.Needs.{needs}
 use Rattle.bitmap.proofs.print.octet.Statement.{statement}
 use Rattle.bitmap.proofs.print.octet.Tie as tie
 
 abbrev Inv-loop : tie.InvT-loop
-Inv-loop out₀ n start v x m₀ t₀ y₀ out m t y = (start ≤ m) × (v ≤ t) × Within (v + 8 - t) y × Left out₀ n (typesText (ltb start n) (setBits v (digits 2 8 x))) out m (typesText (ltb start m) (typesLeft v t y))
+Inv-loop out₀ n start v x m₀ t₀ y₀ out m t y =
+    (start ≤ m) × (v ≤ t) × Within (v + 8 - t) y
+    × Left out₀ n (typesText (ltb start n) (setBits v (digits 2 8 x))) out m (typesText (ltb start m) (typesLeft v t y))
 
 abbrev μ-loop : tie.MeasureT-loop
 μ-loop out₀ n start v x m₀ t₀ y₀ out m t y = v + 8 - t
 
 loop-holds : tie.Need-loop-holds Inv-loop μ-loop
-loop-holds c = (search needs, search needs, octet-within (c .before .args .v) (c .before .args .x), octet-left (c .before .args .v) (c .before .args .x) _ _ (ltb (c .before .args .start) (c .before .args .n)) (omega arith))
+loop-holds c = (
+  search needs,
+  search needs,
+  octet-within (c .before .args .v) (c .before .args .x),
+  octet-left (c .before .args .v) (c .before .args .x) _ _ (ltb (c .before .args .start) (c .before .args .n)) (omega arith),
+)
 
 put-if-requires : tie.Need-put-if-requires Inv-loop μ-loop
-put-if-requires c κs = let h = bit-there (c .before .before .before .before .args .v) (c .before .before .loop .t) (c .before .before .loop .y) (c .before .before .loop .inv .2) (c .before .loop-test .taken) in (omega arith, omega (arith, c .before .before .loop .inv .3 .count, octet-length (ltb (c .before .before .before .before .args .start) (c .before .before .before .before .args .n)) (c .before .before .before .before .args .v) (c .before .before .before .before .args .x)), omega arith)
+put-if-requires c κs =
+    let c2 = c .before .before in
+    let c4 = c2 .before .before in
+    let h = bit-there (c4 .args .v) (c2 .loop .t) (c2 .loop .y) (c2 .loop .inv .2) (c .before .loop-test .taken) in (
+      omega arith,
+      omega (arith, c2 .loop .inv .3 .count, octet-length (ltb (c4 .args .start) (c4 .args .n)) (c4 .args .v) (c4 .args .x)),
+      omega arith,
+    )
 
 mul-y : tie.Need-mul-y Inv-loop μ-loop
 mul-y c = search needs
 
 add-t : tie.Need-add-t Inv-loop μ-loop
-add-t c = let h = bit-there (c .before .before .before .before .before .before .before .args .v) (c .before .before .before .before .before .loop .t) (c .before .before .before .before .before .loop .y) (c .before .before .before .before .before .loop .inv .2) (c .before .before .before .before .loop-test .taken) in omega arith
+add-t c =
+    let c4 = c .before .before .before .before in
+    let c5 = c4 .before in
+    let c7 = c5 .before .before in
+    let h = bit-there (c7 .args .v) (c5 .loop .t) (c5 .loop .y) (c5 .loop .inv .2) (c4 .loop-test .taken) in omega arith
 
 loop-less : tie.Need-loop-less Inv-loop μ-loop
-loop-less c = let h = bit-there (c .before .before .before .before .before .before .before .args .v) (c .before .before .before .before .before .loop .t) (c .before .before .before .before .before .loop .y) (c .before .before .before .before .before .loop .inv .2) (c .before .before .before .before .loop-test .taken) in omega arith
+loop-less c =
+    let c4 = c .before .before .before .before in
+    let c5 = c4 .before in
+    let c7 = c5 .before .before in
+    let h = bit-there (c7 .args .v) (c5 .loop .t) (c5 .loop .y) (c5 .loop .inv .2) (c4 .loop-test .taken) in omega arith
 
 loop-again : tie.Need-loop-again Inv-loop μ-loop
-loop-again c = (omega (arith, c .before .before .put-if .ensures .count), search needs, bit-within (c .before .before .before .before .before .before .before .args .v) (c .before .before .before .before .before .loop .t) (c .before .before .before .before .before .loop .y) (c .before .before .before .before .before .loop .inv .2) (c .before .before .before .before .loop-test .taken), types-left (c .before .before .before .before .before .before .before .args .start) _ _ _ _ (c .before .before .before .before .before .loop .inv .3) (bit-next (c .before .before .before .before .before .before .before .args .v) (c .before .before .before .before .before .loop .t) (c .before .before .before .before .before .loop .y) (c .before .before .before .before .before .loop .inv .2) (c .before .before .before .before .loop-test .taken)) (c .before .before .before .before .before .loop .inv .0) (c .before .before .put-if .ensures))
+loop-again c =
+    let c2 = c .before .before in
+    let c4 = c2 .before .before in
+    let c5 = c4 .before in
+    let c7 = c5 .before .before in (
+      omega (arith, c2 .put-if .ensures .count),
+      search needs,
+      bit-within (c7 .args .v) (c5 .loop .t) (c5 .loop .y) (c5 .loop .inv .2) (c4 .loop-test .taken),
+      types-left (c7 .args .start) _ _ _ _ (c5 .loop .inv .3)
+          (bit-next (c7 .args .v) (c5 .loop .t) (c5 .loop .y) (c5 .loop .inv .2) (c4 .loop-test .taken)) (c5 .loop .inv .0)
+          (c2 .put-if .ensures),
+    )
 
 same-length : tie.Need-same-length Inv-loop μ-loop
 same-length c = search needs
 
 returns : tie.Need-returns Inv-loop μ-loop
-returns c = types-done (ltb (c .before .before .before .args .start) (c .before .loop .m)) (c .before .loop .inv .3) (bits-done (c .before .before .before .args .v) (c .before .loop .t) (c .before .loop .y) (c .loop-test .left))
+returns c =
+    let c3 = c .before .before .before in
+    types-done (ltb (c3 .args .start) (c .before .loop .m)) (c .before .loop .inv .3)
+    (bits-done (c3 .args .v) (c .before .loop .t) (c .before .loop .y) (c .loop-test .left))
 
 pub octet-spec : {M : Type 1} → statement M
 octet-spec =

@@ -6,16 +6,16 @@ use Rattle.bitmap.proofs.print.put_if.Statement.{statement}
 use Rattle.bitmap.proofs.print.put_if.Tie as tie
 
 returns : tie.Need-returns
-returns c = rw (c .if1 .taken, no-types (ltb (c .before .before .args .start) (c .before .before .args .n))) (wrote-none _ _)
-
-put-type-requires : tie.Need-put-type-requires
-put-type-requires c κs = search needs
-
-same-length : tie.Need-same-length
-same-length c = search needs
+returns c =
+    let c2 = c .before .before in
+    rw (c .if1 .taken, no-types (ltb (c2 .args .start) (c2 .args .n))) (wrote-none _ _)
 
 returns-2 : tie.Need-returns-2
-returns-2 c = rw (bit-set (c .before .before .before .before .before .before .args .v) (c .before .before .before .before .before .before .args .bit) (c .before .before .before .before .if1 .left)) (c .before .before .put-type .ensures)
+returns-2 c =
+    let c2 = c .before .before in
+    let c4 = c2 .before .before in
+    let c6 = c4 .before .before in
+    rw (bit-set (c6 .args .v) (c6 .args .bit) (c4 .if1 .left)) (c2 .put-type .ensures)
 
 pub put-if-spec : {M : Type 1} → statement M
-put-if-spec = tie.close (tie.spec returns put-type-requires same-length returns-2)
+put-if-spec = tie.close (tie.spec returns (λ c κs. search needs) (λ c. search needs) returns-2)

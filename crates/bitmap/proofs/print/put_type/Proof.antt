@@ -5,35 +5,29 @@ use borrow.Author.Needs.{needs}
 use Rattle.bitmap.proofs.print.put_type.Statement.{statement}
 use Rattle.bitmap.proofs.print.put_type.Tie as tie
 
-put-octet-requires : tie.Need-put-octet-requires
-put-octet-requires c κs = search needs
-
-number-requires : tie.Need-number-requires
-number-requires c κs = search needs
-
-same-length : tie.Need-same-length
-same-length c = search needs
-
 returns : tie.Need-returns
-returns c = rw (lt-ltb _ _ (c .before .before .before .before .before .before .before .before .if1 .taken)) (wrote-text _ _ (later-one (c .before .before .before .before .before .before .before .before .before .before .args .v)) (wrote-append (c .before .before .before .before .before .before .put-octet .ensures) (c .before .before .number .ensures)))
-
-number-requires-2 : tie.Need-number-requires-2
-number-requires-2 c κs = search needs
-
-same-length-2 : tie.Need-same-length-2
-same-length-2 c = search needs
+returns c =
+    let c2 = c .before .before in
+    let c6 = c2 .before .before .before .before in
+    let c8 = c6 .before .before in
+    let c10 = c8 .before .before in
+    rw (lt-ltb _ _ (c8 .if1 .taken))
+    (wrote-text _ _ (later-one (c10 .args .v)) (wrote-append (c6 .put-octet .ensures) (c2 .number .ensures)))
 
 returns-2 : tie.Need-returns-2
-returns-2 c = rw (le-ltb _ _ (c .before .before .before .before .if1 .left)) (c .before .before .number2 .ensures)
+returns-2 c =
+    let c2 = c .before .before in
+    let c4 = c2 .before .before in
+    rw (le-ltb _ _ (c4 .if1 .left)) (c2 .number2 .ensures)
 
 pub put-type-spec : {M : Type 1} → statement M
 put-type-spec =
     tie.close
     (tie.spec
-    put-octet-requires
-    number-requires
-    same-length
+    (λ c κs. search needs)
+    (λ c κs. search needs)
+    (λ c. search needs)
     returns
-    number-requires-2
-    same-length-2
+    (λ c κs. search needs)
+    (λ c. search needs)
     returns-2)

@@ -13,13 +13,18 @@ use Rattle.bitmap.proofs.read.fill.Statement.{statement}
 use Rattle.bitmap.proofs.read.fill.Tie as tie
 
 abbrev Inv-loop : tie.InvT-loop
-Inv-loop m₀ t i top₀ j₀ m top j = (j ≤ length t) × (top ≤ 256) × ((ts : List ℕ) × Holds m top ts × (typesRead (drop i t) ≡ after ts (typesRead (drop j t))))
+Inv-loop m₀ t i top₀ j₀ m top j =
+    (j ≤ length t) × (top ≤ 256) × ((ts : List ℕ) × Holds m top ts × (typesRead (drop i t) ≡ after ts (typesRead (drop j t))))
 
 abbrev μ-loop : tie.MeasureT-loop
 μ-loop m₀ t i top₀ j₀ m top j = length t - j
 
 loop-holds : tie.Need-loop-holds Inv-loop μ-loop
-loop-holds c = (search needs, search needs, ([], c .before .pre .2, sym (after-none (typesRead (drop (c .before .args .i) (c .before .args .t .now))))))
+loop-holds c = (
+  search needs,
+  search needs,
+  ([], c .before .pre .2, sym (after-none (typesRead (drop (c .before .args .i) (c .before .args .t .now))))),
+)
 
 next-type-requires : tie.Need-next-type-requires Inv-loop μ-loop
 next-type-requires c κs = search needs
@@ -28,25 +33,56 @@ enum-told : tie.Need-enum-told Inv-loop μ-loop
 enum-told c = search needs
 
 returns : tie.Need-returns Inv-loop μ-loop
-returns c = let l = c .before .before .before .loop .inv in let (ts, h, q) = l .2 in (l .1, (ts, q ∙ ap (after ts) (sym (rw (c .enum-told .given .1) at (c .before .before .next-type .ensures .0))) ∙ after-all ts, h))
+returns c =
+    let c2 = c .before .before in
+    let c3 = c2 .before in
+    let l = c3 .loop .inv in
+    let (ts, h, q) = l .2 in
+    (l .1, (ts, q ∙ ap (after ts) (sym (rw (c .enum-told .given .1) at (c2 .next-type .ensures .0))) ∙ after-all ts, h))
 
 enum-known-k : tie.Need-enum-known-k Inv-loop μ-loop
 enum-known-k c = search needs
 
 mark-requires : tie.Need-mark-requires Inv-loop μ-loop
-mark-requires c κs = let w = rw (c .before .before .k .given .1) at (c .before .before .before .before .next-type .ensures .1) in (omega arith, w .0)
+mark-requires c κs =
+    let c2 = c .before .before in
+    let c4 = c2 .before .before in
+    let w = rw (c2 .k .given .1) at (c4 .next-type .ensures .1) in (omega arith, w .0)
 
 loop-less : tie.Need-loop-less Inv-loop μ-loop
-loop-less c = let w = rw (c .before .before .before .k .given .1) at (c .before .before .before .before .before .next-type .ensures .1) in omega arith
+loop-less c =
+    let c3 = c .before .before .before in
+    let c5 = c3 .before .before in
+    let w = rw (c3 .k .given .1) at (c5 .next-type .ensures .1) in omega arith
 
 loop-again : tie.Need-loop-again Inv-loop μ-loop
-loop-again c = let (ts, h, q) = c .before .before .before .before .before .before .loop .inv .2 in let v = c .before .before .before .k .given .0 .0 in let e = c .before .before .before .k .given .0 .1 .0 in let w = rw (c .before .before .before .k .given .1) at (c .before .before .before .before .before .next-type .ensures .1) in (w .2, c .mark .ensures .0, (ts ++ v ∷ [], c .mark .ensures .1 ts h, q ∙ ap (after ts) (sym (rw (c .before .before .before .k .given .1) at (c .before .before .before .before .before .next-type .ensures .0))) ∙ after-one ts v (typesRead (drop e (c .before .before .before .before .before .before .before .before .args .t .now)))))
+loop-again c =
+    let c3 = c .before .before .before in
+    let c5 = c3 .before .before in
+    let c6 = c5 .before in
+    let c8 = c6 .before .before in
+    let (ts, h, q) = c6 .loop .inv .2 in
+    let v = c3 .k .given .0 .0 in
+    let e = c3 .k .given .0 .1 .0 in
+    let w = rw (c3 .k .given .1) at (c5 .next-type .ensures .1) in (
+      w .2,
+      c .mark .ensures .0,
+      (
+        ts ++ v ∷ [],
+        c .mark .ensures .1 ts h,
+        q ∙ ap (after ts) (sym (rw (c3 .k .given .1) at (c5 .next-type .ensures .0)))
+            ∙ after-one ts v (typesRead (drop e (c8 .args .t .now))),
+      ),
+    )
 
 enum-told-2 : tie.Need-enum-told-2 Inv-loop μ-loop
 enum-told-2 c = search needs
 
 returns-2 : tie.Need-returns-2 Inv-loop μ-loop
-returns-2 c = let (ts, h, q) = c .before .before .before .loop .inv .2 in q ∙ ap (after ts) (sym (rw (c .enum-told2 .given .1) at (c .before .before .next-type .ensures .0)))
+returns-2 c =
+    let c2 = c .before .before in
+    let c3 = c2 .before in
+    let (ts, h, q) = c3 .loop .inv .2 in q ∙ ap (after ts) (sym (rw (c .enum-told2 .given .1) at (c2 .next-type .ensures .0)))
 
 pub fill-spec : {M : Type 1} → statement M
 fill-spec =

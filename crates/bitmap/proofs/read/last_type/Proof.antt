@@ -11,39 +11,39 @@ use borrow.Author.Needs.{needs}
 use Rattle.bitmap.proofs.read.last_type.Statement.{statement}
 use Rattle.bitmap.proofs.read.last_type.Tie as tie
 
-sub-if1 : tie.Need-sub-if1
-sub-if1 c = search needs
-
-returns : tie.Need-returns
-returns c = search needs
-
-add-skip : tie.Need-add-skip
-add-skip c = search needs
-
-skip-requires : tie.Need-skip-requires
-skip-requires c κs = search needs
-
-parted-at-requires : tie.Need-parted-at-requires
-parted-at-requires c κs = search needs
-
 type-of-requires : tie.Need-type-of-requires
-type-of-requires c κs = (omega (arith, c .before .before .skip .ensures), omega (arith, c .before .before .skip .ensures, front-within digit (c .before .before .before .before .before .args .t .now) (c .before .before .before .before .before .args .a + 4) (length (c .before .before .before .before .before .args .t .now)) (omega arith) (omega arith)))
+type-of-requires c κs =
+    let c2 = c .before .before in
+    let c5 = c2 .before .before .before in (
+      omega (arith, c2 .skip .ensures),
+      omega (
+        arith,
+        c2 .skip .ensures,
+        front-within digit (c5 .args .t .now) (c5 .args .a + 4) (length (c5 .args .t .now)) (omega arith) (omega arith),
+      ),
+    )
 
 returns-2 : tie.Need-returns-2
-returns-2 c = let t = c .before .before .before .before .before .before .args .t .now in let e = c .before .before .before .skip .result in rw (c .type-of .ensures) (found-plain t (c .before .before .before .before .before .before .args .a) e (omega (arith, c .before .before .before .skip .ensures)) (omega (arith, c .before .before .before .skip .ensures, front-within digit t (c .before .before .before .before .before .before .args .a + 4) (length t) (omega arith) (omega arith))) (sym (c .before .before .parted-at .ensures) ∙ c .before .if2 .taken) (typeNumber (slice (c .before .before .before .before .before .before .args .a) e t)) refl)
-
-returns-3 : tie.Need-returns-3
-returns-3 c = search needs
+returns-2 c =
+    let c2 = c .before .before in
+    let c3 = c2 .before in
+    let c6 = c3 .before .before .before in
+    let t = c6 .args .t .now in
+    let e = c3 .skip .result in
+    rw (c .type-of .ensures)
+    (found-plain t (c6 .args .a) e (omega (arith, c3 .skip .ensures))
+    (omega (arith, c3 .skip .ensures, front-within digit t (c6 .args .a + 4) (length t) (omega arith) (omega arith)))
+    (sym (c2 .parted-at .ensures) ∙ c .before .if2 .taken) (typeNumber (slice (c6 .args .a) e t)) refl)
 
 pub last-type-spec : {M : Type 1} → statement M
 last-type-spec =
     tie.close
     (tie.spec
-    sub-if1
-    returns
-    add-skip
-    skip-requires
-    parted-at-requires
+    (λ c. search needs)
+    (λ c. search needs)
+    (λ c. search needs)
+    (λ c κs. search needs)
+    (λ c κs. search needs)
     type-of-requires
     returns-2
-    returns-3)
+    (λ c. search needs))

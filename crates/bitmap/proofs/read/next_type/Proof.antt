@@ -7,47 +7,39 @@ use borrow.Author.Needs.{needs}
 use Rattle.bitmap.proofs.read.next_type.Statement.{statement}
 use Rattle.bitmap.proofs.read.next_type.Tie as tie
 
-skip-requires : tie.Need-skip-requires
-skip-requires c κs = search needs
-
 plain-type-requires : tie.Need-plain-type-requires
-plain-type-requires c κs = omega (arith, c .skip .ensures, front-within blank (c .before .before .args .t .now) (c .before .before .args .i) (length (c .before .before .args .t .now)) (omega arith) (omega arith))
-
-enum-known-r : tie.Need-enum-known-r
-enum-known-r c = search needs
-
-enum-told : tie.Need-enum-told
-enum-told c = search needs
-
-token-type-requires : tie.Need-token-type-requires
-token-type-requires c κs = search needs
-
-enum-told-2 : tie.Need-enum-told-2
-enum-told-2 c = search needs
-
-token-type-requires-2 : tie.Need-token-type-requires-2
-token-type-requires-2 c κs = search needs
+plain-type-requires c κs =
+    let c2 = c .before .before in
+    omega (
+      arith,
+      c .skip .ensures,
+      front-within blank (c2 .args .t .now) (c2 .args .i) (length (c2 .args .t .now)) (omega arith) (omega arith),
+    )
 
 returns : tie.Need-returns
-returns c = let t = c .before .before .before .before .before .before .args .t .now in let v = c .before .r .given .0 .0 in let e = c .before .r .given .0 .1 .0 in let p = rw (c .before .r .given .1) at (c .before .before .before .plain-type .ensures) in (plain-types t (c .before .before .before .before .before .before .args .i) (c .before .before .before .before .skip .result) e v (c .before .before .before .before .before .before .pre .0) (c .before .before .before .before .skip .ensures) (p .0) (p .1) (p .2) (p .3), plain-within t (c .before .before .before .before .before .before .args .i) (c .before .before .before .before .skip .result) e v (c .before .before .before .before .before .before .pre .0) (c .before .before .before .before .skip .ensures) (p .0) (p .1) (p .2) (p .3))
-
-returns-2 : tie.Need-returns-2
-returns-2 c = search needs
-
-returns-3 : tie.Need-returns-3
-returns-3 c = search needs
+returns c =
+    let c3 = c .before .before .before in
+    let c4 = c3 .before in
+    let c6 = c4 .before .before in
+    let t = c6 .args .t .now in
+    let v = c .before .r .given .0 .0 in
+    let e = c .before .r .given .0 .1 .0 in
+    let p = rw (c .before .r .given .1) at (c3 .plain-type .ensures) in (
+      plain-types t (c6 .args .i) (c4 .skip .result) e v (c6 .pre .0) (c4 .skip .ensures) (p .0) (p .1) (p .2) (p .3),
+      plain-within t (c6 .args .i) (c4 .skip .result) e v (c6 .pre .0) (c4 .skip .ensures) (p .0) (p .1) (p .2) (p .3),
+    )
 
 pub next-type-spec : {M : Type 1} → statement M
 next-type-spec =
     tie.close
     (tie.spec
-    skip-requires
+    (λ c κs. search needs)
     plain-type-requires
-    enum-known-r
-    enum-told
-    token-type-requires
-    enum-told-2
-    token-type-requires-2
+    (λ c. search needs)
+    (λ c. search needs)
+    (λ c κs. search needs)
+    (λ c. search needs)
+    (λ c κs. search needs)
     returns
-    returns-2
-    returns-3)
+    (λ c. search needs)
+    (λ c. search needs))

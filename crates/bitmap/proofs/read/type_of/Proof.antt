@@ -6,20 +6,19 @@ use borrow.Author.Needs.{needs}
 use Rattle.bitmap.proofs.read.type_of.Statement.{statement}
 use Rattle.bitmap.proofs.read.type_of.Tie as tie
 
-number-requires : tie.Need-number-requires
-number-requires c κs = search needs
-
-enum-known-q : tie.Need-enum-known-q
-enum-known-q c = search needs
-
-enum-told : tie.Need-enum-told
-enum-told c = search needs
-
 returns : tie.Need-returns
-returns c = found-value (c .before .before .before .before .before .args .e) _ (typeNumber (slice (c .before .before .before .before .before .args .a) (c .before .before .before .before .before .args .e) (c .before .before .before .before .before .args .t .now))) (sym (c .before .q .given .1) ∙ c .before .before .before .number .ensures)
+returns c =
+    let c3 = c .before .before .before in
+    let c5 = c3 .before .before in
+    found-value (c5 .args .e) _ (typeNumber (slice (c5 .args .a) (c5 .args .e) (c5 .args .t .now)))
+    (sym (c .before .q .given .1) ∙ c3 .number .ensures)
 
 returns-2 : tie.Need-returns-2
-returns-2 c = found-fault (c .before .before .before .before .args .e) (typeNumber (slice (c .before .before .before .before .args .a) (c .before .before .before .before .args .e) (c .before .before .before .before .args .t .now))) (sym (c .enum-told .given .1) ∙ c .before .before .number .ensures)
+returns-2 c =
+    let c2 = c .before .before in
+    let c4 = c2 .before .before in
+    found-fault (c4 .args .e) (typeNumber (slice (c4 .args .a) (c4 .args .e) (c4 .args .t .now)))
+    (sym (c .enum-told .given .1) ∙ c2 .number .ensures)
 
 pub type-of-spec : {M : Type 1} → statement M
-type-of-spec = tie.close (tie.spec number-requires enum-known-q enum-told returns returns-2)
+type-of-spec = tie.close (tie.spec (λ c κs. search needs) (λ c. search needs) (λ c. search needs) returns returns-2)

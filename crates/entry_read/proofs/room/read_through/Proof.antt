@@ -13,127 +13,98 @@ use borrow.Author.Needs.{needs}
 use Rattle.entry_read.proofs.room.read_through.Statement.{statement}
 use Rattle.entry_read.proofs.room.read_through.Tie as tie
 
-read-run-requires : tie.Need-read-run-requires
-read-run-requires c κs = search needs
-
-enum-known-r : tie.Need-enum-known-r
-enum-known-r c = search needs
-
-refused-requires : tie.Need-refused-requires
-refused-requires c κs = search needs
-
-enum-known-r-2 : tie.Need-enum-known-r-2
-enum-known-r-2 c = search needs
-
-refused-requires-2 : tie.Need-refused-requires-2
-refused-requires-2 c κs = search needs
-
-same-length : tie.Need-same-length
-same-length c = search needs
-
 returns : tie.Need-returns
-returns c = over-leaves (kindsFrom (c .before .before .before .before .before .before .before .before .before .before .before .before .before .before .args .s .now) (fieldsOf (c .before .before .before .before .before .before .before .before .before .before .before .before .before .before .args .codes .now)) (c .before .before .before .before .before .before .before .before .before .before .before .before .before .before .args .first) (c .before .before .before .before .before .before .before .before .before .before .before .before .before .before .args .many)) (c .before .before .before .before .before .before .before .before .before .before .before .before .before .before .args .origin .now) (c .before .before .before .before .before .before .before .before .before .before .before .before .before .before .args .t .now) (c .before .before .before .before .before .before .before .before .before .before .before .before .before .before .args .out .now) (c .before .before .before .before .before .before .before .before .before .before .before .before .before .before .args .at) _ _ _ (c .before .before .before .before .before .before .before .read-run .ensures) _ (c .before .before .before .r2 .given .1) _ (c .before .if1 .taken) (c .refused2 .ensures .0) (c .refused2 .ensures .1)
-
-least-requires : tie.Need-least-requires
-least-requires c κs = search needs
-
-sub-if2 : tie.Need-sub-if2
-sub-if2 c = search needs
-
-cast-refused : tie.Need-cast-refused
-cast-refused c = search needs
-
-refused-requires-3 : tie.Need-refused-requires-3
-refused-requires-3 c κs = search needs
-
-same-length-2 : tie.Need-same-length-2
-same-length-2 c = search needs
+returns c =
+    let c3 = c .before .before .before in
+    let c7 = c3 .before .before .before .before in
+    let c14 = c7 .before .before .before .before .before .before .before in
+    over-leaves (kindsFrom (c14 .args .s .now) (fieldsOf (c14 .args .codes .now)) (c14 .args .first) (c14 .args .many))
+    (c14 .args .origin .now) (c14 .args .t .now) (c14 .args .out .now) (c14 .args .at) _ _ _ (c7 .read-run .ensures) _
+    (c3 .r2 .given .1) _ (c .before .if1 .taken) (c .refused2 .ensures .0) (c .refused2 .ensures .1)
 
 returns-2 : tie.Need-returns-2
-returns-2 c = measured-leaves (kindsFrom (c .before .before .before .before .before .before .before .before .before .before .before .before .before .before .before .before .args .s .now) (fieldsOf (c .before .before .before .before .before .before .before .before .before .before .before .before .before .before .before .before .args .codes .now)) (c .before .before .before .before .before .before .before .before .before .before .before .before .before .before .before .before .args .first) (c .before .before .before .before .before .before .before .before .before .before .before .before .before .before .before .before .args .many)) (c .before .before .before .before .before .before .before .before .before .before .before .before .before .before .before .before .args .origin .now) (c .before .before .before .before .before .before .before .before .before .before .before .before .before .before .before .before .args .t .now) (c .before .before .before .before .before .before .before .before .before .before .before .before .before .before .before .before .args .out .now) (c .before .before .before .before .before .before .before .before .before .before .before .before .before .before .before .before .args .at) _ _ _ (c .before .before .before .before .before .before .before .before .before .read-run .ensures) _ (c .before .before .before .before .before .r2 .given .1) (omega (arith, c .before .before .before .if1 .left)) _ (omega (arith, c .before .if2 .taken, c .before .before .least .ensures)) (c .refused3 .ensures .0) (c .refused3 .ensures .1)
+returns-2 c =
+    let c2 = c .before .before in
+    let c3 = c2 .before in
+    let c5 = c3 .before .before in
+    let c9 = c5 .before .before .before .before in
+    let c16 = c9 .before .before .before .before .before .before .before in
+    measured-leaves (kindsFrom (c16 .args .s .now) (fieldsOf (c16 .args .codes .now)) (c16 .args .first) (c16 .args .many))
+    (c16 .args .origin .now) (c16 .args .t .now) (c16 .args .out .now) (c16 .args .at) _ _ _ (c9 .read-run .ensures) _
+    (c5 .r2 .given .1) (omega (arith, c3 .if1 .left)) _ (omega (arith, c .before .if2 .taken, c2 .least .ensures))
+    (c .refused3 .ensures .0) (c .refused3 .ensures .1)
 
 read-again-requires : tie.Need-read-again-requires
-read-again-requires c κs = (c .before .before .before .before .before .before .before .before .before .before .before .before .before .before .before .before .before .pre .0, c .before .before .before .before .before .before .before .before .before .before .before .before .before .before .before .before .before .pre .1, c .before .before .before .before .before .before .before .before .before .before .before .before .before .before .before .before .before .pre .2, reads-in (kindsFrom (c .before .before .before .before .before .before .before .before .before .before .before .before .before .before .before .before .before .args .s .now) (fieldsOf (c .before .before .before .before .before .before .before .before .before .before .before .before .before .before .before .before .before .args .codes .now)) (c .before .before .before .before .before .before .before .before .before .before .before .before .before .before .before .before .before .args .first) (c .before .before .before .before .before .before .before .before .before .before .before .before .before .before .before .before .before .args .many)) (c .before .before .before .before .before .before .before .before .before .before .before .before .before .before .before .before .before .args .origin .now) (c .before .before .before .before .before .before .before .before .before .before .before .before .before .before .before .before .before .args .t .now) (c .before .before .before .before .before .before .before .before .before .before .before .before .before .before .before .before .before .args .out .now) (c .before .before .before .before .before .before .before .before .before .before .before .before .before .before .before .before .before .args .at) _ _ _ (c .before .before .before .before .before .before .before .before .before .before .read-run .ensures) _ (c .before .before .before .before .before .before .r2 .given .1) (omega (arith, c .before .before .before .before .if1 .left)) (omega (arith, c .before .before .if2 .left, c .before .before .before .least .ensures)))
-
-same-length-3 : tie.Need-same-length-3
-same-length-3 c = search needs
-
-same-length-4 : tie.Need-same-length-4
-same-length-4 c = search needs
-
-returns-3 : tie.Need-returns-3
-returns-3 c = search needs
-
-sub-put-all : tie.Need-sub-put-all
-sub-put-all c = search needs
-
-part-put-all-start : tie.Need-part-put-all-start
-part-put-all-start c = search needs
-
-part-put-all-end : tie.Need-part-put-all-end
-part-put-all-end c = search needs
-
-sub-put-all-2 : tie.Need-sub-put-all-2
-sub-put-all-2 c = search needs
-
-part-put-all-start-2 : tie.Need-part-put-all-start-2
-part-put-all-start-2 c = search needs
-
-part-put-all-end-2 : tie.Need-part-put-all-end-2
-part-put-all-end-2 c = search needs
-
-put-all-requires : tie.Need-put-all-requires
-put-all-requires c κs = search needs
-
-cast-t32 : tie.Need-cast-t32
-cast-t32 c = search needs
-
-same-length-5 : tie.Need-same-length-5
-same-length-5 c = search needs
+read-again-requires c κs =
+    let c2 = c .before .before in
+    let c3 = c2 .before in
+    let c4 = c3 .before in
+    let c6 = c4 .before .before in
+    let c10 = c6 .before .before .before .before in
+    let c17 = c10 .before .before .before .before .before .before .before in (
+      c17 .pre .0,
+      c17 .pre .1,
+      c17 .pre .2,
+      reads-in (kindsFrom (c17 .args .s .now) (fieldsOf (c17 .args .codes .now)) (c17 .args .first) (c17 .args .many))
+          (c17 .args .origin .now) (c17 .args .t .now) (c17 .args .out .now) (c17 .args .at) _ _ _ (c10 .read-run .ensures) _
+          (c6 .r2 .given .1) (omega (arith, c4 .if1 .left)) (omega (arith, c2 .if2 .left, c3 .least .ensures)),
+    )
 
 returns-4 : tie.Need-returns-4
-returns-4 c = refused-leaves (kindsFrom (c .before .before .before .before .before .before .before .before .before .before .before .before .before .args .s .now) (fieldsOf (c .before .before .before .before .before .before .before .before .before .before .before .before .before .args .codes .now)) (c .before .before .before .before .before .before .before .before .before .before .before .before .before .args .first) (c .before .before .before .before .before .before .before .before .before .before .before .before .before .args .many)) (c .before .before .before .before .before .before .before .before .before .before .before .before .before .args .origin .now) (c .before .before .before .before .before .before .before .before .before .before .before .before .before .args .t .now) (c .before .before .before .before .before .before .before .before .before .before .before .before .before .args .out .now) (c .before .before .before .before .before .before .before .before .before .before .before .before .before .args .at) _ _ _ (c .before .before .before .before .before .before .read-run .ensures) _ _ _ (c .before .before .r .given .1) (c .refused .ensures .0) (c .refused .ensures .1)
-
-same-length-6 : tie.Need-same-length-6
-same-length-6 c = search needs
-
-same-length-7 : tie.Need-same-length-7
-same-length-7 c = search needs
+returns-4 c =
+    let c2 = c .before .before in
+    let c6 = c2 .before .before .before .before in
+    let c13 = c6 .before .before .before .before .before .before .before in
+    refused-leaves (kindsFrom (c13 .args .s .now) (fieldsOf (c13 .args .codes .now)) (c13 .args .first) (c13 .args .many))
+    (c13 .args .origin .now) (c13 .args .t .now) (c13 .args .out .now) (c13 .args .at) _ _ _ (c6 .read-run .ensures) _ _ _
+    (c2 .r .given .1) (c .refused .ensures .0) (c .refused .ensures .1)
 
 returns-5 : tie.Need-returns-5
-returns-5 c = copied-leaves (kindsFrom (c .before .before .before .before .before .before .before .before .before .before .before .before .before .before .before .before .before .before .before .before .before .before .args .s .now) (fieldsOf (c .before .before .before .before .before .before .before .before .before .before .before .before .before .before .before .before .before .before .before .before .before .before .args .codes .now)) (c .before .before .before .before .before .before .before .before .before .before .before .before .before .before .before .before .before .before .before .before .before .before .args .first) (c .before .before .before .before .before .before .before .before .before .before .before .before .before .before .before .before .before .before .before .before .before .before .args .many)) (c .before .before .before .before .before .before .before .before .before .before .before .before .before .before .before .before .before .before .before .before .before .before .args .origin .now) (c .before .before .before .before .before .before .before .before .before .before .before .before .before .before .before .before .before .before .before .before .before .before .args .t .now) (c .before .before .before .before .before .before .before .before .before .before .before .before .before .before .before .before .before .before .before .before .before .before .args .out .now) (c .before .before .before .before .before .before .before .before .before .before .before .before .before .before .before .before .before .before .before .before .before .before .args .at) _ _ _ (c .before .before .before .before .before .before .before .before .before .before .before .before .before .before .before .read-run .ensures) _ (c .before .before .before .before .before .before .before .before .before .before .before .r2 .given .1) (omega (arith, c .before .before .before .before .before .before .before .before .before .if1 .left)) _ _ _ _ _ refl (c .before .before .before .before .before .before .before .before .least .ensures) (omega (arith, c .before .before .before .before .before .before .before .if2 .left, c .before .before .before .before .before .before .before .before .least .ensures)) (omega (arith, c .before .before .before .before .before .before .if3 .left)) (c .before .before .put-all .ensures) refl refl
+returns-5 c =
+    let c2 = c .before .before in
+    let c6 = c2 .before .before .before .before in
+    let c7 = c6 .before in
+    let c8 = c7 .before in
+    let c9 = c8 .before in
+    let c11 = c9 .before .before in
+    let c15 = c11 .before .before .before .before in
+    let c22 = c15 .before .before .before .before .before .before .before in
+    copied-leaves (kindsFrom (c22 .args .s .now) (fieldsOf (c22 .args .codes .now)) (c22 .args .first) (c22 .args .many))
+    (c22 .args .origin .now) (c22 .args .t .now) (c22 .args .out .now) (c22 .args .at) _ _ _ (c15 .read-run .ensures) _
+    (c11 .r2 .given .1) (omega (arith, c9 .if1 .left)) _ _ _ _ _ refl (c8 .least .ensures)
+    (omega (arith, c7 .if2 .left, c8 .least .ensures)) (omega (arith, c6 .if3 .left)) (c2 .put-all .ensures) refl refl
 
 pub read-through-spec : {M : Type 1} → statement M
 read-through-spec =
     tie.close
     (tie.spec
-    read-run-requires
-    enum-known-r
-    refused-requires
-    enum-known-r-2
-    refused-requires-2
-    same-length
+    (λ c κs. search needs)
+    (λ c. search needs)
+    (λ c κs. search needs)
+    (λ c. search needs)
+    (λ c κs. search needs)
+    (λ c. search needs)
     returns
-    least-requires
-    sub-if2
-    cast-refused
-    refused-requires-3
-    same-length-2
+    (λ c κs. search needs)
+    (λ c. search needs)
+    (λ c. search needs)
+    (λ c κs. search needs)
+    (λ c. search needs)
     returns-2
     read-again-requires
-    same-length-3
-    same-length-4
-    returns-3
-    sub-put-all
-    part-put-all-start
-    part-put-all-end
-    sub-put-all-2
-    part-put-all-start-2
-    part-put-all-end-2
-    put-all-requires
-    cast-t32
-    same-length-5
+    (λ c. search needs)
+    (λ c. search needs)
+    (λ c. search needs)
+    (λ c. search needs)
+    (λ c. search needs)
+    (λ c. search needs)
+    (λ c. search needs)
+    (λ c. search needs)
+    (λ c. search needs)
+    (λ c κs. search needs)
+    (λ c. search needs)
+    (λ c. search needs)
     returns-4
-    same-length-6
-    same-length-7
+    (λ c. search needs)
+    (λ c. search needs)
     returns-5)

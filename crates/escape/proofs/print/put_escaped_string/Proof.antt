@@ -6,43 +6,43 @@ use borrow.Author.Needs.{needs}
 use Rattle.escape.proofs.print.put_escaped_string.Statement.{statement}
 use Rattle.escape.proofs.print.put_escaped_string.Tie as tie
 
-put-slashed-requires : tie.Need-put-slashed-requires
-put-slashed-requires c κs = search needs
-
-same-length : tie.Need-same-length
-same-length c = search needs
-
 returns : tie.Need-returns
-returns c = wrote-text _ _ (special-escaped 0x20 (ascii "\"\\") (c .before .before .before .before .before .before .args .b) (rw (eq-eqb _ _ (c .before .before .before .before .if1 .taken)))) (c .before .before .put-slashed .ensures)
-
-put-slashed-requires-2 : tie.Need-put-slashed-requires-2
-put-slashed-requires-2 c κs = search needs
-
-same-length-2 : tie.Need-same-length-2
-same-length-2 c = search needs
+returns c =
+    let c2 = c .before .before in
+    let c4 = c2 .before .before in
+    let c6 = c4 .before .before in
+    wrote-text _ _ (special-escaped 0x20 (ascii "\"\\") (c6 .args .b) (rw (eq-eqb _ _ (c4 .if1 .taken)))) (c2 .put-slashed .ensures)
 
 returns-2 : tie.Need-returns-2
-returns-2 c = wrote-text _ _ (special-escaped 0x20 (ascii "\"\\") (c .before .before .before .before .before .before .before .args .b) (rw (ne-eqb _ _ (c .before .before .before .before .before .if1 .left), eq-eqb _ _ (c .before .before .before .before .if2 .taken)))) (c .before .before .put-slashed2 .ensures)
-
-put-shown-requires : tie.Need-put-shown-requires
-put-shown-requires c κs = search needs
-
-same-length-3 : tie.Need-same-length-3
-same-length-3 c = search needs
+returns-2 c =
+    let c2 = c .before .before in
+    let c4 = c2 .before .before in
+    let c5 = c4 .before in
+    let c7 = c5 .before .before in
+    wrote-text _ _
+    (special-escaped 0x20
+    (ascii "\"\\") (c7 .args .b) (rw (ne-eqb _ _ (c5 .if1 .left), eq-eqb _ _ (c4 .if2 .taken)))) (c2 .put-slashed2 .ensures)
 
 returns-3 : tie.Need-returns-3
-returns-3 c = wrote-text _ _ (shown-escaped 0x20 (ascii "\"\\") (c .before .before .before .before .before .before .before .args .b) (rw (ne-eqb _ _ (c .before .before .before .before .before .if1 .left), ne-eqb _ _ (c .before .before .before .before .if2 .left)))) (c .before .before .put-shown .ensures)
+returns-3 c =
+    let c2 = c .before .before in
+    let c4 = c2 .before .before in
+    let c5 = c4 .before in
+    let c7 = c5 .before .before in
+    wrote-text _ _
+    (shown-escaped 0x20
+    (ascii "\"\\") (c7 .args .b) (rw (ne-eqb _ _ (c5 .if1 .left), ne-eqb _ _ (c4 .if2 .left)))) (c2 .put-shown .ensures)
 
 pub put-escaped-string-spec : {M : Type 1} → statement M
 put-escaped-string-spec =
     tie.close
     (tie.spec
-    put-slashed-requires
-    same-length
+    (λ c κs. search needs)
+    (λ c. search needs)
     returns
-    put-slashed-requires-2
-    same-length-2
+    (λ c κs. search needs)
+    (λ c. search needs)
     returns-2
-    put-shown-requires
-    same-length-3
+    (λ c κs. search needs)
+    (λ c. search needs)
     returns-3)

@@ -9,11 +9,8 @@ returns c = digit-low _ (c .if1 .taken)
 returns-2 : tie.Need-returns-2
 returns-2 c = digit-high _ (c .before .if1 .left) (c .if2 .taken)
 
-cast-result : tie.Need-cast-result
-cast-result c = search needs
-
 returns-3 : tie.Need-returns-3
 returns-3 c = digit-between _ (c .before .if1 .left) (c .if2 .left)
 
 pub digit-value-spec : {M : Type 1} → statement M
-digit-value-spec = tie.close (tie.spec returns returns-2 cast-result returns-3)
+digit-value-spec = tie.close (tie.spec returns returns-2 (λ c. search needs) returns-3)

@@ -17,7 +17,9 @@ abbrev pair : ℕ → List ℕ
 pair x = map lowerDigit (digits 16 2 x)
 
 abbrev Inv-loop : tie.InvT-loop
-Inv-loop out₀ n p i e m₀ j₀ out m j = (i < j) × (j ≤ e) × (m + 1 ≡ n + 3 * (j - i)) × Left out₀ m₀ (later (45 ∷ []) pair (slice (i + 1) e p)) out m (later (45 ∷ []) pair (slice j e p))
+Inv-loop out₀ n p i e m₀ j₀ out m j =
+    (i < j) × (j ≤ e) × (m + 1 ≡ n + 3 * (j - i))
+    × Left out₀ m₀ (later (45 ∷ []) pair (slice (i + 1) e p)) out m (later (45 ∷ []) pair (slice j e p))
 
 abbrev μ-loop : tie.MeasureT-loop
 μ-loop out₀ n p i e m₀ j₀ out m j = e - j
@@ -36,7 +38,9 @@ add-j : tie.Need-add-j Inv-loop μ-loop
 add-j c = search needs
 
 loop-holds : tie.Need-loop-holds Inv-loop μ-loop
-loop-holds c = (search needs, search needs, omega (arith, c .before .before .put-hex-octet .ensures .count), left-all _ _ _)
+loop-holds c =
+    let c2 = c .before .before in
+    (search needs, search needs, omega (arith, c2 .put-hex-octet .ensures .count), left-all _ _ _)
 
 put-octet-requires : tie.Need-put-octet-requires Inv-loop μ-loop
 put-octet-requires c κs = search needs
@@ -46,7 +50,9 @@ shared-slice-read-put-hex-octet-2 :
 shared-slice-read-put-hex-octet-2 c = search needs
 
 put-hex-octet-requires-2 : tie.Need-put-hex-octet-requires-2 Inv-loop μ-loop
-put-hex-octet-requires-2 c κs = omega (arith, c .before .before .before .before .put-octet .ensures .count)
+put-hex-octet-requires-2 c κs =
+    let c4 = c .before .before .before .before in
+    omega (arith, c4 .put-octet .ensures .count)
 
 add-j-2 : tie.Need-add-j-2 Inv-loop μ-loop
 add-j-2 c = search needs
@@ -55,13 +61,29 @@ loop-less : tie.Need-loop-less Inv-loop μ-loop
 loop-less c = search needs
 
 loop-again : tie.Need-loop-again Inv-loop μ-loop
-loop-again c = (search needs, search needs, omega (arith, c .before .before .before .before .before .before .before .put-octet .ensures .count, c .before .before .put-hex-octet2 .ensures .count), went-on (45 ∷ []) pair _ _ _ (next (c .before .before .before .before .before .before .before .before .before .before .before .before .before .before .before .before .before .before .before .args .p .now) (c .before .before .before .before .before .before .before .before .before .before .loop .j) (c .before .before .before .before .before .before .before .before .before .before .before .before .before .before .before .before .before .before .before .args .e) (c .before .before .before .before .before .before .before .before .before .loop-test .taken) (c .before .before .before .before .before .before .before .before .before .before .before .before .before .before .before .before .before .before .before .pre .2)) (c .before .before .before .before .before .before .before .before .before .before .loop .inv .3) (c .before .before .before .before .before .before .before .put-octet .ensures) (c .before .before .put-hex-octet2 .ensures))
+loop-again c =
+    let c2 = c .before .before in
+    let c7 = c2 .before .before .before .before .before in
+    let c9 = c7 .before .before in
+    let c10 = c9 .before in
+    let c19 = c10 .before .before .before .before .before .before .before .before .before in (
+      search needs,
+      search needs,
+      omega (arith, c7 .put-octet .ensures .count, c2 .put-hex-octet2 .ensures .count),
+      went-on (45 ∷ []) pair _ _ _ (next (c19 .args .p .now) (c10 .loop .j) (c19 .args .e) (c9 .loop-test .taken) (c19 .pre .2))
+          (c10 .loop .inv .3) (c7 .put-octet .ensures) (c2 .put-hex-octet2 .ensures),
+    )
 
 same-length : tie.Need-same-length Inv-loop μ-loop
 same-length c = search needs
 
 returns-2 : tie.Need-returns-2 Inv-loop μ-loop
-returns-2 c = wrote-parted (45 ∷ []) pair _ _ _ (next (c .before .before .before .before .before .before .before .before .before .before .args .p .now) (c .before .before .before .before .before .before .before .before .before .before .args .i) (c .before .before .before .before .before .before .before .before .before .before .args .e) (c .before .before .before .before .before .before .before .if1 .left) (c .before .before .before .before .before .before .before .before .before .before .pre .2)) (c .before .before .before .before .put-hex-octet .ensures) (left-none (c .before .loop .inv .3) (ap (later (45 ∷ []) pair) (none _ _ _ (c .loop-test .left))))
+returns-2 c =
+    let c4 = c .before .before .before .before in
+    let c7 = c4 .before .before .before in
+    let c10 = c7 .before .before .before in
+    wrote-parted (45 ∷ []) pair _ _ _ (next (c10 .args .p .now) (c10 .args .i) (c10 .args .e) (c7 .if1 .left) (c10 .pre .2))
+    (c4 .put-hex-octet .ensures) (left-none (c .before .loop .inv .3) (ap (later (45 ∷ []) pair) (none _ _ _ (c .loop-test .left))))
 
 pub field-spec : {M : Type 1} → statement M
 field-spec =

@@ -4,14 +4,11 @@ use borrow.Author.Needs.{needs}
 use Rattle.eui.proofs.read.field.Statement.{statement}
 use Rattle.eui.proofs.read.field.Tie as tie
 
-parts-requires : tie.Need-parts-requires
-parts-requires c κs = search needs
-
-same-length : tie.Need-same-length
-same-length c = search needs
-
 returns : tie.Need-returns
-returns c = rw (eui-parts (c .before .before .before .before .before .before .args .w) (slice (c .before .before .before .before .before .before .args .i) (c .before .before .before .before .before .before .args .e) (c .before .before .before .before .before .before .args .t .now))) at (c .before .before .parts .ensures)
+returns c =
+    let c2 = c .before .before in
+    let c6 = c2 .before .before .before .before in
+    rw (eui-parts (c6 .args .w) (slice (c6 .args .i) (c6 .args .e) (c6 .args .t .now))) at (c2 .parts .ensures)
 
 pub field-spec : {M : Type 1} → statement M
-field-spec = tie.close (tie.spec parts-requires same-length returns)
+field-spec = tie.close (tie.spec (λ c κs. search needs) (λ c. search needs) returns)

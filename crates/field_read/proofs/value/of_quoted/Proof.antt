@@ -7,43 +7,33 @@ use Rattle.field_read.proofs.value.of_quoted.Lts as lts
 use Rattle.text.proofs.read.raw.Reads as raw-reads
 use Rattle.text.proofs.read.string.Reads as string-reads
 
-enum-told : tie.Need-enum-told
-enum-told c = search needs
-
-string-requires : tie.Need-string-requires
-string-requires c κs = search needs
-
-same-length : tie.Need-same-length
-same-length c = search needs
-
 returns : tie.Need-returns
-returns c = λ l o. rw (c .before .before .before .before .enum-told .given .1) (c .before .before .string .ensures)
-
-enum-told-2 : tie.Need-enum-told-2
-enum-told-2 c = search needs
-
-raw-requires : tie.Need-raw-requires
-raw-requires c κs = search needs
-
-same-length-2 : tie.Need-same-length-2
-same-length-2 c = search needs
+returns c =
+    let c2 = c .before .before in
+    let c4 = c2 .before .before in
+    λ l o. rw (c4 .enum-told .given .1) (c2 .string .ensures)
 
 returns-2 : tie.Need-returns-2
-returns-2 c = λ l o. rw (c .before .before .before .before .enum-told2 .given .1) (c .before .before .raw .ensures)
+returns-2 c =
+    let c2 = c .before .before in
+    let c4 = c2 .before .before in
+    λ l o. rw (c4 .enum-told2 .given .1) (c2 .raw .ensures)
 
 returns-3 : tie.Need-returns-3
-returns-3 c = λ l o. only-strings (c .before .before .before .before .args .f) (c .before .match .keys2) (c .match2 .keys2) l o _
+returns-3 c =
+    let c4 = c .before .before .before .before in
+    λ l o. only-strings (c4 .args .f) (c .before .match .keys2) (c .match2 .keys2) l o _
 
 pub of-quoted-spec : {M : Type 1} → statement M
 of-quoted-spec =
     tie.close
     (tie.spec
-    enum-told
-    string-requires
-    same-length
+    (λ c. search needs)
+    (λ c κs. search needs)
+    (λ c. search needs)
     returns
-    enum-told-2
-    raw-requires
-    same-length-2
+    (λ c. search needs)
+    (λ c κs. search needs)
+    (λ c. search needs)
     returns-2
     returns-3)

@@ -3,67 +3,70 @@ use borrow.Author.Needs.{needs}
 use Rattle.job_form.proofs.form.after_stanza.Statement.{statement}
 use Rattle.job_form.proofs.form.after_stanza.Tie as tie
 
-read-section-requires : tie.Need-read-section-requires
-read-section-requires c κs = search needs
-
-enum-told : tie.Need-enum-told
-enum-told c = search needs
-
-enum-known-s : tie.Need-enum-known-s
-enum-known-s c = search needs
-
-last-section-requires : tie.Need-last-section-requires
-last-section-requires c κs = search needs
-
-enum-told-2 : tie.Need-enum-told-2
-enum-told-2 c = search needs
-
-enum-known-l : tie.Need-enum-known-l
-enum-known-l c = search needs
-
 read-origin-requires : tie.Need-read-origin-requires
-read-origin-requires c κs = (c .before .before .before .before .before .before .before .before .before .before .before .pre, cut (c .before .before .before .before .before .before .before .before .before .before .before .args .j .now) (c .before .before .before .before .before .before .before .before .before .before .before .args .at) (c .before .before .before .before .before .before .before .before .read-section .result) (c .before .before .before .before .before .before .before .before .read-section .ensures) _ _ _ (c .before .before .before .before .before .before .s .given .1) .1 .enough)
-
-enum-told-3 : tie.Need-enum-told-3
-enum-told-3 c = search needs
-
-enum-known-v : tie.Need-enum-known-v
-enum-known-v c = search needs
+read-origin-requires c κs =
+    let c6 = c .before .before .before .before .before .before in
+    let c8 = c6 .before .before in
+    let c11 = c8 .before .before .before in (
+      c11 .pre,
+      cut (c11 .args .j .now) (c11 .args .at) (c8 .read-section .result) (c8 .read-section .ensures) _ _ _ (c6 .s .given .1) .1 .enough,
+    )
 
 returns : tie.Need-returns
-returns c = no-origin (c .before .before .before .before .before .args .j .now) (c .before .before .before .before .before .args .at) (c .before .before .read-section .result) (c .before .before .read-section .ensures) (c .enum-told .given .1)
+returns c =
+    let c2 = c .before .before in
+    let c5 = c2 .before .before .before in
+    no-origin (c5 .args .j .now) (c5 .args .at) (c2 .read-section .result) (c2 .read-section .ensures) (c .enum-told .given .1)
 
 returns-2 : tie.Need-returns-2
-returns-2 c = no-records (c .before .before .before .before .before .before .before .before .before .args .j .now) (c .before .before .before .before .before .before .before .before .before .args .at) (c .before .before .before .before .before .before .read-section .result) (c .before .before .before .before .before .before .read-section .ensures) _ _ _ (c .before .before .before .before .s .given .1) (c .before .before .last-section .result) (c .before .before .last-section .ensures) (c .enum-told2 .given .1)
-
-same-length : tie.Need-same-length
-same-length c = search needs
+returns-2 c =
+    let c2 = c .before .before in
+    let c4 = c2 .before .before in
+    let c6 = c4 .before .before in
+    let c9 = c6 .before .before .before in
+    no-records (c9 .args .j .now) (c9 .args .at) (c6 .read-section .result) (c6 .read-section .ensures) _ _ _ (c4 .s .given .1)
+    (c2 .last-section .result) (c2 .last-section .ensures) (c .enum-told2 .given .1)
 
 returns-3 : tie.Need-returns-3
-returns-3 c = bad-origin (c .before .before .before .before .before .before .before .before .before .before .before .before .before .before .before .before .args .j .now) (c .before .before .before .before .before .before .before .before .before .before .before .before .before .before .before .before .args .at) (c .before .before .before .before .before .before .before .before .before .before .before .before .before .read-section .result) (c .before .before .before .before .before .before .before .before .before .before .before .before .before .read-section .ensures) _ _ _ (c .before .before .before .before .before .before .before .before .before .before .before .s .given .1) (c .before .before .before .before .before .before .before .before .before .last-section .result) (c .before .before .before .before .before .before .before .before .before .last-section .ensures) _ (c .before .before .before .before .before .before .before .l .given .1) _ _ (c .before .before .before .before .read-origin .result) (c .before .before .before .before .read-origin .ensures) (c .enum-told3 .given .1)
-
-same-length-2 : tie.Need-same-length-2
-same-length-2 c = search needs
+returns-3 c =
+    let c4 = c .before .before .before .before in
+    let c7 = c4 .before .before .before in
+    let c9 = c7 .before .before in
+    let c11 = c9 .before .before in
+    let c13 = c11 .before .before in
+    let c16 = c13 .before .before .before in
+    bad-origin (c16 .args .j .now) (c16 .args .at) (c13 .read-section .result) (c13 .read-section .ensures) _ _ _ (c11 .s .given .1)
+    (c9 .last-section .result) (c9 .last-section .ensures) _ (c7 .l .given .1) _ _ (c4 .read-origin .result) (c4 .read-origin .ensures)
+    (c .enum-told3 .given .1)
 
 returns-4 : tie.Need-returns-4
-returns-4 c = after-found (c .before .before .before .before .before .before .before .before .before .before .before .before .before .before .before .before .before .args .j .now) (c .before .before .before .before .before .before .before .before .before .before .before .before .before .before .before .before .before .args .at) (c .before .before .before .before .before .before .before .before .before .before .before .before .before .before .read-section .result) (c .before .before .before .before .before .before .before .before .before .before .before .before .before .before .read-section .ensures) _ _ _ (c .before .before .before .before .before .before .before .before .before .before .before .before .s .given .1) (c .before .before .before .before .before .before .before .before .before .before .last-section .result) (c .before .before .before .before .before .before .before .before .before .before .last-section .ensures) _ (c .before .before .before .before .before .before .before .before .l .given .1) _ _ (c .before .before .before .before .before .read-origin .result) (c .before .before .before .before .before .read-origin .ensures) _ (c .before .v .given .1)
+returns-4 c =
+    let c5 = c .before .before .before .before .before in
+    let c8 = c5 .before .before .before in
+    let c10 = c8 .before .before in
+    let c12 = c10 .before .before in
+    let c14 = c12 .before .before in
+    let c17 = c14 .before .before .before in
+    after-found (c17 .args .j .now) (c17 .args .at) (c14 .read-section .result) (c14 .read-section .ensures) _ _ _ (c12 .s .given .1)
+    (c10 .last-section .result) (c10 .last-section .ensures) _ (c8 .l .given .1) _ _ (c5 .read-origin .result)
+    (c5 .read-origin .ensures) _ (c .before .v .given .1)
 
 pub after-stanza-spec : {M : Type 1} → statement M
 after-stanza-spec =
     tie.close
     (tie.spec
-    read-section-requires
-    enum-told
-    enum-known-s
-    last-section-requires
-    enum-told-2
-    enum-known-l
+    (λ c κs. search needs)
+    (λ c. search needs)
+    (λ c. search needs)
+    (λ c κs. search needs)
+    (λ c. search needs)
+    (λ c. search needs)
     read-origin-requires
-    enum-told-3
-    enum-known-v
+    (λ c. search needs)
+    (λ c. search needs)
     returns
     returns-2
-    same-length
+    (λ c. search needs)
     returns-3
-    same-length-2
+    (λ c. search needs)
     returns-4)

@@ -3,24 +3,28 @@ use borrow.Author.Needs.{needs}
 use Rattle.job_form.proofs.form.last_section.Statement.{statement}
 use Rattle.job_form.proofs.form.last_section.Tie as tie
 
-read-section-requires : tie.Need-read-section-requires
-read-section-requires c κs = search needs
-
-enum-told : tie.Need-enum-told
-enum-told c = search needs
-
-enum-known-s : tie.Need-enum-known-s
-enum-known-s c = search needs
-
 returns : tie.Need-returns
-returns c = followed (c .before .before .before .before .before .before .args .j .now) (c .before .before .before .before .before .before .args .at) (c .before .before .before .before .read-section .result) (c .before .before .before .before .read-section .ensures) _ _ _ (c .before .before .s .given .1) (c .if1 .taken)
+returns c =
+    let c2 = c .before .before in
+    let c4 = c2 .before .before in
+    let c6 = c4 .before .before in
+    followed (c6 .args .j .now) (c6 .args .at) (c4 .read-section .result) (c4 .read-section .ensures) _ _ _ (c2 .s .given .1)
+    (c .if1 .taken)
 
 returns-2 : tie.Need-returns-2
-returns-2 c = no-last (c .before .before .before .before .args .j .now) (c .before .before .before .before .args .at) (c .before .before .read-section .result) (c .before .before .read-section .ensures) (c .enum-told .given .1)
+returns-2 c =
+    let c2 = c .before .before in
+    let c4 = c2 .before .before in
+    no-last (c4 .args .j .now) (c4 .args .at) (c2 .read-section .result) (c2 .read-section .ensures) (c .enum-told .given .1)
 
 returns-3 : tie.Need-returns-3
-returns-3 c = last-found (c .before .before .before .before .before .before .args .j .now) (c .before .before .before .before .before .before .args .at) (c .before .before .before .before .read-section .result) (c .before .before .before .before .read-section .ensures) _ _ _ (c .before .before .s .given .1) (c .if1 .left)
+returns-3 c =
+    let c2 = c .before .before in
+    let c4 = c2 .before .before in
+    let c6 = c4 .before .before in
+    last-found (c6 .args .j .now) (c6 .args .at) (c4 .read-section .result) (c4 .read-section .ensures) _ _ _ (c2 .s .given .1)
+    (c .if1 .left)
 
 pub last-section-spec : {M : Type 1} → statement M
 last-section-spec =
-    tie.close (tie.spec read-section-requires enum-told enum-known-s returns returns-2 returns-3)
+    tie.close (tie.spec (λ c κs. search needs) (λ c. search needs) (λ c. search needs) returns returns-2 returns-3)

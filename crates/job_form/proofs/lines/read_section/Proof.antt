@@ -6,56 +6,43 @@ use Rattle.job_form.proofs.lines.read_section.Tie as tie
 returns : tie.Need-returns
 returns c = no-section _ _ (c .if1 .taken)
 
-line-end-requires : tie.Need-line-end-requires
-line-end-requires c κs = search needs
-
-decimal-requires : tie.Need-decimal-requires
-decimal-requires c κs = search needs
-
-enum-told : tie.Need-enum-told
-enum-told c = search needs
-
-enum-known-x : tie.Need-enum-known-x
-enum-known-x c = search needs
-
-add-skip-lines : tie.Need-add-skip-lines
-add-skip-lines c = search needs
-
-skip-lines-requires : tie.Need-skip-lines-requires
-skip-lines-requires c κs = search needs
-
-enum-told-2 : tie.Need-enum-told-2
-enum-told-2 c = search needs
-
-enum-known-s : tie.Need-enum-known-s
-enum-known-s c = search needs
-
-add-t13 : tie.Need-add-t13
-add-t13 c = search needs
-
 returns-2 : tie.Need-returns-2
-returns-2 c = no-count (c .before .before .before .line-end .ensures) _ (c .before .before .decimal .ensures) (c .enum-told .given .1)
+returns-2 c =
+    let c2 = c .before .before in
+    let c3 = c2 .before in
+    no-count (c3 .line-end .ensures) _ (c2 .decimal .ensures) (c .enum-told .given .1)
 
 returns-3 : tie.Need-returns-3
-returns-3 c = too-few (c .before .before .before .before .before .before .before .line-end .ensures) _ (c .before .before .before .before .before .before .decimal .ensures) _ (c .before .before .before .before .x .given .1) (rw (c .enum-told2 .given .1) at (c .before .before .skip-lines .ensures))
+returns-3 c =
+    let c2 = c .before .before in
+    let c4 = c2 .before .before in
+    let c6 = c4 .before .before in
+    let c7 = c6 .before in
+    too-few (c7 .line-end .ensures) _ (c6 .decimal .ensures) _ (c4 .x .given .1) (rw (c .enum-told2 .given .1) at (c2 .skip-lines .ensures))
 
 returns-4 : tie.Need-returns-4
-returns-4 c = whole-section (c .before .before .before .before .before .before .before .before .line-end .ensures) _ (c .before .before .before .before .before .before .before .decimal .ensures) _ (c .before .before .before .before .before .x .given .1) _ (rw (c .before .s .given .1) at (c .before .before .before .skip-lines .ensures))
+returns-4 c =
+    let c3 = c .before .before .before in
+    let c5 = c3 .before .before in
+    let c7 = c5 .before .before in
+    let c8 = c7 .before in
+    whole-section (c8 .line-end .ensures) _ (c7 .decimal .ensures) _ (c5 .x .given .1) _
+    (rw (c .before .s .given .1) at (c3 .skip-lines .ensures))
 
 pub read-section-spec : {M : Type 1} → statement M
 read-section-spec =
     tie.close
     (tie.spec
     returns
-    line-end-requires
-    decimal-requires
-    enum-told
-    enum-known-x
-    add-skip-lines
-    skip-lines-requires
-    enum-told-2
-    enum-known-s
-    add-t13
+    (λ c κs. search needs)
+    (λ c κs. search needs)
+    (λ c. search needs)
+    (λ c. search needs)
+    (λ c. search needs)
+    (λ c κs. search needs)
+    (λ c. search needs)
+    (λ c. search needs)
+    (λ c. search needs)
     returns-2
     returns-3
     returns-4)

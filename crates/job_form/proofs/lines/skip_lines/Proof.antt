@@ -20,7 +20,9 @@ loop-holds : tie.Need-loop-holds Inv-loop μ-loop
 loop-holds c = (c .before .pre, λ r s. s)
 
 returns : tie.Need-returns Inv-loop μ-loop
-returns c = c .before .before .loop .inv .1 Short (skips-short _ _ _ (c .if1 .taken) (c .before .loop-test .taken))
+returns c =
+    let c2 = c .before .before in
+    c2 .loop .inv .1 Short (skips-short _ _ _ (c .if1 .taken) (c .before .loop-test .taken))
 
 line-end-requires : tie.Need-line-end-requires Inv-loop μ-loop
 line-end-requires c κs = search needs
@@ -35,10 +37,15 @@ loop-less : tie.Need-loop-less Inv-loop μ-loop
 loop-less c = search needs
 
 loop-again : tie.Need-loop-again Inv-loop μ-loop
-loop-again c = (omega (arith, c .line-end .ensures .within), λ r s. c .before .before .before .loop .inv .1 r (skips-on (c .line-end .ensures) _ r (c .before .before .loop-test .taken) s))
+loop-again c =
+    let c2 = c .before .before in
+    let c3 = c2 .before in
+    (omega (arith, c .line-end .ensures .within), λ r s. c3 .loop .inv .1 r (skips-on (c .line-end .ensures) _ r (c2 .loop-test .taken) s))
 
 returns-2 : tie.Need-returns-2 Inv-loop μ-loop
-returns-2 c = let q : c .before .loop .left ≡ 0 = omega arith in c .before .loop .inv .1 (To (c .before .loop .m)) (rw q (skips-none _ _ (c .before .loop .inv .0)))
+returns-2 c =
+    let q : c .before .loop .left ≡ 0 = omega arith in
+    c .before .loop .inv .1 (To (c .before .loop .m)) (rw q (skips-none _ _ (c .before .loop .inv .0)))
 
 pub skip-lines-spec : {M : Type 1} → statement M
 skip-lines-spec =

@@ -3,39 +3,33 @@ use borrow.Author.Needs.{needs}
 use Rattle.job_form.proofs.origin.absolute_name.Statement.{statement}
 use Rattle.job_form.proofs.origin.absolute_name.Tie as tie
 
-slice-aggregate-name : tie.Need-slice-aggregate-name
-slice-aggregate-name c = search needs
-
-slice-aggregate-name-2 : tie.Need-slice-aggregate-name-2
-slice-aggregate-name-2 c = search needs
-
 name-requires : tie.Need-name-requires
-name-requires c κs = (search needs, search needs, search needs, c .before .before .before .before .pre, other-wire)
-
-slice-aggregate-name-3 : tie.Need-slice-aggregate-name-3
-slice-aggregate-name-3 c = search needs
+name-requires c κs =
+    let c4 = c .before .before .before .before in
+    (search needs, search needs, search needs, c4 .pre, other-wire)
 
 name-requires-2 : tie.Need-name-requires-2
-name-requires-2 c κs = (search needs, search needs, search needs, c .before .before .before .before .before .before .before .before .pre, root-wire)
-
-same-end-requires : tie.Need-same-end-requires
-same-end-requires c κs = search needs
-
-same-length : tie.Need-same-length
-same-length c = search needs
+name-requires-2 c κs =
+    let c8 = c .before .before .before .before .before .before .before .before in
+    (search needs, search needs, search needs, c8 .pre, root-wire)
 
 returns : tie.Need-returns
-returns c = absolute-value (c .before .before .before .before .before .before .before .before .before .before .before .before .args .t .now) _ _ _ _ (c .before .before .before .before .before .before .before .name .result) (c .before .before .before .name2 .result) (c .same-end .result) (c .before .before .before .before .before .before .before .name .ensures) (c .before .before .before .name2 .ensures) (c .same-end .ensures)
+returns c =
+    let c3 = c .before .before .before in
+    let c7 = c3 .before .before .before .before in
+    let c12 = c7 .before .before .before .before .before in
+    absolute-value (c12 .args .t .now) _ _ _ _ (c7 .name .result) (c3 .name2 .result) (c .same-end .result) (c7 .name .ensures)
+    (c3 .name2 .ensures) (c .same-end .ensures)
 
 pub absolute-name-spec : {M : Type 1} → statement M
 absolute-name-spec =
     tie.close
     (tie.spec
-    slice-aggregate-name
-    slice-aggregate-name-2
+    (λ c. search needs)
+    (λ c. search needs)
     name-requires
-    slice-aggregate-name-3
+    (λ c. search needs)
     name-requires-2
-    same-end-requires
-    same-length
+    (λ c κs. search needs)
+    (λ c. search needs)
     returns)

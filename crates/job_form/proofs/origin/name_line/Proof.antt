@@ -4,59 +4,56 @@ use borrow.Author.Needs.{needs}
 use Rattle.job_form.proofs.origin.name_line.Statement.{statement}
 use Rattle.job_form.proofs.origin.name_line.Tie as tie
 
-next-token-requires : tie.Need-next-token-requires
-next-token-requires c κs = search needs
-
-enum-told : tie.Need-enum-told
-enum-told c = search needs
-
-enum-told-2 : tie.Need-enum-told-2
-enum-told-2 c = search needs
-
-enum-told-3 : tie.Need-enum-told-3
-enum-told-3 c = search needs
-
-enum-known-x : tie.Need-enum-known-x
-enum-known-x c = search needs
-
 sub-if1 : tie.Need-sub-if1
-sub-if1 c = omega (arith, bare-within _ _ (c .before .before .before .next-token .ensures .0) (c .before .before .before .next-token .ensures .1) _ _ (c .before .x .given .1))
+sub-if1 c =
+    let c3 = c .before .before .before in
+    omega (arith, bare-within _ _ (c3 .next-token .ensures .0) (c3 .next-token .ensures .1) _ _ (c .before .x .given .1))
 
 returns : tie.Need-returns
-returns c = part-token _ _ (c .before .before .before .before .next-token .ensures .0) (c .before .before .before .before .next-token .ensures .1) _ _ (c .before .before .x .given .1) (c .if1 .taken)
-
-absolute-name-requires : tie.Need-absolute-name-requires
-absolute-name-requires c κs = search needs
+returns c =
+    let c2 = c .before .before in
+    let c4 = c2 .before .before in
+    part-token _ _ (c4 .next-token .ensures .0) (c4 .next-token .ensures .1) _ _ (c2 .x .given .1) (c .if1 .taken)
 
 returns-2 : tie.Need-returns-2
-returns-2 c = no-token _ _ (c .before .before .next-token .ensures .0) (c .enum-told .given .1)
+returns-2 c =
+    let c2 = c .before .before in
+    no-token _ _ (c2 .next-token .ensures .0) (c .enum-told .given .1)
 
 returns-3 : tie.Need-returns-3
-returns-3 c = quoted-token _ _ (c .before .before .next-token .ensures .0) _ _ (c .enum-told2 .given .1)
+returns-3 c =
+    let c2 = c .before .before in
+    quoted-token _ _ (c2 .next-token .ensures .0) _ _ (c .enum-told2 .given .1)
 
 returns-4 : tie.Need-returns-4
-returns-4 c = broken-token _ _ (c .before .before .next-token .ensures .0) (c .enum-told3 .given .1)
-
-same-length : tie.Need-same-length
-same-length c = search needs
+returns-4 c =
+    let c2 = c .before .before in
+    broken-token _ _ (c2 .next-token .ensures .0) (c .enum-told3 .given .1)
 
 returns-5 : tie.Need-returns-5
-returns-5 c = whole-token (c .before .before .before .before .before .before .before .before .before .before .before .args .t .now) _ (c .before .before .before .before .before .before .before .before .next-token .ensures .0) (c .before .before .before .before .before .before .before .before .next-token .ensures .1) _ _ (c .before .before .before .before .before .before .x .given .1) (c .before .before .before .before .if1 .left) _ _ (c .before .before .absolute-name .result) (c .before .before .absolute-name .ensures)
+returns-5 c =
+    let c2 = c .before .before in
+    let c4 = c2 .before .before in
+    let c6 = c4 .before .before in
+    let c8 = c6 .before .before in
+    let c11 = c8 .before .before .before in
+    whole-token (c11 .args .t .now) _ (c8 .next-token .ensures .0) (c8 .next-token .ensures .1) _ _ (c6 .x .given .1) (c4 .if1 .left) _ _
+    (c2 .absolute-name .result) (c2 .absolute-name .ensures)
 
 pub name-line-spec : {M : Type 1} → statement M
 name-line-spec =
     tie.close
     (tie.spec
-    next-token-requires
-    enum-told
-    enum-told-2
-    enum-told-3
-    enum-known-x
+    (λ c κs. search needs)
+    (λ c. search needs)
+    (λ c. search needs)
+    (λ c. search needs)
+    (λ c. search needs)
     sub-if1
     returns
-    absolute-name-requires
+    (λ c κs. search needs)
     returns-2
     returns-3
     returns-4
-    same-length
+    (λ c. search needs)
     returns-5)

@@ -7,28 +7,22 @@ use Rattle.job_form.proofs.origin.read_origin.Statement.{statement}
 use Rattle.job_form.proofs.origin.read_origin.Tie as tie
 
 returns : tie.Need-returns
-returns c = not-one (linesAt (c .before .before .before .args .j .now) (c .before .before .before .args .at)) _ (c .before .before .before .pre .1) (λ q. omega (arith, c .if1 .taken))
+returns c =
+    let c3 = c .before .before .before in
+    not-one (linesAt (c3 .args .j .now) (c3 .args .at)) _ (c3 .pre .1) (λ q. omega (arith, c .if1 .taken))
 
 line-end-requires : tie.Need-line-end-requires
-line-end-requires c κs = some-lines (c .before .before .before .args .j .now) (c .before .before .before .args .at) (omega (arith, c .before .before .before .pre .1, c .if1 .left))
-
-sub-name-line : tie.Need-sub-name-line
-sub-name-line c = search needs
-
-part-name-line-start : tie.Need-part-name-line-start
-part-name-line-start c = search needs
-
-part-name-line-end : tie.Need-part-name-line-end
-part-name-line-end c = search needs
-
-name-line-requires : tie.Need-name-line-requires
-name-line-requires c κs = search needs
-
-same-length : tie.Need-same-length
-same-length c = search needs
+line-end-requires c κs =
+    let c3 = c .before .before .before in
+    some-lines (c3 .args .j .now) (c3 .args .at) (omega (arith, c3 .pre .1, c .if1 .left))
 
 returns-2 : tie.Need-returns-2
-returns-2 c = one-line (c .before .before .before .before .before .before .before .before .before .args .j .now) _ _ _ (c .before .before .before .before .before .line-end .ensures) (c .before .before .before .before .before .before .if1 .left) _ _ (c .before .before .name-line .result) (c .before .before .name-line .ensures)
+returns-2 c =
+    let c2 = c .before .before in
+    let c5 = c2 .before .before .before in
+    let c6 = c5 .before in
+    let c9 = c6 .before .before .before in
+    one-line (c9 .args .j .now) _ _ _ (c5 .line-end .ensures) (c6 .if1 .left) _ _ (c2 .name-line .result) (c2 .name-line .ensures)
 
 pub read-origin-spec : {M : Type 1} → statement M
 read-origin-spec =
@@ -36,9 +30,9 @@ read-origin-spec =
     (tie.spec
     returns
     line-end-requires
-    sub-name-line
-    part-name-line-start
-    part-name-line-end
-    name-line-requires
-    same-length
+    (λ c. search needs)
+    (λ c. search needs)
+    (λ c. search needs)
+    (λ c κs. search needs)
+    (λ c. search needs)
     returns-2)

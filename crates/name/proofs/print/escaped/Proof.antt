@@ -12,7 +12,8 @@ use Rattle.name.proofs.print.escaped.Statement.{statement}
 use Rattle.name.proofs.print.escaped.Tie as tie
 
 abbrev Inv-loop : tie.InvT-loop
-Inv-loop out₀ n p i e m₀ j₀ out m j = (i ≤ j) × (j ≤ e) × Left out₀ n (flatMap nameEscape (slice i e p)) out m (flatMap nameEscape (slice j e p))
+Inv-loop out₀ n p i e m₀ j₀ out m j =
+    (i ≤ j) × (j ≤ e) × Left out₀ n (flatMap nameEscape (slice i e p)) out m (flatMap nameEscape (slice j e p))
 
 abbrev μ-loop : tie.MeasureT-loop
 μ-loop out₀ n p i e m₀ j₀ out m j = e - j
@@ -25,7 +26,10 @@ shared-slice-read-put-escaped-name :
 shared-slice-read-put-escaped-name c = search needs
 
 put-escaped-name-requires : tie.Need-put-escaped-name-requires Inv-loop μ-loop
-put-escaped-name-requires c κs = omega (arith, c .before .before .before .loop .inv .2 .count, label-length (c .before .before .before .before .before .before .args .p .now) (c .before .before .before .before .before .before .args .i) (c .before .before .before .before .before .before .args .e) (c .before .before .before .before .before .before .pre .2))
+put-escaped-name-requires c κs =
+    let c3 = c .before .before .before in
+    let c6 = c3 .before .before .before in
+    omega (arith, c3 .loop .inv .2 .count, label-length (c6 .args .p .now) (c6 .args .i) (c6 .args .e) (c6 .pre .2))
 
 add-j : tie.Need-add-j Inv-loop μ-loop
 add-j c = search needs
@@ -34,7 +38,16 @@ loop-less : tie.Need-loop-less Inv-loop μ-loop
 loop-less c = search needs
 
 loop-again : tie.Need-loop-again Inv-loop μ-loop
-loop-again c = (search needs, search needs, left-piece _ _ _ _ (c .before .before .before .before .before .before .loop .inv .2) (ap (flatMap nameEscape) (next _ _ _ (c .before .before .before .before .before .loop-test .taken) (c .before .before .before .before .before .before .before .before .before .pre .2))) (c .before .before .put-escaped-name .ensures))
+loop-again c =
+    let c2 = c .before .before in
+    let c5 = c2 .before .before .before in
+    let c6 = c5 .before in
+    let c9 = c6 .before .before .before in (
+      search needs,
+      search needs,
+      left-piece _ _ _ _ (c6 .loop .inv .2) (ap (flatMap nameEscape) (next _ _ _ (c5 .loop-test .taken) (c9 .pre .2)))
+          (c2 .put-escaped-name .ensures),
+    )
 
 same-length : tie.Need-same-length Inv-loop μ-loop
 same-length c = search needs

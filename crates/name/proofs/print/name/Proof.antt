@@ -6,38 +6,35 @@ use Rattle.name.proofs.print.name.Statement.{statement}
 use Rattle.name.proofs.print.name.Tie as tie
 
 returns : tie.Need-returns
-returns c = wrote-text _ _ (none-text _ _ _ (c .before .before .before .pre .2) (c .if1 .taken)) (wrote-none _ _)
-
-add-if2 : tie.Need-add-if2
-add-if2 c = search needs
-
-put-octet-requires : tie.Need-put-octet-requires
-put-octet-requires c κs = search needs
-
-same-length : tie.Need-same-length
-same-length c = search needs
+returns c =
+    let c3 = c .before .before .before in
+    wrote-text _ _ (none-text _ _ _ (c3 .pre .2) (c .if1 .taken)) (wrote-none _ _)
 
 returns-2 : tie.Need-returns-2
-returns-2 c = wrote-text _ _ (root-text _ _ _ (c .before .before .before .before .before .before .before .before .pre .2) (c .before .before .before .before .before .if1 .left) (c .before .before .before .before .if2 .taken) (named-first _ _ _ (c .before .before .before .before .before .before .before .before .pre .2) true (c .before .before .before .before .before .before .before .before .pre .4))) (c .before .before .put-octet .ensures)
-
-labels-requires : tie.Need-labels-requires
-labels-requires c κs = search needs
-
-same-length-2 : tie.Need-same-length-2
-same-length-2 c = search needs
+returns-2 c =
+    let c2 = c .before .before in
+    let c4 = c2 .before .before in
+    let c5 = c4 .before in
+    let c8 = c5 .before .before .before in
+    wrote-text _ _ (root-text _ _ _ (c8 .pre .2) (c5 .if1 .left) (c4 .if2 .taken) (named-first _ _ _ (c8 .pre .2) true (c8 .pre .4)))
+    (c2 .put-octet .ensures)
 
 returns-3 : tie.Need-returns-3
-returns-3 c = wrote-text _ _ (labels-text _ _ _ (c .before .before .before .before .before .before .before .before .pre .2) (c .before .before .before .before .if2 .left) (named-first _ _ _ (c .before .before .before .before .before .before .before .before .pre .2) true (c .before .before .before .before .before .before .before .before .pre .4))) (c .before .before .labels .ensures)
+returns-3 c =
+    let c2 = c .before .before in
+    let c4 = c2 .before .before in
+    let c8 = c4 .before .before .before .before in
+    wrote-text _ _ (labels-text _ _ _ (c8 .pre .2) (c4 .if2 .left) (named-first _ _ _ (c8 .pre .2) true (c8 .pre .4))) (c2 .labels .ensures)
 
 pub name-spec : {M : Type 1} → statement M
 name-spec =
     tie.close
     (tie.spec
     returns
-    add-if2
-    put-octet-requires
-    same-length
+    (λ c. search needs)
+    (λ c κs. search needs)
+    (λ c. search needs)
     returns-2
-    labels-requires
-    same-length-2
+    (λ c κs. search needs)
+    (λ c. search needs)
     returns-3)

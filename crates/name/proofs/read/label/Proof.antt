@@ -1,4 +1,5 @@
-use Rattle.name.proofs.Names.{Part, part-none, item-fault, item-within, part-octet, part-long, part-empty, part-dot, part-last, count-stored}
+use Rattle.name.proofs.Names.{Part, part-none, item-fault, item-within, part-octet, part-long, part-empty, part-dot, part-last}
+use Rattle.name.proofs.Names.{count-stored}
 use Rattle.buffer.proofs.Laws.{wrote-length}
 use borrow.Author.Tests.{ne-eqb}
 use Prim.Native.Nat.{_+_, _-_, _≤_, _<_}
@@ -26,10 +27,16 @@ add-if2 : tie.Need-add-if2 Inv-loop μ-loop
 add-if2 c = search needs
 
 same-length : tie.Need-same-length Inv-loop μ-loop
-same-length c = wrote-length (c .before .before .before .before .loop .inv .5 .wrote)
+same-length c =
+    let c4 = c .before .before .before .before in
+    wrote-length (c4 .loop .inv .5 .wrote)
 
 returns : tie.Need-returns Inv-loop μ-loop
-returns c = part-empty (c .before .before .before .before .loop .inv .5) (c .before .before .before .loop-test .taken) (c .before .before .before .before .before .before .before .pre .2) (c .before .if1 .taken) (c .if2 .taken)
+returns c =
+    let c3 = c .before .before .before in
+    let c4 = c3 .before in
+    let c7 = c4 .before .before .before in
+    part-empty (c4 .loop .inv .5) (c3 .loop-test .taken) (c7 .pre .2) (c .before .if1 .taken) (c .if2 .taken)
 
 add-put : tie.Need-add-put Inv-loop μ-loop
 add-put c = search needs
@@ -47,10 +54,21 @@ add-t14 : tie.Need-add-t14 Inv-loop μ-loop
 add-t14 c = search needs
 
 same-length-2 : tie.Need-same-length-2 Inv-loop μ-loop
-same-length-2 c = count-stored (c .before .before .before .before .before .before .before .before .loop .inv .5) _ _ (c .before .before .put .ensures)
+same-length-2 c =
+    let c2 = c .before .before in
+    let c8 = c2 .before .before .before .before .before .before in
+    count-stored (c8 .loop .inv .5) _ _ (c2 .put .ensures)
 
 returns-2 : tie.Need-returns-2 Inv-loop μ-loop
-returns-2 c = part-dot (c .before .before .before .before .before .before .before .before .loop .inv .5) (c .before .before .before .before .before .before .before .loop-test .taken) (c .before .before .before .before .before .before .before .before .before .before .before .pre .2) (c .before .before .before .before .before .if1 .taken) _ (c .before .before .before .before .before .before .before .before .loop .inv .0) (c .before .before .before .before .if2 .left) (c .before .before .before .before .before .before .before .before .loop .inv .3) (c .before .before .put .ensures)
+returns-2 c =
+    let c2 = c .before .before in
+    let c4 = c2 .before .before in
+    let c5 = c4 .before in
+    let c7 = c5 .before .before in
+    let c8 = c7 .before in
+    let c11 = c8 .before .before .before in
+    part-dot (c8 .loop .inv .5) (c7 .loop-test .taken) (c11 .pre .2) (c5 .if1 .taken) _ (c8 .loop .inv .0) (c4 .if2 .left)
+    (c8 .loop .inv .3) (c2 .put .ensures)
 
 octet-requires : tie.Need-octet-requires Inv-loop μ-loop
 octet-requires c κs = search needs
@@ -59,10 +77,16 @@ enum-told : tie.Need-enum-told Inv-loop μ-loop
 enum-told c = search needs
 
 same-length-3 : tie.Need-same-length-3 Inv-loop μ-loop
-same-length-3 c = wrote-length (c .before .before .before .before .before .before .loop .inv .5 .wrote)
+same-length-3 c =
+    let c6 = c .before .before .before .before .before .before in
+    wrote-length (c6 .loop .inv .5 .wrote)
 
 returns-3 : tie.Need-returns-3 Inv-loop μ-loop
-returns-3 c = item-fault (c .before .before .before .before .before .before .loop .inv .5) (c .before .before .octet .result) (ne-eqb _ _ (c .before .before .before .if1 .left)) (c .before .before .octet .ensures) (c .enum-told .given .1)
+returns-3 c =
+    let c2 = c .before .before in
+    let c3 = c2 .before in
+    let c6 = c3 .before .before .before in
+    item-fault (c6 .loop .inv .5) (c2 .octet .result) (ne-eqb _ _ (c3 .if1 .left)) (c2 .octet .ensures) (c .enum-told .given .1)
 
 enum-known-x : tie.Need-enum-known-x Inv-loop μ-loop
 enum-known-x c = search needs
@@ -71,10 +95,17 @@ add-if3 : tie.Need-add-if3 Inv-loop μ-loop
 add-if3 c = search needs
 
 same-length-4 : tie.Need-same-length-4 Inv-loop μ-loop
-same-length-4 c = wrote-length (c .before .before .before .before .before .before .before .before .loop .inv .5 .wrote)
+same-length-4 c =
+    let c8 = c .before .before .before .before .before .before .before .before in
+    wrote-length (c8 .loop .inv .5 .wrote)
 
 returns-4 : tie.Need-returns-4 Inv-loop μ-loop
-returns-4 c = part-long (c .before .before .before .before .before .before .before .before .loop .inv .5) (c .before .before .before .before .octet .result) (ne-eqb _ _ (c .before .before .before .before .before .if1 .left)) (c .before .before .before .before .octet .ensures) _ _ (c .before .before .x .given .1) (c .if3 .taken)
+returns-4 c =
+    let c2 = c .before .before in
+    let c4 = c2 .before .before in
+    let c5 = c4 .before in
+    let c8 = c5 .before .before .before in
+    part-long (c8 .loop .inv .5) (c4 .octet .result) (ne-eqb _ _ (c5 .if1 .left)) (c4 .octet .ensures) _ _ (c2 .x .given .1) (c .if3 .taken)
 
 put-requires-2 : tie.Need-put-requires-2 Inv-loop μ-loop
 put-requires-2 c κs = search needs
@@ -83,10 +114,35 @@ add-m-2 : tie.Need-add-m-2 Inv-loop μ-loop
 add-m-2 c = search needs
 
 loop-less : tie.Need-loop-less Inv-loop μ-loop
-loop-less c = omega (arith, item-within (c .before .before .before .before .before .before .before .before .before .before .before .before .loop .inv .5) (c .before .before .before .before .before .before .before .before .octet .result) (ne-eqb _ _ (c .before .before .before .before .before .before .before .before .before .if1 .left)) (c .before .before .before .before .before .before .before .before .octet .ensures) _ _ (c .before .before .before .before .before .before .x .given .1), c .before .before .before .before .before .before .before .before .before .before .before .loop-test .taken)
+loop-less c =
+    let c6 = c .before .before .before .before .before .before in
+    let c8 = c6 .before .before in
+    let c9 = c8 .before in
+    let c11 = c9 .before .before in
+    let c12 = c11 .before in
+    omega (
+      arith,
+      item-within (c12 .loop .inv .5) (c8 .octet .result) (ne-eqb _ _ (c9 .if1 .left)) (c8 .octet .ensures) _ _ (c6 .x .given .1),
+      c11 .loop-test .taken,
+    )
 
 loop-again : tie.Need-loop-again Inv-loop μ-loop
-loop-again c = let w = item-within (c .before .before .before .before .before .before .before .before .before .before .before .before .loop .inv .5) (c .before .before .before .before .before .before .before .before .octet .result) (ne-eqb _ _ (c .before .before .before .before .before .before .before .before .before .if1 .left)) (c .before .before .before .before .before .before .before .before .octet .ensures) _ _ (c .before .before .before .before .before .before .x .given .1) in (omega (arith, w, c .before .before .before .before .before .before .before .before .before .before .before .before .loop .inv .0), w .1, omega (arith, c .before .before .before .before .before .before .before .before .before .before .before .before .loop .inv .2), omega (arith, c .before .before .before .before .if3 .left), (λ h. omega (arith, c .before .before .before .before .before .before .before .before .before .before .before .before .loop .inv .2)), part-octet (c .before .before .before .before .before .before .before .before .before .before .before .before .loop .inv .5) (c .before .before .before .before .before .before .before .before .octet .result) (ne-eqb _ _ (c .before .before .before .before .before .before .before .before .before .if1 .left)) (c .before .before .before .before .before .before .before .before .octet .ensures) _ _ (c .before .before .before .before .before .before .x .given .1) _ (c .before .before .put2 .ensures))
+loop-again c =
+    let c2 = c .before .before in
+    let c4 = c2 .before .before in
+    let c6 = c4 .before .before in
+    let c8 = c6 .before .before in
+    let c9 = c8 .before in
+    let c12 = c9 .before .before .before in
+    let w = item-within (c12 .loop .inv .5) (c8 .octet .result) (ne-eqb _ _ (c9 .if1 .left)) (c8 .octet .ensures) _ _ (c6 .x .given .1) in (
+      omega (arith, w, c12 .loop .inv .0),
+      w .1,
+      omega (arith, c12 .loop .inv .2),
+      omega (arith, c4 .if3 .left),
+      (λ h. omega (arith, c12 .loop .inv .2)),
+      part-octet (c12 .loop .inv .5) (c8 .octet .result) (ne-eqb _ _ (c9 .if1 .left)) (c8 .octet .ensures) _ _ (c6 .x .given .1) _
+          (c2 .put2 .ensures),
+    )
 
 add-put-2 : tie.Need-add-put-2 Inv-loop μ-loop
 add-put-2 c = search needs
@@ -101,10 +157,17 @@ put-requires-3 : tie.Need-put-requires-3 Inv-loop μ-loop
 put-requires-3 c κs = search needs
 
 same-length-5 : tie.Need-same-length-5 Inv-loop μ-loop
-same-length-5 c = count-stored (c .before .before .before .before .before .loop .inv .5) _ _ (c .before .before .put3 .ensures)
+same-length-5 c =
+    let c2 = c .before .before in
+    let c5 = c2 .before .before .before in
+    count-stored (c5 .loop .inv .5) _ _ (c2 .put3 .ensures)
 
 returns-5 : tie.Need-returns-5 Inv-loop μ-loop
-returns-5 c = part-last (c .before .before .before .before .before .loop .inv .5) _ (c .before .before .before .before .loop-test .left) (c .before .before .before .before .before .loop .inv .4 (c .before .before .before .before .loop-test .left)) (c .before .before .before .before .before .loop .inv .3) (c .before .before .put3 .ensures)
+returns-5 c =
+    let c2 = c .before .before in
+    let c4 = c2 .before .before in
+    let c5 = c4 .before in
+    part-last (c5 .loop .inv .5) _ (c4 .loop-test .left) (c5 .loop .inv .4 (c4 .loop-test .left)) (c5 .loop .inv .3) (c2 .put3 .ensures)
 
 pub label-spec : {M : Type 1} → statement M
 label-spec =

@@ -11,7 +11,9 @@ use Rattle.name.proofs.read.labels.Statement.{statement}
 use Rattle.name.proofs.read.labels.Tie as tie
 
 abbrev Inv-loop : tie.InvT-loop
-Inv-loop out₀ n t a e origin m₀ j₀ out m j = (a ≤ j) × (j ≤ e) × (n ≤ m) × (m ≤ n + 255) × (length out ≡ length out₀) × Begun out₀ out n m (spelled origin (slice a e t)) (spelled origin (slice j e t))
+Inv-loop out₀ n t a e origin m₀ j₀ out m j =
+    (a ≤ j) × (j ≤ e) × (n ≤ m) × (m ≤ n + 255) × (length out ≡ length out₀)
+    × Begun out₀ out n m (spelled origin (slice a e t)) (spelled origin (slice j e t))
 
 abbrev μ-loop : tie.MeasureT-loop
 μ-loop out₀ n t a e origin m₀ j₀ out m j = e - j
@@ -29,37 +31,91 @@ same-length : tie.Need-same-length Inv-loop μ-loop
 same-length c = search needs
 
 returns : tie.Need-returns Inv-loop μ-loop
-returns c = no-label (c .before .before .before .before .before .before .before .before .before .before .before .args .origin .now) (c .before .before .before .before .before .before .before .before .before .before .before .args .t .now) (c .before .before .before .before .before .before .before .loop .j) (c .before .before .before .before .before .before .before .before .before .before .before .args .e) (c .before .before .before .before .before .before .before .loop .inv .5) _ (c .before .before .before .before .label .result) (c .before .before .before .before .label .ensures) (c .enum-told .given .1)
+returns c =
+    let c4 = c .before .before .before .before in
+    let c7 = c4 .before .before .before in
+    let c11 = c7 .before .before .before .before in
+    no-label (c11 .args .origin .now) (c11 .args .t .now) (c7 .loop .j) (c11 .args .e) (c7 .loop .inv .5) _ (c4 .label .result)
+    (c4 .label .ensures) (c .enum-told .given .1)
 
 enum-known-x : tie.Need-enum-known-x Inv-loop μ-loop
 enum-known-x c = search needs
 
 finish-requires : tie.Need-finish-requires Inv-loop μ-loop
-finish-requires c κs = let w = last-count (c .before .before .before .before .before .before .before .before .before .before .before .before .before .args .origin .now) (c .before .before .before .before .before .before .before .before .before .before .before .before .before .args .t .now) (c .before .before .before .before .before .before .before .before .before .loop .j) (c .before .before .before .before .before .before .before .before .before .before .before .before .before .args .e) (c .before .before .before .before .before .before .before .before .before .loop .inv .5) _ (c .before .before .before .before .before .before .label .result) (c .before .before .before .before .before .before .label .ensures) _ (c .before .before .x .given .1) in (omega (arith, w, c .before .before .before .before .before .before .before .before .before .loop .inv .2), omega (arith, w, c .before .before .before .before .before .before .before .before .before .loop .inv .3, c .before .before .before .before .before .before .before .before .before .before .before .before .before .pre .0), c .before .before .before .before .before .before .before .before .before .before .before .before .before .pre .3)
+finish-requires c κs =
+    let c2 = c .before .before in
+    let c6 = c2 .before .before .before .before in
+    let c9 = c6 .before .before .before in
+    let c13 = c9 .before .before .before .before in
+    let w = last-count (c13 .args .origin .now) (c13 .args .t .now) (c9 .loop .j) (c13 .args .e) (c9 .loop .inv .5) _ (c6 .label .result)
+    (c6 .label .ensures) _ (c2 .x .given .1) in
+    (omega (arith, w, c9 .loop .inv .2), omega (arith, w, c9 .loop .inv .3, c13 .pre .0), c13 .pre .3)
 
 same-length-2 : tie.Need-same-length-2 Inv-loop μ-loop
 same-length-2 c = search needs
 
 returns-2 : tie.Need-returns-2 Inv-loop μ-loop
-returns-2 c = with-origin (c .before .before .before .before .before .before .before .before .before .before .before .before .before .before .before .before .args .origin .now) (c .before .before .before .before .before .before .before .before .before .before .before .before .before .before .before .before .args .t .now) (c .before .before .before .before .before .before .before .before .before .before .before .before .loop .j) (c .before .before .before .before .before .before .before .before .before .before .before .before .before .before .before .before .args .e) (c .before .before .before .before .before .before .before .before .before .before .before .before .loop .inv .5) _ (c .before .before .before .before .before .before .before .before .before .label .result) (c .before .before .before .before .before .before .before .before .before .label .ensures) _ (c .before .before .before .before .before .x .given .1) _ (c .before .before .finish .result) (c .before .before .finish .ensures)
+returns-2 c =
+    let c2 = c .before .before in
+    let c5 = c2 .before .before .before in
+    let c9 = c5 .before .before .before .before in
+    let c12 = c9 .before .before .before in
+    let c16 = c12 .before .before .before .before in
+    with-origin (c16 .args .origin .now) (c16 .args .t .now) (c12 .loop .j) (c16 .args .e) (c12 .loop .inv .5) _ (c9 .label .result)
+    (c9 .label .ensures) _ (c5 .x .given .1) _ (c2 .finish .result) (c2 .finish .ensures)
 
 enum-known-x-2 : tie.Need-enum-known-x-2 Inv-loop μ-loop
 enum-known-x-2 c = search needs
 
 sub-if1 : tie.Need-sub-if1 Inv-loop μ-loop
-sub-if1 c = let w = dot-count (c .before .before .before .before .before .before .before .before .before .before .before .before .args .origin .now) (c .before .before .before .before .before .before .before .before .before .before .before .before .args .t .now) (c .before .before .before .before .before .before .before .before .loop .j) (c .before .before .before .before .before .before .before .before .before .before .before .before .args .e) (c .before .before .before .before .before .before .before .before .loop .inv .5) _ (c .before .before .before .before .before .label .result) (c .before .before .before .before .before .label .ensures) _ _ (c .before .x2 .given .1) in omega (arith, w, c .before .before .before .before .before .before .before .before .loop .inv .2)
+sub-if1 c =
+    let c5 = c .before .before .before .before .before in
+    let c8 = c5 .before .before .before in
+    let c12 = c8 .before .before .before .before in
+    let w = dot-count (c12 .args .origin .now) (c12 .args .t .now) (c8 .loop .j) (c12 .args .e) (c8 .loop .inv .5) _ (c5 .label .result)
+    (c5 .label .ensures) _ _ (c .before .x2 .given .1) in
+    omega (arith, w, c8 .loop .inv .2)
 
 same-length-3 : tie.Need-same-length-3 Inv-loop μ-loop
 same-length-3 c = search needs
 
 returns-3 : tie.Need-returns-3 Inv-loop μ-loop
-returns-3 c = limited-begun (dot-begun (c .before .before .before .before .before .before .before .before .before .before .before .before .before .args .origin .now) (c .before .before .before .before .before .before .before .before .before .before .before .before .before .args .t .now) (c .before .before .before .before .before .before .before .before .before .loop .j) (c .before .before .before .before .before .before .before .before .before .before .before .before .before .args .e) (c .before .before .before .before .before .before .before .before .before .loop .inv .5) _ (c .before .before .before .before .before .before .label .result) (c .before .before .before .before .before .before .label .ensures) _ _ (c .before .before .x2 .given .1)) (c .if1 .taken)
+returns-3 c =
+    let c2 = c .before .before in
+    let c6 = c2 .before .before .before .before in
+    let c9 = c6 .before .before .before in
+    let c13 = c9 .before .before .before .before in
+    limited-begun
+    (dot-begun (c13 .args .origin .now) (c13 .args .t .now) (c9 .loop .j) (c13 .args .e) (c9 .loop .inv .5) _ (c6 .label .result)
+    (c6 .label .ensures) _ _ (c2 .x2 .given .1)) (c .if1 .taken)
 
 loop-less : tie.Need-loop-less Inv-loop μ-loop
-loop-less c = let w = dot-after (c .before .before .before .before .before .before .before .before .before .before .before .before .before .args .origin .now) (c .before .before .before .before .before .before .before .before .before .before .before .before .before .args .t .now) (c .before .before .before .before .before .before .before .before .before .loop .j) (c .before .before .before .before .before .before .before .before .before .before .before .before .before .args .e) (c .before .before .before .before .before .before .before .before .before .loop .inv .5) _ (c .before .before .before .before .before .before .label .result) (c .before .before .before .before .before .before .label .ensures) _ _ (c .before .before .x2 .given .1) in omega (arith, w .on, w .within, c .before .before .before .before .before .before .before .before .loop-test .taken)
+loop-less c =
+    let c2 = c .before .before in
+    let c6 = c2 .before .before .before .before in
+    let c8 = c6 .before .before in
+    let c9 = c8 .before in
+    let c13 = c9 .before .before .before .before in
+    let w = dot-after (c13 .args .origin .now) (c13 .args .t .now) (c9 .loop .j) (c13 .args .e) (c9 .loop .inv .5) _ (c6 .label .result)
+    (c6 .label .ensures) _ _ (c2 .x2 .given .1) in
+    omega (arith, w .on, w .within, c8 .loop-test .taken)
 
 loop-again : tie.Need-loop-again Inv-loop μ-loop
-loop-again c = let w = dot-after (c .before .before .before .before .before .before .before .before .before .before .before .before .before .args .origin .now) (c .before .before .before .before .before .before .before .before .before .before .before .before .before .args .t .now) (c .before .before .before .before .before .before .before .before .before .loop .j) (c .before .before .before .before .before .before .before .before .before .before .before .before .before .args .e) (c .before .before .before .before .before .before .before .before .before .loop .inv .5) _ (c .before .before .before .before .before .before .label .result) (c .before .before .before .before .before .before .label .ensures) _ _ (c .before .before .x2 .given .1) in (omega (arith, w .on, c .before .before .before .before .before .before .before .before .before .loop .inv .0), w .within, omega (arith, w .wrote .count, c .before .before .before .before .before .before .before .before .before .loop .inv .2), omega (arith, c .if1 .left), search needs, dot-begun (c .before .before .before .before .before .before .before .before .before .before .before .before .before .args .origin .now) (c .before .before .before .before .before .before .before .before .before .before .before .before .before .args .t .now) (c .before .before .before .before .before .before .before .before .before .loop .j) (c .before .before .before .before .before .before .before .before .before .before .before .before .before .args .e) (c .before .before .before .before .before .before .before .before .before .loop .inv .5) _ (c .before .before .before .before .before .before .label .result) (c .before .before .before .before .before .before .label .ensures) _ _ (c .before .before .x2 .given .1))
+loop-again c =
+    let c2 = c .before .before in
+    let c6 = c2 .before .before .before .before in
+    let c9 = c6 .before .before .before in
+    let c13 = c9 .before .before .before .before in
+    let w = dot-after (c13 .args .origin .now) (c13 .args .t .now) (c9 .loop .j) (c13 .args .e) (c9 .loop .inv .5) _ (c6 .label .result)
+    (c6 .label .ensures) _ _ (c2 .x2 .given .1) in (
+      omega (arith, w .on, c9 .loop .inv .0),
+      w .within,
+      omega (arith, w .wrote .count, c9 .loop .inv .2),
+      omega (arith, c .if1 .left),
+      search needs,
+      dot-begun (c13 .args .origin .now) (c13 .args .t .now) (c9 .loop .j) (c13 .args .e) (c9 .loop .inv .5) _ (c6 .label .result)
+          (c6 .label .ensures) _ _ (c2 .x2 .given .1),
+    )
 
 finish-requires-2 : tie.Need-finish-requires-2 Inv-loop μ-loop
 finish-requires-2 c κs = search needs
@@ -68,7 +124,13 @@ same-length-4 : tie.Need-same-length-4 Inv-loop μ-loop
 same-length-4 c = search needs
 
 returns-4 : tie.Need-returns-4 Inv-loop μ-loop
-returns-4 c = with-zero (c .before .before .before .before .before .before .before .before .before .args .origin .now) (c .before .before .before .before .before .before .before .before .before .args .t .now) (c .before .before .before .before .before .loop .j) (c .before .before .before .before .before .before .before .before .before .args .e) (c .before .before .before .before .before .loop .inv .5) (c .before .before .before .before .loop-test .left) _ (c .before .before .finish2 .result) (c .before .before .finish2 .ensures)
+returns-4 c =
+    let c2 = c .before .before in
+    let c4 = c2 .before .before in
+    let c5 = c4 .before in
+    let c9 = c5 .before .before .before .before in
+    with-zero (c9 .args .origin .now) (c9 .args .t .now) (c5 .loop .j) (c9 .args .e) (c5 .loop .inv .5) (c4 .loop-test .left) _
+    (c2 .finish2 .result) (c2 .finish2 .ensures)
 
 pub labels-spec : {M : Type 1} → statement M
 labels-spec =

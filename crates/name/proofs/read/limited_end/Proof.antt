@@ -3,9 +3,6 @@ use borrow.Author.Needs.{needs}
 use Rattle.name.proofs.read.limited_end.Statement.{statement}
 use Rattle.name.proofs.read.limited_end.Tie as tie
 
-sub-if1 : tie.Need-sub-if1
-sub-if1 c = search needs
-
 returns : tie.Need-returns
 returns c = limit-above _ _ (c .if1 .taken)
 
@@ -13,4 +10,4 @@ returns-2 : tie.Need-returns-2
 returns-2 c = limit-below _ _ (c .if1 .left)
 
 pub limited-end-spec : {M : Type 1} → statement M
-limited-end-spec = tie.close (tie.spec sub-if1 returns returns-2)
+limited-end-spec = tie.close (tie.spec (λ c. search needs) returns returns-2)

@@ -4,38 +4,39 @@ use borrow.Author.Needs.{needs}
 use Rattle.number.proofs.print.name_for.Statement.{statement}
 use Rattle.number.proofs.print.name_for.Tie as tie
 
-find-requires : tie.Need-find-requires
-find-requires c κs = search needs
-
-enum-told : tie.Need-enum-told
-enum-told c = search needs
-
-enum-told-2 : tie.Need-enum-told-2
-enum-told-2 c = search needs
-
-enum-known-q : tie.Need-enum-known-q
-enum-known-q c = search needs
-
 returns : tie.Need-returns
-returns c = (rw (← c .before .before .before .before .find .ensures, c .before .before .q .given .1, eq-eqb _ _ (c .if1 .taken)), name-ends _ _ _ _ _ (c .before .before .before .before .before .before .pre .0) (c .before .before .before .before .before .before .pre .1) (rw (c .before .before .q .given .1) at (c .before .before .before .before .find .ensures)))
+returns c =
+    let c2 = c .before .before in
+    let c4 = c2 .before .before in
+    let c6 = c4 .before .before in (
+      rw (← c4 .find .ensures, c2 .q .given .1, eq-eqb _ _ (c .if1 .taken)),
+      name-ends _ _ _ _ _ (c6 .pre .0) (c6 .pre .1) (rw (c2 .q .given .1) at (c4 .find .ensures)),
+    )
 
 returns-2 : tie.Need-returns-2
-returns-2 c = (rw (← c .before .before .find .ensures, c .enum-told .given .1), tt)
+returns-2 c =
+    let c2 = c .before .before in
+    (rw (← c2 .find .ensures, c .enum-told .given .1), tt)
 
 returns-3 : tie.Need-returns-3
-returns-3 c = (rw (← c .before .before .find .ensures, c .enum-told2 .given .1), tt)
+returns-3 c =
+    let c2 = c .before .before in
+    (rw (← c2 .find .ensures, c .enum-told2 .given .1), tt)
 
 returns-4 : tie.Need-returns-4
-returns-4 c = (rw (← c .before .before .before .before .find .ensures, c .before .before .q .given .1, ne-eqb _ _ (c .if1 .left)), tt)
+returns-4 c =
+    let c2 = c .before .before in
+    let c4 = c2 .before .before in
+    (rw (← c4 .find .ensures, c2 .q .given .1, ne-eqb _ _ (c .if1 .left)), tt)
 
 pub name-for-spec : {M : Type 1} → statement M
 name-for-spec =
     tie.close
     (tie.spec
-    find-requires
-    enum-told
-    enum-told-2
-    enum-known-q
+    (λ c κs. search needs)
+    (λ c. search needs)
+    (λ c. search needs)
+    (λ c. search needs)
     returns
     returns-2
     returns-3

@@ -4,14 +4,10 @@ use borrow.Author.Needs.{needs}
 use Rattle.number.proofs.read.decimal_below.Statement.{statement}
 use Rattle.number.proofs.read.decimal_below.Tie as tie
 
-decimal-requires : tie.Need-decimal-requires
-decimal-requires c κs = search needs
-
-in-range-requires : tie.Need-in-range-requires
-in-range-requires c κs = search needs
-
 returns : tie.Need-returns
-returns c = c .in-range .ensures (decimalOf (slice (c .before .before .before .args .i) (c .before .before .before .args .e) (c .before .before .before .args .t .now))) (c .before .decimal .ensures)
+returns c =
+    let c3 = c .before .before .before in
+    c .in-range .ensures (decimalOf (slice (c3 .args .i) (c3 .args .e) (c3 .args .t .now))) (c .before .decimal .ensures)
 
 pub decimal-below-spec : {M : Type 1} → statement M
-decimal-below-spec = tie.close (tie.spec decimal-requires in-range-requires returns)
+decimal-below-spec = tie.close (tie.spec (λ c κs. search needs) (λ c κs. search needs) returns)

@@ -4,25 +4,17 @@ use borrow.Author.Needs.{needs}
 use Rattle.number.proofs.read.field.Statement.{statement}
 use Rattle.number.proofs.read.field.Tie as tie
 
-cast-limit : tie.Need-cast-limit
-cast-limit c = search needs
-
-limit-requires : tie.Need-limit-requires
-limit-requires c κs = search needs
-
-number-requires : tie.Need-number-requires
-number-requires c κs = search needs
-
-value-requires : tie.Need-value-requires
-value-requires c κs = search needs
-
-same-length : tie.Need-same-length
-same-length c = search needs
-
 returns : tie.Need-returns
-returns c = λ l m. rw (← integer-octets (c .before .before .before .before .before .before .before .before .before .args .w) _ l (slice (c .before .before .before .before .before .before .before .before .before .args .i) (c .before .before .before .before .before .before .before .before .before .args .e) (c .before .before .before .before .before .before .before .before .before .args .t .now)) _ (c .before .before .before .before .before .limit .ensures) (c .before .before .before .before .number .ensures (c .before .before .before .before .before .before .before .before .before .args .w) l m)) (c .before .before .value .ensures)
+returns c =
+    let c2 = c .before .before in
+    let c4 = c2 .before .before in
+    let c5 = c4 .before in
+    let c9 = c5 .before .before .before .before in
+    λ l m. rw
+    (← integer-octets (c9 .args .w) _ l (slice (c9 .args .i) (c9 .args .e) (c9 .args .t .now)) _ (c5 .limit .ensures)
+    (c4 .number .ensures (c9 .args .w) l m)) (c2 .value .ensures)
 
 pub field-spec : {M : Type 1} → statement M
 field-spec =
     tie.close
-    (tie.spec cast-limit limit-requires number-requires value-requires same-length returns)
+    (tie.spec (λ c. search needs) (λ c κs. search needs) (λ c κs. search needs) (λ c κs. search needs) (λ c. search needs) returns)

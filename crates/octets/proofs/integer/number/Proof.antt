@@ -23,16 +23,27 @@ loop-holds : tie.Need-loop-holds Inv-loop μ-loop
 loop-holds c = (search needs, search needs, none-yet (c .args .i), refl)
 
 mul-v : tie.Need-mul-v Inv-loop μ-loop
-mul-v c = omega (arith, octets-fit (c .before .loop .v) (c .before .loop .j - c .before .before .args .i) 3 (omega arith) (c .before .loop .inv .2))
+mul-v c =
+    let c2 = c .before .before in
+    omega (arith, octets-fit (c .before .loop .v) (c .before .loop .j - c2 .args .i) 3 (omega arith) (c .before .loop .inv .2))
 
 shared-slice-read-v : tie.Need-shared-slice-read-v Inv-loop μ-loop
 shared-slice-read-v c = search needs
 
 cast-v : tie.Need-cast-v Inv-loop μ-loop
-cast-v c = omega (arith, c .shared-slice-known .given (c .before .before .loop .j))
+cast-v c =
+    let c2 = c .before .before in
+    omega (arith, c .shared-slice-known .given (c2 .loop .j))
 
 add-v : tie.Need-add-v Inv-loop μ-loop
-add-v c = omega (arith, octets-fit (c .before .before .loop .v) (c .before .before .loop .j - c .before .before .before .args .i) 3 (omega arith) (c .before .before .loop .inv .2), c .shared-slice-known .given (c .before .before .loop .j))
+add-v c =
+    let c2 = c .before .before in
+    let c3 = c2 .before in
+    omega (
+      arith,
+      octets-fit (c2 .loop .v) (c2 .loop .j - c3 .args .i) 3 (omega arith) (c2 .loop .inv .2),
+      c .shared-slice-known .given (c2 .loop .j),
+    )
 
 add-j : tie.Need-add-j Inv-loop μ-loop
 add-j c = search needs
@@ -41,10 +52,26 @@ loop-less : tie.Need-loop-less Inv-loop μ-loop
 loop-less c = search needs
 
 loop-again : tie.Need-loop-again Inv-loop μ-loop
-loop-again c = (omega arith, omega arith, octet-more (c .before .before .loop .v) (c .before .before .before .args .i) (c .before .before .loop .j) (getD (c .before .before .before .args .p .now) (c .before .before .loop .j) 0) (c .before .before .loop .inv .0) (c .before .before .loop .inv .2) (omega (arith, c .shared-slice-known .given (c .before .before .loop .j))), sym (ap (numberFrom 256 (c .before .before .loop .v)) (next (c .before .before .before .args .p .now) (c .before .before .loop .j) (c .before .before .before .args .e) (c .before .loop-test .taken) (c .before .before .before .pre .2))) ∙ c .before .before .loop .inv .3)
+loop-again c =
+    let c2 = c .before .before in
+    let c3 = c2 .before in (
+      omega arith,
+      omega arith,
+      octet-more (c2 .loop .v) (c3 .args .i) (c2 .loop .j) (getD (c3 .args .p .now) (c2 .loop .j) 0) (c2 .loop .inv .0) (c2 .loop .inv .2)
+          (omega (arith, c .shared-slice-known .given (c2 .loop .j))),
+      sym
+          (ap (numberFrom 256 (c2 .loop .v))
+          (next (c3 .args .p .now) (c2 .loop .j) (c3 .args .e) (c .before .loop-test .taken) (c3 .pre .2)))
+          ∙ c2 .loop .inv .3,
+    )
 
 returns : tie.Need-returns Inv-loop μ-loop
-returns c = (ap (numberFrom 256 (c .before .loop .v)) (sym (none (c .before .before .args .p .now) (c .before .loop .j) (c .before .before .args .e) (c .loop-test .left))) ∙ c .before .loop .inv .3, octets-fit (c .before .loop .v) (c .before .loop .j - c .before .before .args .i) 4 (omega arith) (c .before .loop .inv .2))
+returns c =
+    let c2 = c .before .before in (
+      ap (numberFrom 256 (c .before .loop .v)) (sym (none (c2 .args .p .now) (c .before .loop .j) (c2 .args .e) (c .loop-test .left)))
+          ∙ c .before .loop .inv .3,
+      octets-fit (c .before .loop .v) (c .before .loop .j - c2 .args .i) 4 (omega arith) (c .before .loop .inv .2),
+    )
 
 pub number-spec : {M : Type 1} → statement M
 number-spec =

@@ -6,17 +6,14 @@ use borrow.Author.Needs.{needs}
 use Rattle.rrtype.proofs.print.field.Statement.{statement}
 use Rattle.rrtype.proofs.print.field.Tie as tie
 
-two-requires : tie.Need-two-requires
-two-requires c κs = search needs
-
-number-requires : tie.Need-number-requires
-number-requires c κs = search needs
-
-same-length : tie.Need-same-length
-same-length c = search needs
-
 returns : tie.Need-returns
-returns c = wrote-text _ _ (ap typeText (c .before .before .before .two .ensures .0 ∙ sym (two-octets (c .before .before .before .before .before .before .before .args .p .now) (c .before .before .before .before .before .before .before .args .i) (c .before .before .before .before .before .before .before .args .e) (c .before .before .before .before .before .before .before .pre .1) (c .before .before .before .before .before .before .before .pre .2)))) (c .before .before .number .ensures)
+returns c =
+    let c2 = c .before .before in
+    let c3 = c2 .before in
+    let c7 = c3 .before .before .before .before in
+    wrote-text _ _
+    (ap typeText (c3 .two .ensures .0 ∙ sym (two-octets (c7 .args .p .now) (c7 .args .i) (c7 .args .e) (c7 .pre .1) (c7 .pre .2))))
+    (c2 .number .ensures)
 
 pub field-spec : {M : Type 1} → statement M
-field-spec = tie.close (tie.spec two-requires number-requires same-length returns)
+field-spec = tie.close (tie.spec (λ c κs. search needs) (λ c κs. search needs) (λ c. search needs) returns)

@@ -3,22 +3,13 @@ use borrow.Author.Needs.{needs}
 use Rattle.rrtype.proofs.print.number.Statement.{statement}
 use Rattle.rrtype.proofs.print.number.Tie as tie
 
-slice-aggregate-put-all : tie.Need-slice-aggregate-put-all
-slice-aggregate-put-all c = search needs
-
-put-all-requires : tie.Need-put-all-requires
-put-all-requires c κs = search needs
-
-put-decimal-requires : tie.Need-put-decimal-requires
-put-decimal-requires c κs = search needs
-
-same-length : tie.Need-same-length
-same-length c = search needs
-
 returns : tie.Need-returns
-returns c = wrote-append (c .before .before .before .before .before .before .put-all .ensures) (c .before .before .put-decimal .ensures)
+returns c =
+    let c2 = c .before .before in
+    let c6 = c2 .before .before .before .before in
+    wrote-append (c6 .put-all .ensures) (c2 .put-decimal .ensures)
 
 pub number-spec : {M : Type 1} → statement M
 number-spec =
     tie.close
-    (tie.spec slice-aggregate-put-all put-all-requires put-decimal-requires same-length returns)
+    (tie.spec (λ c. search needs) (λ c κs. search needs) (λ c κs. search needs) (λ c. search needs) returns)

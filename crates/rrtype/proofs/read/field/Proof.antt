@@ -4,17 +4,12 @@ use borrow.Author.Needs.{needs}
 use Rattle.rrtype.proofs.read.field.Statement.{statement}
 use Rattle.rrtype.proofs.read.field.Tie as tie
 
-number-requires : tie.Need-number-requires
-number-requires c κs = search needs
-
-value-requires : tie.Need-value-requires
-value-requires c κs = search needs
-
-same-length : tie.Need-same-length
-same-length c = search needs
-
 returns : tie.Need-returns
-returns c = rw (← type-octets (slice (c .before .before .before .before .before .before .before .args .i) (c .before .before .before .before .before .before .before .args .e) (c .before .before .before .before .before .before .before .args .t .now)) _ (c .before .before .before .before .number .ensures)) (c .before .before .value .ensures)
+returns c =
+    let c2 = c .before .before in
+    let c4 = c2 .before .before in
+    let c7 = c4 .before .before .before in
+    rw (← type-octets (slice (c7 .args .i) (c7 .args .e) (c7 .args .t .now)) _ (c4 .number .ensures)) (c2 .value .ensures)
 
 pub field-spec : {M : Type 1} → statement M
-field-spec = tie.close (tie.spec number-requires value-requires same-length returns)
+field-spec = tie.close (tie.spec (λ c κs. search needs) (λ c κs. search needs) (λ c. search needs) returns)

@@ -9,11 +9,8 @@ use Rattle.rrtype.proofs.read.same_letter.Tie as tie
 returns : tie.Need-returns
 returns c = sym (eq-eqb _ _ (ap lowered (c .if1 .taken)))
 
-add-result : tie.Need-add-result
-add-result c = search needs
-
 returns-2 : tie.Need-returns-2
 returns-2 c = other-case (c .before .args .b) (c .before .args .c) (c .before .pre .0) (c .before .pre .1) (c .if1 .left)
 
 pub same-letter-spec : {M : Type 1} → statement M
-same-letter-spec = tie.close (tie.spec returns add-result returns-2)
+same-letter-spec = tie.close (tie.spec returns (λ c. search needs) returns-2)

@@ -30,7 +30,15 @@ loop-less : tie.Need-loop-less Inv-loop μ-loop
 loop-less c = omega (arith, c .before .block-at .ensures (c .if1 .taken) .0)
 
 loop-again : tie.Need-loop-again Inv-loop μ-loop
-loop-again c = let z = c .before .block-at .ensures (c .if1 .taken) in (omega arith, z .0, all-front plainText (c .before .before .before .before .args .p .now) (c .before .before .loop .j) (c .before .before .loop .j + 32) (c .before .before .before .before .args .e) (omega arith) (z .0) (c .before .before .before .before .pre .1) (z .1) ∙ c .before .before .loop .inv .2)
+loop-again c =
+    let c2 = c .before .before in
+    let c4 = c2 .before .before in
+    let z = c .before .block-at .ensures (c .if1 .taken) in (
+      omega arith,
+      z .0,
+      all-front plainText (c4 .args .p .now) (c2 .loop .j) (c2 .loop .j + 32) (c4 .args .e) (omega arith) (z .0) (c4 .pre .1) (z .1)
+          ∙ c2 .loop .inv .2,
+    )
 
 returns : tie.Need-returns Inv-loop μ-loop
 returns c = search needs

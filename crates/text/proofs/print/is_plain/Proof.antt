@@ -13,10 +13,17 @@ returns-2 : tie.Need-returns-2
 returns-2 c = rw (c .if2 .taken)
 
 returns-3 : tie.Need-returns-3
-returns-3 c = rw (le-leb 32 (c .before .before .before .args .b) (c .before .before .if1 .left), lt-leb (c .before .before .before .args .b) 126 (c .if3 .taken))
+returns-3 c =
+    let c2 = c .before .before in
+    let c3 = c2 .before in
+    rw (le-leb 32 (c3 .args .b) (c2 .if1 .left), lt-leb (c3 .args .b) 126 (c .if3 .taken))
 
 returns-4 : tie.Need-returns-4
-returns-4 c = rw (le-leb 32 (c .before .before .before .args .b) (c .before .before .if1 .left), le-leb (c .before .before .before .args .b) 126 (c .if3 .left), ne-eqb (c .before .before .before .args .b) 34 (c .before .if2 .left)) (last-test (eqb (c .before .before .before .args .b) 92))
+returns-4 c =
+    let c2 = c .before .before in
+    let c3 = c2 .before in
+    rw (le-leb 32 (c3 .args .b) (c2 .if1 .left), le-leb (c3 .args .b) 126 (c .if3 .left), ne-eqb (c3 .args .b) 34 (c .before .if2 .left))
+    (last-test (eqb (c3 .args .b) 92))
 
 pub is-plain-spec : {M : Type 1} → statement M
 is-plain-spec = tie.close (tie.spec returns returns-2 returns-3 returns-4)

@@ -35,13 +35,30 @@ loop-less : tie.Need-loop-less Inv-loop μ-loop
 loop-less c = search needs
 
 loop-again : tie.Need-loop-again Inv-loop μ-loop
-loop-again c = (search needs, search needs, front-on plainText (c .before .before .before .before .before .before .before .args .p .now) (c .before .before .before .before .loop .j) (c .before .before .before .before .before .before .before .args .e) (c .before .before .before .loop-test .taken) (c .before .before .before .before .before .before .before .pre .1) (sym (c .before .is-plain .ensures) ∙ c .if1 .taken) ∙ c .before .before .before .before .loop .inv .2)
+loop-again c =
+    let c3 = c .before .before .before in
+    let c4 = c3 .before in
+    let c7 = c4 .before .before .before in (
+      search needs,
+      search needs,
+      front-on plainText (c7 .args .p .now) (c4 .loop .j) (c7 .args .e) (c3 .loop-test .taken) (c7 .pre .1)
+          (sym (c .before .is-plain .ensures) ∙ c .if1 .taken)
+          ∙ c4 .loop .inv .2,
+    )
 
 returns : tie.Need-returns Inv-loop μ-loop
-returns c = front-off plainText (c .before .before .before .before .before .before .before .args .p .now) (c .before .before .before .before .loop .j) (c .before .before .before .before .before .before .before .args .e) (c .before .before .before .loop-test .taken) (c .before .before .before .before .before .before .before .pre .1) (sym (c .before .is-plain .ensures) ∙ c .if1 .left) ∙ c .before .before .before .before .loop .inv .2
+returns c =
+    let c3 = c .before .before .before in
+    let c4 = c3 .before in
+    let c7 = c4 .before .before .before in
+    front-off plainText (c7 .args .p .now) (c4 .loop .j) (c7 .args .e) (c3 .loop-test .taken) (c7 .pre .1)
+    (sym (c .before .is-plain .ensures) ∙ c .if1 .left)
+    ∙ c4 .loop .inv .2
 
 returns-2 : tie.Need-returns-2 Inv-loop μ-loop
-returns-2 c = front-end plainText (c .before .before .before .before .args .p .now) (c .before .loop .j) (c .before .before .before .before .args .e) (c .loop-test .left) ∙ c .before .loop .inv .2
+returns-2 c =
+    let c4 = c .before .before .before .before in
+    front-end plainText (c4 .args .p .now) (c .before .loop .j) (c4 .args .e) (c .loop-test .left) ∙ c .before .loop .inv .2
 
 pub plain-end-spec : {M : Type 1} → statement M
 plain-end-spec =

@@ -31,13 +31,22 @@ loop-less : tie.Need-loop-less Inv-loop μ-loop
 loop-less c = omega (arith, c .before .plain-block .ensures (c .if1 .taken) .0)
 
 loop-again : tie.Need-loop-again Inv-loop μ-loop
-loop-again c = (c .before .plain-block .ensures (c .if1 .taken) .0, all-front noEscape (c .before .before .before .before .args .t .now) (c .before .before .loop .j) (c .before .before .loop .j + 32) (c .before .before .before .before .args .e) (omega arith) (c .before .plain-block .ensures (c .if1 .taken) .0) (c .before .before .before .before .pre .1) (c .before .plain-block .ensures (c .if1 .taken) .1) ∙ c .before .before .loop .inv .1)
+loop-again c =
+    let c2 = c .before .before in
+    let c4 = c2 .before .before in (
+      c .before .plain-block .ensures (c .if1 .taken) .0,
+      all-front noEscape (c4 .args .t .now) (c2 .loop .j) (c2 .loop .j + 32) (c4 .args .e) (omega arith)
+          (c .before .plain-block .ensures (c .if1 .taken) .0) (c4 .pre .1) (c .before .plain-block .ensures (c .if1 .taken) .1)
+          ∙ c2 .loop .inv .1,
+    )
 
 near-end-requires : tie.Need-near-end-requires Inv-loop μ-loop
 near-end-requires c κs = search needs
 
 returns : tie.Need-returns Inv-loop μ-loop
-returns c = c .near-end .ensures ∙ c .before .before .before .loop .inv .1
+returns c =
+    let c3 = c .before .before .before in
+    c .near-end .ensures ∙ c3 .loop .inv .1
 
 pub far-end-spec : {M : Type 1} → statement M
 far-end-spec =

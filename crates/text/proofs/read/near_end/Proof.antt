@@ -21,7 +21,11 @@ shared-slice-read-if1 : tie.Need-shared-slice-read-if1 Inv-loop μ-loop
 shared-slice-read-if1 c = search needs
 
 returns : tie.Need-returns Inv-loop μ-loop
-returns c = front-off noEscape _ _ _ (c .before .before .loop-test .taken) (c .before .before .before .before .pre .1) (rw (eq-eqb _ _ (c .if1 .taken))) ∙ c .before .before .before .loop .inv .1
+returns c =
+    let c2 = c .before .before in
+    let c3 = c2 .before in
+    let c4 = c3 .before in
+    front-off noEscape _ _ _ (c2 .loop-test .taken) (c4 .pre .1) (rw (eq-eqb _ _ (c .if1 .taken))) ∙ c3 .loop .inv .1
 
 add-j : tie.Need-add-j Inv-loop μ-loop
 add-j c = search needs
@@ -30,7 +34,11 @@ loop-less : tie.Need-loop-less Inv-loop μ-loop
 loop-less c = search needs
 
 loop-again : tie.Need-loop-again Inv-loop μ-loop
-loop-again c = (search needs, front-on noEscape _ _ _ (c .before .before .loop-test .taken) (c .before .before .before .before .pre .1) (rw (ne-eqb _ _ (c .if1 .left))) ∙ c .before .before .before .loop .inv .1)
+loop-again c =
+    let c2 = c .before .before in
+    let c3 = c2 .before in
+    let c4 = c3 .before in
+    (search needs, front-on noEscape _ _ _ (c2 .loop-test .taken) (c4 .pre .1) (rw (ne-eqb _ _ (c .if1 .left))) ∙ c3 .loop .inv .1)
 
 returns-2 : tie.Need-returns-2 Inv-loop μ-loop
 returns-2 c = front-end noEscape _ _ _ (c .loop-test .left) ∙ c .before .loop .inv .1

@@ -34,10 +34,21 @@ loop-less : tie.Need-loop-less Inv-loop μ-loop
 loop-less c = search needs
 
 loop-again : tie.Need-loop-again Inv-loop μ-loop
-loop-again c = (search needs, let z : c .before .before .before .args .i + (c .before .before .loop .k + 1) ≡ c .before .before .before .args .i + c .before .before .loop .k + 1 = omega arith in rw z (all-next noEscape (c .before .before .before .args .t .now) (c .before .before .before .args .i + c .before .before .loop .k) (c .before .before .before .args .i + 32) (c .before .before .loop .all) (omega arith) (c .before .before .before .pre) ∙ c .before .before .loop .inv .1))
+loop-again c =
+    let c2 = c .before .before in
+    let c3 = c2 .before in (
+      search needs,
+      let z : c3 .args .i + (c2 .loop .k + 1) ≡ c3 .args .i + c2 .loop .k + 1 = omega arith in
+          rw z
+          (all-next noEscape (c3 .args .t .now) (c3 .args .i + c2 .loop .k) (c3 .args .i + 32) (c2 .loop .all) (omega arith) (c3 .pre)
+          ∙ c2 .loop .inv .1),
+    )
 
 returns : tie.Need-returns Inv-loop μ-loop
-returns c = sym (all-none noEscape (c .before .before .args .t .now) (c .before .before .args .i + c .before .loop .k) (c .before .before .args .i + 32) (c .before .loop .all) (omega arith)) ∙ c .before .loop .inv .1
+returns c =
+    let c2 = c .before .before in
+    sym (all-none noEscape (c2 .args .t .now) (c2 .args .i + c .before .loop .k) (c2 .args .i + 32) (c .before .loop .all) (omega arith))
+    ∙ c .before .loop .inv .1
 
 pub none-escapes-spec : {M : Type 1} → statement M
 none-escapes-spec =

@@ -8,17 +8,11 @@ use Rattle.text.proofs.read.plain_block.Reads as reads
 use Rattle.text.proofs.read.plain_block.Lts as lts
 use Rattle.text.proofs.read.none_escapes.Reads as none-escapes-reads
 
-sub-if1 : tie.Need-sub-if1
-sub-if1 c = search needs
-
 returns : tie.Need-returns
 returns c = λ e. absurd (let z : _≡_ {A = ℕ} 0 1 = cc in omega arith)
-
-none-escapes-requires : tie.Need-none-escapes-requires
-none-escapes-requires c κs = search needs
 
 returns-2 : tie.Need-returns-2
 returns-2 c = λ e. (omega (arith, c .before .if1 .left), sym (c .none-escapes .ensures) ∙ e)
 
 pub plain-block-spec : {M : Type 1} → statement M
-plain-block-spec = tie.close (tie.spec sub-if1 returns none-escapes-requires returns-2)
+plain-block-spec = tie.close (tie.spec (λ c. search needs) returns (λ c κs. search needs) returns-2)

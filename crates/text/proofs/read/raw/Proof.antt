@@ -6,43 +6,39 @@ use borrow.Author.Needs.{needs}
 use Rattle.text.proofs.read.raw.Statement.{statement}
 use Rattle.text.proofs.read.raw.Tie as tie
 
-value-requires : tie.Need-value-requires
-value-requires c κs = search needs
-
-enum-told : tie.Need-enum-told
-enum-told c = search needs
-
-enum-known-v : tie.Need-enum-known-v
-enum-known-v c = search needs
-
-same-length : tie.Need-same-length
-same-length c = search needs
-
 returns : tie.Need-returns
-returns c = empty-fault (c .before .before .before .before .before .before .before .before .before .before .args .out .now) (c .before .before .before .before .before .before .value .last .0) (c .before .before .before .before .before .before .before .before .before .before .args .n) (c .before .before .v .given .0 .0) (stringValue (tokenOf (c .before .before .before .before .before .before .before .before .before .before .args .quoted) (slice (c .before .before .before .before .before .before .before .before .before .before .args .a) (c .before .before .before .before .before .before .before .before .before .before .args .e) (c .before .before .before .before .before .before .before .before .before .before .args .t .now)))) (rw (c .before .before .v .given .1) at (c .before .before .before .before .before .before .value .ensures)) (c .if1 .taken)
-
-same-length-2 : tie.Need-same-length-2
-same-length-2 c = search needs
+returns c =
+    let c2 = c .before .before in
+    let c6 = c2 .before .before .before .before in
+    let c10 = c6 .before .before .before .before in
+    empty-fault (c10 .args .out .now) (c6 .value .last .0) (c10 .args .n) (c2 .v .given .0 .0)
+    (stringValue (tokenOf (c10 .args .quoted) (slice (c10 .args .a) (c10 .args .e) (c10 .args .t .now))))
+    (rw (c2 .v .given .1) at (c6 .value .ensures)) (c .if1 .taken)
 
 returns-2 : tie.Need-returns-2
-returns-2 c = rw (rw (c .enum-told .given .1) at (c .before .before .before .before .value .ensures))
-
-same-length-3 : tie.Need-same-length-3
-same-length-3 c = search needs
+returns-2 c =
+    let c4 = c .before .before .before .before in
+    rw (rw (c .enum-told .given .1) at (c4 .value .ensures))
 
 returns-3 : tie.Need-returns-3
-returns-3 c = raw-value (c .before .before .before .before .before .before .before .before .before .before .args .out .now) (c .before .before .before .before .before .before .value .last .0) (c .before .before .before .before .before .before .before .before .before .before .args .n) (c .before .before .v .given .0 .0) (stringValue (tokenOf (c .before .before .before .before .before .before .before .before .before .before .args .quoted) (slice (c .before .before .before .before .before .before .before .before .before .before .args .a) (c .before .before .before .before .before .before .before .before .before .before .args .e) (c .before .before .before .before .before .before .before .before .before .before .args .t .now)))) (rw (c .before .before .v .given .1) at (c .before .before .before .before .before .before .value .ensures)) (c .if1 .left)
+returns-3 c =
+    let c2 = c .before .before in
+    let c6 = c2 .before .before .before .before in
+    let c10 = c6 .before .before .before .before in
+    raw-value (c10 .args .out .now) (c6 .value .last .0) (c10 .args .n) (c2 .v .given .0 .0)
+    (stringValue (tokenOf (c10 .args .quoted) (slice (c10 .args .a) (c10 .args .e) (c10 .args .t .now))))
+    (rw (c2 .v .given .1) at (c6 .value .ensures)) (c .if1 .left)
 
 pub raw-spec : {M : Type 1} → statement M
 raw-spec =
     tie.close
     (tie.spec
-    value-requires
-    enum-told
-    enum-known-v
-    same-length
+    (λ c κs. search needs)
+    (λ c. search needs)
+    (λ c. search needs)
+    (λ c. search needs)
     returns
-    same-length-2
+    (λ c. search needs)
     returns-2
-    same-length-3
+    (λ c. search needs)
     returns-3)

@@ -7,63 +7,56 @@ use borrow.Author.Needs.{needs}
 use Rattle.text.proofs.read.string.Statement.{statement}
 use Rattle.text.proofs.read.string.Tie as tie
 
-add-value : tie.Need-add-value
-add-value c = search needs
-
-value-requires : tie.Need-value-requires
-value-requires c κs = search needs
-
-enum-told : tie.Need-enum-told
-enum-told c = search needs
-
-enum-known-v : tie.Need-enum-known-v
-enum-known-v c = search needs
-
-add-count : tie.Need-add-count
-add-count c = search needs
-
 sub-count : tie.Need-sub-count
-sub-count c = omega (arith, count-is 0 (c .before .before .before .before .before .before .before .before .before .args .out .now) (c .before .before .before .before .before .value .last .0) (c .before .before .before .before .before .before .before .before .before .args .n) (c .before .v .given .0 .0) (stringValue (tokenOf (c .before .before .before .before .before .before .before .before .before .args .quoted) (slice (c .before .before .before .before .before .before .before .before .before .args .a) (c .before .before .before .before .before .before .before .before .before .args .e) (c .before .before .before .before .before .before .before .before .before .args .t .now)))) (rw (c .before .v .given .1) at (c .before .before .before .before .before .value .ensures)))
-
-same-length : tie.Need-same-length
-same-length c = search needs
+sub-count c =
+    let c5 = c .before .before .before .before .before in
+    let c9 = c5 .before .before .before .before in
+    omega (
+      arith,
+      count-is 0 (c9 .args .out .now) (c5 .value .last .0) (c9 .args .n) (c .before .v .given .0 .0)
+          (stringValue (tokenOf (c9 .args .quoted) (slice (c9 .args .a) (c9 .args .e) (c9 .args .t .now))))
+          (rw (c .before .v .given .1) at (c5 .value .ensures)),
+    )
 
 returns : tie.Need-returns
-returns c = too-long 0 (c .before .before .before .before .before .before .before .before .before .before .args .out .now) (c .before .before .before .before .before .before .value .last .0) (c .before .before .before .before .before .before .before .before .before .before .args .n) (c .before .before .v .given .0 .0) (stringValue (tokenOf (c .before .before .before .before .before .before .before .before .before .before .args .quoted) (slice (c .before .before .before .before .before .before .before .before .before .before .args .a) (c .before .before .before .before .before .before .before .before .before .before .args .e) (c .before .before .before .before .before .before .before .before .before .before .args .t .now)))) (rw (c .before .before .v .given .1) at (c .before .before .before .before .before .before .value .ensures)) (omega arith) (omega arith)
-
-cast-put : tie.Need-cast-put
-cast-put c = search needs
-
-put-requires : tie.Need-put-requires
-put-requires c κs = search needs
-
-same-length-2 : tie.Need-same-length-2
-same-length-2 c = search needs
+returns c =
+    let c2 = c .before .before in
+    let c6 = c2 .before .before .before .before in
+    let c10 = c6 .before .before .before .before in
+    too-long 0 (c10 .args .out .now) (c6 .value .last .0) (c10 .args .n) (c2 .v .given .0 .0)
+    (stringValue (tokenOf (c10 .args .quoted) (slice (c10 .args .a) (c10 .args .e) (c10 .args .t .now))))
+    (rw (c2 .v .given .1) at (c6 .value .ensures)) (omega arith) (omega arith)
 
 returns-2 : tie.Need-returns-2
-returns-2 c = rw (rw (c .enum-told .given .1) at (c .before .before .before .before .value .ensures))
-
-same-length-3 : tie.Need-same-length-3
-same-length-3 c = search needs
+returns-2 c =
+    let c4 = c .before .before .before .before in
+    rw (rw (c .enum-told .given .1) at (c4 .value .ensures))
 
 returns-3 : tie.Need-returns-3
-returns-3 c = counted-value 0 (c .before .before .before .before .before .before .before .before .before .before .before .before .before .before .args .out .now) (c .before .before .before .before .before .before .before .before .before .before .value .last .0) (c .before .before .before .before .before .before .before .before .before .before .before .before .before .before .args .n) (c .before .before .before .before .before .before .v .given .0 .0) (stringValue (tokenOf (c .before .before .before .before .before .before .before .before .before .before .before .before .before .before .args .quoted) (slice (c .before .before .before .before .before .before .before .before .before .before .before .before .before .before .args .a) (c .before .before .before .before .before .before .before .before .before .before .before .before .before .before .args .e) (c .before .before .before .before .before .before .before .before .before .before .before .before .before .before .args .t .now)))) (rw (c .before .before .before .before .before .before .v .given .1) at (c .before .before .before .before .before .before .before .before .before .before .value .ensures)) _ (omega arith) (omega arith) (c .before .before .put .ensures)
+returns-3 c =
+    let c2 = c .before .before in
+    let c6 = c2 .before .before .before .before in
+    let c10 = c6 .before .before .before .before in
+    let c14 = c10 .before .before .before .before in
+    counted-value 0 (c14 .args .out .now) (c10 .value .last .0) (c14 .args .n) (c6 .v .given .0 .0)
+    (stringValue (tokenOf (c14 .args .quoted) (slice (c14 .args .a) (c14 .args .e) (c14 .args .t .now))))
+    (rw (c6 .v .given .1) at (c10 .value .ensures)) _ (omega arith) (omega arith) (c2 .put .ensures)
 
 pub string-spec : {M : Type 1} → statement M
 string-spec =
     tie.close
     (tie.spec
-    add-value
-    value-requires
-    enum-told
-    enum-known-v
-    add-count
+    (λ c. search needs)
+    (λ c κs. search needs)
+    (λ c. search needs)
+    (λ c. search needs)
+    (λ c. search needs)
     sub-count
-    same-length
+    (λ c. search needs)
     returns
-    cast-put
-    put-requires
-    same-length-2
+    (λ c. search needs)
+    (λ c κs. search needs)
+    (λ c. search needs)
     returns-2
-    same-length-3
+    (λ c. search needs)
     returns-3)

@@ -9,7 +9,8 @@ use Rattle.time.proofs.print.year_of.Statement.{statement}
 use Rattle.time.proofs.print.year_of.Tie as tie
 
 abbrev Inv-loop : tie.InvT-loop
-Inv-loop d c y₀ left₀ days₀ y left days = (days ≡ yearDays (1970 + y)) × (365 ≤ days) × (days ≤ 366) × (y < 137) × (daysBefore (y * 12) + left ≡ d)
+Inv-loop d c y₀ left₀ days₀ y left days =
+    (days ≡ yearDays (1970 + y)) × (365 ≤ days) × (days ≤ 366) × (y < 137) × (daysBefore (y * 12) + left ≡ d)
 
 abbrev μ-loop : tie.MeasureT-loop
 μ-loop d c y₀ left₀ days₀ y left days = left
@@ -33,7 +34,13 @@ year-days-requires : tie.Need-year-days-requires Inv-loop μ-loop
 year-days-requires c κs = search needs
 
 loop-holds : tie.Need-loop-holds Inv-loop μ-loop
-loop-holds c = (c .year-days .ensures .0, search needs, search needs, search needs, omega (arith, cycle-days (c .before .cycles .result) (search needs)))
+loop-holds c = (
+  c .year-days .ensures .0,
+  search needs,
+  search needs,
+  search needs,
+  omega (arith, cycle-days (c .before .cycles .result) (search needs)),
+)
 
 add-y : tie.Need-add-y Inv-loop μ-loop
 add-y c = search needs
@@ -49,8 +56,11 @@ loop-less c = search needs
 
 loop-again : tie.Need-loop-again Inv-loop μ-loop
 loop-again c =
-    let h : daysBefore ((c .before .before .loop .y + 1) * 12) + (c .before .before .loop .left - c .before .before .loop .days) ≡ c .before .before .before .before .before .args .d = omega (arith, year-next (c .before .before .loop .y)) in
-    let b = month-below ((c .before .before .loop .y + 1) * 12) (c .before .before .before .before .before .args .d) (omega arith) (search needs) in
+    let c2 = c .before .before in
+    let c5 = c2 .before .before .before in
+    let h : daysBefore ((c2 .loop .y + 1) * 12) + (c2 .loop .left - c2 .loop .days) ≡ c5 .args .d = omega (arith, year-next (c2 .loop .y))
+    in
+    let b = month-below ((c2 .loop .y + 1) * 12) (c5 .args .d) (omega arith) (search needs) in
     (c .year-days2 .ensures .0, search needs, search needs, omega arith, h)
 
 returns : tie.Need-returns Inv-loop μ-loop

@@ -4,18 +4,6 @@ use borrow.Author.Needs.{needs}
 use Rattle.time.proofs.read.year_start.Statement.{statement}
 use Rattle.time.proofs.read.year_start.Tie as tie
 
-mul-d : tie.Need-mul-d
-mul-d c = search needs
-
-add-d : tie.Need-add-d
-add-d c = search needs
-
-add-d-2 : tie.Need-add-d-2
-add-d-2 c = search needs
-
-sub-result : tie.Need-sub-result
-sub-result c = search needs
-
 returns : tie.Need-returns
 returns c = (year-late (c .before .args .y) (c .if1 .taken) (omega arith), search needs)
 
@@ -23,4 +11,4 @@ returns-2 : tie.Need-returns-2
 returns-2 c = (year-early (c .before .args .y) (c .if1 .left), search needs)
 
 pub year-start-spec : {M : Type 1} → statement M
-year-start-spec = tie.close (tie.spec mul-d add-d add-d-2 sub-result returns returns-2)
+year-start-spec = tie.close (tie.spec (λ c. search needs) (λ c. search needs) (λ c. search needs) (λ c. search needs) returns returns-2)
