@@ -1,4 +1,4 @@
--- The parts of an address are those of the definitions.
+-- The parts of an address are read as the definitions say.
 use Prim.Native.Nat.{ℕ, _<_}
 use mathlib.Core.Path.{_≡_, refl, ap, _∙_}
 use mathlib.Core.Bool.{Bool, true, false}

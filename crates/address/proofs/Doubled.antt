@@ -33,7 +33,7 @@ at-one [] h = refl
 at-one (x ∷ []) h = refl
 at-one (x ∷ y ∷ t) h = absurd (omega arith)
 
--- the text up to j is passed
+-- no double colon begins before j: the first one of the text is the first one from j on
 abbrev pub Passed : List ℕ → ℕ → ℕ → ℕ → Type 0
 Passed t i e j = atDoubleColon (slice i e t) ≡ beforeAll (slice i j t) (atDoubleColon (slice j e t))
 

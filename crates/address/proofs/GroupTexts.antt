@@ -1,4 +1,4 @@
--- A group of four hex digits, written without its leading zeros.
+-- A group of four hex digits, written without leading zeros.
 use Prim.Native.Nat.{ℕ, zero, suc, _+_, _*_, _/_, _%_, _≤_, _<_}
 use mathlib.Core.Path.{_≡_, refl, sym, ap, _∙_}
 use mathlib.Core.List.{List, [], _∷_, _++_, map}
@@ -10,7 +10,7 @@ use Rattle.format.specs.Address.{groups, groupText}
 use Rattle.format.proofs.Digits.{digits-length, zeros-length}
 use Rattle.octets.proofs.Integers.{next-two}
 
--- leading zeros are not written, and another digit ends them
+-- leading zeros are dropped up to the first other digit, or the last
 keeps-one : (a b d e : ℕ) → a ≡ 0 → b ≡ 0 → d ≡ 0 → withoutZeros (a ∷ b ∷ d ∷ e ∷ []) ≡ e ∷ []
 keeps-one a b d e p q r = rw (p, q, r)
 

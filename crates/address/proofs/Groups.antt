@@ -137,7 +137,7 @@ module _ (tail : Bool) where
   unfolding sideIn
   side-none s i e h = rw (no-octet s i e h)
 
--- zeros
+-- zeros, one by one
 pub one-zero : (c : ℕ) → 0 < c → _≡_ {A = List ℕ} (replicate c 0) (0 ∷ replicate (c - 1) 0)
 one-zero zero h = absurd (omega arith)
 one-zero (suc c) h = let q : c ≡ suc c - 1 = omega arith in ap (λ (n : ℕ). 0 ∷ replicate n 0) q
@@ -146,7 +146,7 @@ pub no-zero : (c : ℕ) → c ≤ 0 → _≡_ {A = List ℕ} (replicate c 0) []
 no-zero zero h = refl
 no-zero (suc c) h = absurd (omega arith)
 
--- a text that is stored over another
+-- a text that is stored over another of at most its length
 sets-over : (o : List ℕ) (n : ℕ) (s t : List ℕ) → length s ≤ length t → sets (sets o n s) n t ≡ sets o n t
 sets-over o n [] t h = refl
 sets-over o n (a ∷ s) [] h = absurd (omega arith)
@@ -190,7 +190,7 @@ module _ (g : ℕ) (S : Option (List ℕ)) (o o₁ : List ℕ) (n : ℕ) (x : Va
         let d : length xs ≤ length (replicate (16 - (g + (r - n))) 0 ++ ys) = omega (arith, ap length same, length-append (replicate (16 - (g + (r - n))) 0) ys) in
         (replicate (16 - (g + (r - n))) 0 ++ ys, ap (filled g) f ∙ all-filled g (r - n) ys c (omega arith), wrote-over w (wrote-append z v) d)
 
--- both sides
+-- both sides, and the zeros between them
 abbrev withRight : List ℕ → Option (List ℕ) → Option (List ℕ)
 withRight t o = o >>= λ xs. filled (length xs) (sideIn true t) >>= λ ys. some (xs ++ ys)
 
@@ -218,7 +218,7 @@ module _ (s t : List ℕ) (o o₁ : List ℕ) (n : ℕ) (x : Value) (p : Values 
         let c : length xs ≡ m - n = omega (arith, w .count) in
         begun-rest o₂ v (begun-piece xs (filled (m - n) (sideIn true t)) (begun-none o n (bothSides s t)) w (ap (withRight t) e ∙ ap (λ k. after xs (filled k (sideIn true t))) c)) q
 
--- eight groups
+-- eight groups as sixteen octets
 groups-append : (gs hs : List ℕ) → groupOctets (gs ++ hs) ≡ groupOctets gs ++ groupOctets hs
 groups-append [] hs = refl
 groups-append (g ∷ gs) hs = ap (λ t. digits 256 2 g ++ t) (groups-append gs hs)

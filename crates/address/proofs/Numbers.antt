@@ -1,4 +1,4 @@
--- The number of a part.
+-- The numbers of parts.
 use Prim.Native.Nat.{ℕ, zero, suc, _+_, _*_, _-_, _^_, _≤_, _<_}
 use mathlib.Core.Path.{_≡_, refl, sym, ap, _∙_}
 use mathlib.Core.Bool.{Bool, true, false, not, cond}
@@ -28,12 +28,12 @@ use Rattle.address.specs.declared.part.Form.{Form}
 use Rattle.address.specs.declared.part.Form.the-variants.{Pair, Small, Group}
 use Rattle.address.specs.Part.{hexOf, hexNumber, zeroFirst, widthOf, valueOf, pieceOf}
 
--- a hex digit, by one computed test of all octets
+-- a hex digit, by testing all 256 octets
 hex-digit : (b : ℕ) → b < 256 → digitValue 16 b ≡ provided (ltb (hexOf b) 16) (hexOf b)
 unfolding hexOf
 hex-digit = all-same 256 (digitValue 16) (λ b. provided (ltb (hexOf b) 16) (hexOf b)) refl
 
--- the number of the digits so far, which is v, and of those that follow
+-- the number of hex digits that are v so far and go on with these
 abbrev pub hexFrom : ℕ → List ℕ → Option ℕ
 hexFrom v xs = valueIn 16 v xs
 
@@ -53,7 +53,7 @@ pub hex-end : (s : List ℕ) (j e v : ℕ) → e ≤ j → hexFrom v (slice j e 
 unfolding valueIn
 hex-end s j e v h = rw (no-octet s j e h)
 
--- the value so far fits
+-- the value so far is below 16 to the power of the digits read
 pub hex-more : (v i j d : ℕ) → i ≤ j → v < 16 ^ (j - i) → d ≤ 15 → v * 16 + d < 16 ^ (j + 1 - i)
 hex-more v i j d l h k = let e : j + 1 - i ≡ suc (j - i) = omega arith in rw (e, pow-suc 16 (j - i)) (omega arith)
 
@@ -80,7 +80,7 @@ module _ (s : List ℕ) (i e : ℕ) (l : e ≤ length s) where
   pub long-group : 1 ≤ e - i → 4 < e - i → none ≡ groupOf (slice i e s)
   long-group k h = let n : length (slice i e s) ≡ e - i = length-slice i e s l in rw (le-leb 1 (length (slice i e s)) (omega arith), lt-leb (length (slice i e s)) 4 (omega arith))
 
--- digits that were read
+-- digits that were read are below the base
 digit-below : (b x d : ℕ) → digitValue b x ≡ some d → d < b
 digit-below b x d e = by (digit x) (letter x) e
   where
@@ -104,7 +104,7 @@ each-below b (x ∷ t) ds e =
     let r = each-below b t es g in
     rw (← q) ((digit-below b x d f, r .0), ap suc (r .1))
 
--- values of one octet
+-- a pair and a small number are below 256
 pub pair-octet : (t : List ℕ) (v : ℕ) → hexPair t ≡ some v → v < 256
 pair-octet t v e = by (eqb (length t) 2) refl e
   where
@@ -125,7 +125,7 @@ small-octet t v e =
     let q = provided-some (ltb y 256) y x k in
     omega (arith, ltb-true y 256 (q .0), q .1, r .1)
 
--- a decimal number is printed so, but for leading zeros
+-- a decimal number is printed as it was read, unless it has leading zeros
 not-same : (xs ys : List ℕ) → length xs < length ys → sameOctets xs ys ≡ false
 not-same xs ys h = by (sameOctets xs ys) refl
   where
@@ -167,7 +167,7 @@ zeros-gone zero d ds = refl
 zeros-gone (suc zero) d ds = refl
 zeros-gone (suc (suc k)) d ds = zeros-gone (suc k) d ds
 
--- ten digits of it
+-- the ten digits of a number, and the text without its leading zeros
 ten-digits : (ds : List ℕ) → Below 10 ds → length ds ≤ 10 → digits 10 10 (number 10 ds) ≡ replicate (10 - length ds) 0 ++ ds
 ten-digits ds h l =
     let q : length (replicate (10 - length ds) 0 ++ ds) ≡ 10 = length-append (replicate (10 - length ds) 0) ds ∙ ap (λ n. n + length ds) (length-replicate (10 - length ds) 0) ∙ omega arith in

@@ -1,4 +1,4 @@
--- A text gone through part by part.
+-- A text that is read part by part.
 use Prim.Native.Nat.{ℕ, zero, suc, _+_, _-_, _≤_, _<_}
 use mathlib.Core.Path.{_≡_, refl, sym, ap, _∙_}
 use mathlib.Core.Bool.{Bool, true, false}
@@ -40,7 +40,7 @@ module _ (c : ℕ) (s : List ℕ) (j e z : ℕ) (h : j ≤ e) (l : e ≤ length 
   pub split-next : z < e → splitOn c (slice j e s) ≡ slice j z s ∷ splitOn c (slice (z + 1) e s)
   split-next m = split-parts ∙ ap (λ r. slice j z s ∷ cut-rest c r) (next s z e m l)
 
--- joined parts
+-- the octets of exactly w parts: the first part, and the others
 joined-next : (w : ℕ) (xs : List ℕ) (o : Option (List (List ℕ))) → joined (suc w) (consBoth (some xs) o) ≡ after xs (joined w o)
 joined-next w xs none = refl
 joined-next w xs (some l) = rw (eqb·suc-suc (length l) w) (by (eqb (length l) w))

@@ -1,4 +1,4 @@
--- Laws of the first of the longest runs of zero groups, sought from the last group back.
+-- Laws of the first of the longest runs of zero groups, searched from the last group backwards.
 use Prim.Native.Nat.{ℕ, zero, suc, _+_, _*_, _-_, _%_, _≤_, _<_, max}
 use mathlib.Core.Path.{_≡_, refl, sym, ap, _∙_}
 use mathlib.Core.Bool.{Bool, true, false, cond}
@@ -22,7 +22,7 @@ after-groups p i e (suc k) h l =
     let q : i + 2 + 2 * k ≡ i + 2 * suc k = omega arith in
     ap (drop (suc k)) (next-group p i e _ (omega arith) l refl) ∙ after-groups p (i + 2) e k (omega arith) l ∙ ap (λ j. groups (slice j e p)) q
 
--- a zero group before others, and another
+-- a zero group before others, and a group that is not zero
 pub zero-before : (g z : ℕ) (gs : List ℕ) → g < 1 → z ≡ zerosAt gs → z + 1 ≡ zerosAt (g ∷ gs)
 zero-before zero z gs h q = omega (arith, q)
 zero-before (suc g) z gs h q = absurd (omega arith)
@@ -31,7 +31,7 @@ pub other-before : (g : ℕ) (gs : List ℕ) → 1 ≤ g → 0 ≡ zerosAt (g �
 other-before zero gs h = absurd (omega arith)
 other-before (suc g) gs h = refl
 
--- no group
+-- no groups
 pub no-zeros : (p : List ℕ) (e : ℕ) → zerosAt (groups (slice e e p)) ≡ 0
 no-zeros p e = ap (λ xs. zerosAt (groups xs)) (none p e e (omega arith))
 
@@ -49,7 +49,7 @@ run-none p e =
       even = omega arith;
     }
 
--- a group more, at j, where the others stand from k on
+-- one more group, at j, before those from k on
 module _ (p : List ℕ) (j k g : ℕ) (n : k ≡ j + 2) (d : g ≡ getD p j 0 * 256 + getD p (j + 1) 0) where
   pub first-group : (x : ℕ) → k ≤ x → x ≤ length p → groups (slice j x p) ≡ g ∷ groups (slice k x p)
   first-group x h l = next-group p j x g (omega arith) l d ∙ ap (λ m. g ∷ groups (slice m x p)) (sym n)
@@ -98,11 +98,11 @@ module _ (p : List ℕ) (j k g : ℕ) (n : k ≡ j + 2) (d : g ≡ getD p j 0 * 
             let m : count′ ≡ count = omega arith in
             rw (u, m) (later a)
 
--- colons between groups: how long the text is
+-- the length of a text of groups with colons between them
 pub colons-short : (p : List ℕ) (i e : ℕ) → e ≤ length p → 2 * length (colons (groups (slice i e p))) ≤ 5 * (e - i)
 colons-short p i e l = omega (arith, pieces-bound 4 58 groupText (groups (slice i e p)) group-short, groups-short (slice i e p), length-slice i e p l)
 
--- the text with no run written `::`, and with one
+-- the text without `::`, and with it
 module _ (p : List ℕ) (i e at count : ℕ) (o : Longest p i e at count) where
   pub whole-text : count < 2 → colons (groups (slice i e p)) ≡ aaaaText (groups (slice i e p))
   whole-text h = rw (← o .longest, lt-ltb count 2 h)
@@ -110,6 +110,6 @@ module _ (p : List ℕ) (i e at count : ℕ) (o : Longest p i e at count) where
   pub parted-text : 2 ≤ count → colons (groups (slice i at p)) ++ (58 ∷ 58 ∷ colons (groups (slice (at + 2 * count) e p))) ≡ aaaaText (groups (slice i e p))
   parted-text h = rw (← o .longest, le-ltb count 2 h, o .before, o .after)
 
--- a group before another, an even number of octets after i
+-- the group before an even place stands at an even place, counted from i
 pub even-before : (i k : ℕ) → i < k → (k - i) % 2 ≡ 0 → (k - 2 - i) % 2 ≡ 0
 even-before i k h q = omega arith

@@ -12,7 +12,7 @@ use Rattle.format.specs.Lists.{_>>=_, provided}
 use Rattle.format.specs.Octets.{splitOn}
 use Rattle.format.specs.Address.{groupOctets, lastGroups, groupsOf, sideOf, single, double, atDoubleColon}
 
--- the place r of the first double colon of the text from i to e, or e
+-- r is the place of the first double colon in the text from i to e, or e if there is none
 pub record DoubledAt (t : List ℕ) (i e r : ℕ) : Type 0 where
   pub after : i ≤ r
   pub within : r < e → r + 2 ≤ e
@@ -23,7 +23,7 @@ pub record DoubledAt (t : List ℕ) (i e r : ℕ) : Type 0 where
 abbrev pub octetsIn : Option (List ℕ) → Option (List ℕ)
 octetsIn o = o >>= λ gs. some (groupOctets gs)
 
--- the octets of a last group, or of an IPv4 part in its place
+-- the octets of the last group, or of a dotted address in its place
 unfoldable pub lastIn : Bool → List ℕ → Option (List ℕ)
 lastIn tail t = octetsIn (lastGroups tail t)
 
@@ -31,7 +31,7 @@ lastIn tail t = octetsIn (lastGroups tail t)
 unfoldable pub groupsIn : Bool → List ℕ → Option (List ℕ)
 groupsIn tail t = octetsIn (groupsOf tail (splitOn (code ":") t))
 
--- the octets of a side of a double colon, which may be empty
+-- the octets of one side of a double colon, which may be empty
 unfoldable pub sideIn : Bool → List ℕ → Option (List ℕ)
 sideIn tail t = octetsIn (sideOf tail t)
 
@@ -39,7 +39,7 @@ sideIn tail t = octetsIn (sideOf tail t)
 abbrev pub sixteen : Option (List ℕ) → Option (List ℕ)
 sixteen o = o >>= λ xs. provided (eqb (length xs) 16) xs
 
--- the octets of the right side after zeros, where g octets stand on the left side: one group at least is left out
+-- the octets of the right side, with zeros before them, after g octets of the left side: at least one group is left out
 abbrev pub filled : ℕ → Option (List ℕ) → Option (List ℕ)
 filled g o = o >>= λ ys. provided (leb (g + length ys) 14) (replicate (16 - (g + length ys)) 0 ++ ys)
 

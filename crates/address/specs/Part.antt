@@ -15,44 +15,44 @@ use Rattle.octets.specs.Octets.{frontEnd}
 use Rattle.address.specs.declared.part.Form.{Form}
 use Rattle.address.specs.declared.part.Form.the-variants.{Pair, Small, Group}
 
--- the value of a hex digit, or 16
+-- the value of a hex digit, or 16 if the octet is none
 unfoldable pub hexOf : ℕ → ℕ
 hexOf b =
     cond (ltb b 48) 16 (cond (ltb b 58) (b - 48)
     (cond (ltb b 65) 16 (cond (ltb b 71) (b - 55)
     (cond (ltb b 97) 16 (cond (ltb b 103) (b - 87) 16)))))
 
--- a number in hex digits
+-- the number that hex digits make
 abbrev pub hexNumber : List ℕ → Option ℕ
 hexNumber t = eachOf (digitValue 16) t >>= λ ds. some (number 16 ds)
 
--- a zero stands before another octet
+-- a zero comes first, with another octet after it
 abbrev pub zeroFirst : List ℕ → Bool
 zeroFirst [] = false
 zeroFirst (x ∷ []) = false
 zeroFirst (x ∷ y ∷ xs) = eqb x (code "0")
 
--- the octets that are not c, and where those from i on end
+-- an octet that is not c
 abbrev pub apart : ℕ → ℕ → Bool
 apart c x = not (eqb x c)
 
--- where the part from i on ends
+-- the end of the part that starts at i
 abbrev pub partEnd : ℕ → List ℕ → ℕ → ℕ → ℕ
 partEnd c t i e = frontEnd (apart c) t i e
 
--- a part by its form
+-- the mark between parts of a form
 abbrev pub markOf : Form → ℕ
 markOf Pair = code "-"
 markOf Small = code "."
 markOf Group = code ":"
 
--- how many octets it is
+-- the number of octets of a part
 abbrev pub widthOf : Form → ℕ
 widthOf Pair = 1
 widthOf Small = 1
 widthOf Group = 2
 
--- its number
+-- the number of a part
 abbrev pub valueOf : Form → List ℕ → Option ℕ
 valueOf Pair t = hexPair t
 valueOf Small t = smallNumber t
@@ -62,18 +62,18 @@ valueOf Group t = groupOf t
 abbrev pub octetsOf : ℕ → Option ℕ → Option (List ℕ)
 octetsOf w o = o >>= λ v. some (digits 256 w v)
 
--- its octets
+-- the octets of a part
 unfoldable pub pieceOf : Form → List ℕ → Option (List ℕ)
 pieceOf f t = octetsOf (widthOf f) (valueOf f t)
 
--- the octets of exactly w parts
+-- the octets of parts, if they are exactly w
 abbrev pub joined : ℕ → Option (List (List ℕ)) → Option (List ℕ)
 joined w o = o >>= λ l. provided (eqb (length l) w) (flat l)
 
--- w parts between the octets c, each read by p
+-- exactly w parts with the mark c between them, each read by p
 unfoldable pub partsBy : ℕ → (List ℕ → Option (List ℕ)) → ℕ → List ℕ → Option (List ℕ)
 partsBy c p w t = joined w (eachOf p (splitOn c t))
 
--- w parts of a form
+-- exactly w parts of a form
 abbrev pub partsOf : Form → ℕ → List ℕ → Option (List ℕ)
 partsOf f w t = partsBy (markOf f) (pieceOf f) w t

@@ -1,4 +1,4 @@
-// The parts of an address between marks, each a number of one or two octets.
+// Reads the parts of an address, each a number of one or two octets, with marks between them.
 ghost use Prim.Native.Nat.{_-_, _^_, _<_, _≤_};
 ghost use mathlib.Core.Path.{_≡_};
 ghost use mathlib.Core.Bool.{cond};
@@ -23,7 +23,7 @@ pub enum Form {
     Group,
 }
 
-// The value of a hex digit, or 16. The digits end before `:`, and the letters before G.
+// The value of a hex digit, or 16 if the octet is none. `:` comes just after 9, and G after F.
 fn hex_value(b: u8) -> u8
     ensures { λ r. ⌜ r ≡ hexOf b ⌝ }
 {
@@ -48,7 +48,7 @@ fn hex_value(b: u8) -> u8
     16
 }
 
-// The number of at most 4 hex digits.
+// The number of the at most four hex digits from i to e.
 fn hex(t: &[u8], i: usize, e: usize) -> Number
     requires { ⌜ (i ≤ e) × (e ≤ length (now t)) × (e - i ≤ 4) ⌝ }
     ensures { λ r. ⌜ r ≡ numberOf (hexNumber (slice i e (now (t .entry)))) ⌝ }
@@ -66,7 +66,7 @@ fn hex(t: &[u8], i: usize, e: usize) -> Number
     Number::Value(v)
 }
 
-// A number of two hex digits.
+// The number of exactly two hex digits.
 fn pair(t: &[u8], i: usize, e: usize) -> Number
     requires { ⌜ (i ≤ e) × (e ≤ length (now t)) ⌝ }
     ensures { λ r. ⌜ r ≡ numberOf (hexPair (slice i e (now (t .entry)))) ⌝ }
@@ -77,7 +77,7 @@ fn pair(t: &[u8], i: usize, e: usize) -> Number
     Number::Fault
 }
 
-// A number of 1 to 4 hex digits.
+// The number of 1 to 4 hex digits.
 fn group(t: &[u8], i: usize, e: usize) -> Number
     requires { ⌜ (i ≤ e) × (e ≤ length (now t)) ⌝ }
     ensures { λ r. ⌜ r ≡ numberOf (groupOf (slice i e (now (t .entry)))) ⌝ }
@@ -91,7 +91,7 @@ fn group(t: &[u8], i: usize, e: usize) -> Number
     hex(t, i, e)
 }
 
-// Whether a zero stands before another octet.
+// Whether a zero comes first, with another octet after it.
 fn zero_first(t: &[u8], i: usize, e: usize) -> bool
     requires { ⌜ (i ≤ e) × (e ≤ length (now t)) ⌝ }
     ensures { λ r. ⌜ r ≡ zeroFirst (slice i e (now (t .entry))) ⌝ }
@@ -102,7 +102,7 @@ fn zero_first(t: &[u8], i: usize, e: usize) -> bool
     t[i] == b'0'
 }
 
-// A number 0 to 255 without leading zeros.
+// The decimal number from i to e, if it is 0 to 255 without leading zeros.
 fn small(t: &[u8], i: usize, e: usize) -> Number
     requires { ⌜ (i ≤ e) × (e ≤ length (now t)) ⌝ }
     ensures { λ r. ⌜ r ≡ numberOf (smallNumber (slice i e (now (t .entry)))) ⌝ }
@@ -122,7 +122,7 @@ fn small(t: &[u8], i: usize, e: usize) -> Number
     }
 }
 
-// The number of a part by its form.
+// The number of a part of the form f.
 pub fn number(f: Form, t: &[u8], i: usize, e: usize) -> Number
     requires { ⌜ (i ≤ e) × (e ≤ length (now t)) ⌝ }
     ensures { λ r. ⌜ r ≡ numberOf (valueOf f (slice i e (now (t .entry)))) ⌝ }
@@ -134,7 +134,7 @@ pub fn number(f: Form, t: &[u8], i: usize, e: usize) -> Number
     }
 }
 
-// What stands between parts.
+// The mark between parts of the form f.
 fn mark(f: Form) -> u8
     ensures { λ r. ⌜ r ≡ markOf f ⌝ }
 {
@@ -145,7 +145,7 @@ fn mark(f: Form) -> u8
     }
 }
 
-// A number's octets by the form of its part.
+// Writes a number in the octets of a part of the form f.
 pub fn put_number(out: &mut [u8], n: usize, f: Form, v: u64) -> usize
     requires { ⌜ n < 2 ^ 32 ⌝ }
     ensures { λ r. ⌜ Wrote (now (out .entry)) (now (out .exit)) n r (digits 256 (widthOf f) v) ⌝ }
@@ -167,7 +167,7 @@ pub fn put_number(out: &mut [u8], n: usize, f: Form, v: u64) -> usize
     }
 }
 
-// The octets of one part.
+// Reads one part into its octets.
 pub fn piece(out: &mut [u8], n: usize, f: Form, t: &[u8], i: usize, e: usize) -> Value
     requires { ⌜ (n < 2 ^ 32) × (i ≤ e) × (e ≤ length (now t)) ⌝ }
     ensures { λ r. ⌜ Values (now (out .entry)) (now (out .exit)) n r (pieceOf f (slice i e (now (t .entry)))) ⌝ }
@@ -182,7 +182,7 @@ pub fn piece(out: &mut [u8], n: usize, f: Form, t: &[u8], i: usize, e: usize) ->
     }
 }
 
-// The end of the octets from i on and before e that are not c.
+// The end of the part that starts at i: the place of the next mark c, or e.
 pub fn part_end(t: &[u8], i: usize, e: usize, c: u8) -> usize
     requires { ⌜ (i ≤ e) × (e ≤ length (now t)) ⌝ }
     ensures { λ r. ⌜ r ≡ partEnd c (now (t .entry)) i e ⌝ }
@@ -197,7 +197,7 @@ pub fn part_end(t: &[u8], i: usize, e: usize, c: u8) -> usize
     j
 }
 
-// The value that ends at r, where the last part was read and k were wanted with it.
+// The value that ends at r, after the last part of the text: a fault unless exactly that one, k = 1, was still needed.
 fn ended(k: usize, r: usize) -> Value
     ensures { λ v. ⌜ v ≡ cond (eqb k 1) (Upto r) Fault ⌝ }
 {
@@ -207,7 +207,7 @@ fn ended(k: usize, r: usize) -> Value
     Value::Fault
 }
 
-// The octets of exactly w parts.
+// Reads exactly w parts into their octets.
 pub fn parts(out: &mut [u8], n: usize, f: Form, w: usize, t: &[u8], i: usize, e: usize) -> Value
     requires { ⌜ (n < 2 ^ 31) × (w ≤ 8) × (i ≤ e) × (e ≤ length (now t)) ⌝ }
     ensures { λ r. ⌜ Values (now (out .entry)) (now (out .exit)) n r (partsOf f w (slice i e (now (t .entry)))) ⌝ }

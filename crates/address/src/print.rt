@@ -1,4 +1,4 @@
-// Addresses: octets in decimal, and groups of two octets in hex.
+// Prints addresses: octets in decimal, and groups of two octets in hex.
 ghost use Prim.Native.Nat.{ℕ, _+_, _-_, _%_, _^_, _<_, _≤_, max};
 ghost use mathlib.Core.Path.{_≡_};
 ghost use mathlib.Core.Bool.{cond};
@@ -16,7 +16,7 @@ use digits::put_decimal;
 use digits::put_hex_octet;
 use octets::integer::two;
 
-// Octets in decimal, with dots between.
+// Writes octets in decimal, with dots between them.
 pub fn dotted(out: &mut [u8], n: usize, p: &[u8], i: usize, e: usize) -> usize
     requires { ⌜ (n < 2 ^ 30) × (i ≤ e) × (e ≤ length (now p)) × (length (now p) ≤ 65535) ⌝ }
     ensures { λ r. ⌜ Wrote (now (out .entry)) (now (out .exit)) n r (dottedText (slice i e (now (p .entry)))) ⌝ }
@@ -34,7 +34,7 @@ pub fn dotted(out: &mut [u8], n: usize, p: &[u8], i: usize, e: usize) -> usize
     m
 }
 
-// A group in hex without leading zeros.
+// Writes a group in hex without leading zeros.
 fn group(out: &mut [u8], n: usize, v: u64) -> usize
     requires { ⌜ (n + 2 < 2 ^ 32) × (v < 65536) ⌝ }
     ensures { λ r. ⌜ Wrote (now (out .entry)) (now (out .exit)) n r (groupText v) ⌝ }
@@ -53,7 +53,7 @@ fn group(out: &mut [u8], n: usize, v: u64) -> usize
     put_hex_octet(out, m, (v % 256) as u8, b'a')
 }
 
-// Groups in hex, with colons between.
+// Writes groups in hex, with colons between them.
 pub fn groups(out: &mut [u8], n: usize, p: &[u8], i: usize, e: usize) -> usize
     requires { ⌜ (n < 2 ^ 31) × (i ≤ e) × (e ≤ length (now p)) × (length (now p) ≤ 65535) × ((e - i) % 2 ≡ 0) ⌝ }
     ensures { λ r. ⌜ Wrote (now (out .entry)) (now (out .exit)) n r (colons (Address.groups (slice i e (now (p .entry))))) ⌝ }
@@ -71,13 +71,13 @@ pub fn groups(out: &mut [u8], n: usize, p: &[u8], i: usize, e: usize) -> usize
     m
 }
 
-// A run of zero groups: its first octet's place, and how many groups it has.
+// A run of zero groups: the place of its first octet, and its number of groups.
 struct Run {
     at: usize,
     count: usize,
 }
 
-// How many zero groups stand from the group g on, where z stand after it.
+// How many zero groups there are from the group g on, if there are z right after it.
 fn zeros(g: u64, z: usize) -> usize
     requires { ⌜ z < 2 ^ 32 ⌝ }
     ensures { λ r. ⌜ ((gs : List ℕ) → z ≡ zerosAt gs → r ≡ zerosAt (g ∷ gs)) × (r ≤ z + 1) ⌝ }
@@ -88,7 +88,7 @@ fn zeros(g: u64, z: usize) -> usize
     0
 }
 
-// The longer of a run and one of z groups before it, at j; of two as long the first.
+// The longer of a run and an earlier run of z groups at j; the earlier one if they are equally long.
 fn longer(run: Run, j: usize, z: usize) -> Run
     ensures { λ r. ⌜ (r .at ≡ cond (leb (run .count) z) j (run .at)) × (r .count ≡ max z (run .count)) ⌝ }
 {
@@ -98,7 +98,7 @@ fn longer(run: Run, j: usize, z: usize) -> Run
     run
 }
 
-// The first of the longest runs of zero groups, sought from the last group back.
+// The first of the longest runs of zero groups, searched from the last group backwards.
 fn longest(p: &[u8], i: usize, e: usize) -> Run
     requires { ⌜ (i ≤ e) × (e ≤ length (now p)) × (length (now p) ≤ 65535) × ((e - i) % 2 ≡ 0) ⌝ }
     ensures { λ r. ⌜ Longest (now (p .entry)) i e (r .at) (r .count) ⌝ }
@@ -114,7 +114,7 @@ fn longest(p: &[u8], i: usize, e: usize) -> Run
     run
 }
 
-// Eight groups; `::` stands for the first of the longest runs of zero groups, two at least.
+// Writes eight groups, with `::` for the first of the longest runs of at least two zero groups.
 pub fn aaaa(out: &mut [u8], n: usize, p: &[u8], i: usize, e: usize) -> usize
     requires { ⌜ (n < 2 ^ 30) × (e ≡ i + 16) × (e ≤ length (now p)) × (length (now p) ≤ 65535) ⌝ }
     ensures { λ r. ⌜ Wrote (now (out .entry)) (now (out .exit)) n r (aaaaText (Address.groups (slice i e (now (p .entry))))) ⌝ }

@@ -1,4 +1,4 @@
-// A, AA and AAAA.
+// Reads A, AA and AAAA.
 ghost use Prim.Native.Nat.{_+_, _^_, _<_, _≤_};
 ghost use mathlib.Core.Path.{_≡_};
 ghost use mathlib.Core.Bool.{true, _&&_};
@@ -14,7 +14,7 @@ use buffer::Value;
 use buffer::put;
 use octets::Number;
 
-// Four numbers 0 to 255 with dots between.
+// Reads four numbers 0 to 255 with dots between them.
 pub fn dotted(out: &mut [u8], n: usize, t: &[u8], i: usize, e: usize) -> Value
     requires { ⌜ (n < 2 ^ 30) × (i ≤ e) × (e ≤ length (now t)) × (length (now t) ≤ 1048576) ⌝ }
     ensures { λ r. ⌜ Values (now (out .entry)) (now (out .exit)) n r (readA (slice i e (now (t .entry)))) ⌝ }
@@ -22,7 +22,7 @@ pub fn dotted(out: &mut [u8], n: usize, t: &[u8], i: usize, e: usize) -> Value
     part::parts(out, n, Form::Small, 4, t, i, e)
 }
 
-// Four groups with colons between.
+// Reads four groups with colons between them.
 pub fn four_groups(out: &mut [u8], n: usize, t: &[u8], i: usize, e: usize) -> Value
     requires { ⌜ (n < 2 ^ 30) × (i ≤ e) × (e ≤ length (now t)) × (length (now t) ≤ 1048576) ⌝ }
     ensures { λ r. ⌜ Values (now (out .entry)) (now (out .exit)) n r (readAA (slice i e (now (t .entry)))) ⌝ }
@@ -56,7 +56,7 @@ fn double_colon(t: &[u8], i: usize, e: usize) -> usize
     e
 }
 
-// The last part: a group, or where `tail` is given an address in dotted form.
+// Reads the last part: a group or, if `tail` is true, an address in dotted form.
 fn last_part(out: &mut [u8], n: usize, t: &[u8], i: usize, e: usize, tail: bool) -> Value
     requires { ⌜ (n < 2 ^ 31) × (i ≤ e) × (e ≤ length (now t)) ⌝ }
     ensures { λ r. ⌜ Values (now (out .entry)) (now (out .exit)) n r (lastIn tail (slice i e (now (t .entry)))) ⌝ }
@@ -76,7 +76,7 @@ fn last_part(out: &mut [u8], n: usize, t: &[u8], i: usize, e: usize, tail: bool)
     }
 }
 
-// The groups of a text with colons between.
+// Reads groups with colons between them; the last may be dotted if `tail` is true.
 fn groups(out: &mut [u8], n: usize, t: &[u8], i: usize, e: usize, tail: bool) -> Value
     requires { ⌜ (n ≤ 2 ^ 30 + 16) × (i ≤ e) × (e ≤ length (now t)) × (length (now t) ≤ 1048576) ⌝ }
     ensures { λ r. ⌜ Values (now (out .entry)) (now (out .exit)) n r (groupsIn tail (slice i e (now (t .entry)))) ⌝ }
@@ -100,7 +100,7 @@ fn groups(out: &mut [u8], n: usize, t: &[u8], i: usize, e: usize, tail: bool) ->
     last_part(out, m, t, j, e, tail)
 }
 
-// The groups on one side of a double colon, perhaps none.
+// Reads the groups on one side of a double colon; there may be none.
 fn side(out: &mut [u8], n: usize, t: &[u8], i: usize, e: usize, tail: bool) -> Value
     requires { ⌜ (n ≤ 2 ^ 30 + 16) × (i ≤ e) × (e ≤ length (now t)) × (length (now t) ≤ 1048576) ⌝ }
     ensures { λ r. ⌜ Values (now (out .entry)) (now (out .exit)) n r (sideIn tail (slice i e (now (t .entry)))) ⌝ }
@@ -111,7 +111,7 @@ fn side(out: &mut [u8], n: usize, t: &[u8], i: usize, e: usize, tail: bool) -> V
     Value::Upto(n)
 }
 
-// k octets that are zero.
+// Writes k zero octets.
 fn put_zeros(out: &mut [u8], n: usize, k: usize) -> usize
     requires { ⌜ (n < 2 ^ 31) × (k ≤ 16) ⌝ }
     ensures { λ r. ⌜ Wrote (now (out .entry)) (now (out .exit)) n r (replicate k 0) ⌝ }
@@ -126,7 +126,7 @@ fn put_zeros(out: &mut [u8], n: usize, k: usize) -> usize
     m
 }
 
-// The zeros and the right side, after g octets of the left side. The right side is read twice: first to know how long it is.
+// Reads the right side after g octets of the left side, and puts zeros before it. It is read twice: first to know its length.
 fn right(out: &mut [u8], n: usize, g: usize, t: &[u8], i: usize, e: usize) -> Value
     requires { ⌜ (n ≤ 2 ^ 30 + g) × (g ≤ 14) × (i ≤ e) × (e ≤ length (now t)) × (length (now t) ≤ 1048576) ⌝ }
     ensures { λ r. ⌜ Values (now (out .entry)) (now (out .exit)) n r (filled g (sideIn true (slice i e (now (t .entry))))) ⌝ }
@@ -145,7 +145,7 @@ fn right(out: &mut [u8], n: usize, g: usize, t: &[u8], i: usize, e: usize) -> Va
     }
 }
 
-// The text on both sides of the double colon at p.
+// Reads the text on both sides of the double colon at p.
 fn around(out: &mut [u8], n: usize, t: &[u8], i: usize, p: usize, e: usize) -> Value
     requires { ⌜ (n < 2 ^ 30) × (i ≤ p) × (p + 2 ≤ e) × (e ≤ length (now t)) × (length (now t) ≤ 1048576) ⌝ }
     ensures { λ r. ⌜ Values (now (out .entry)) (now (out .exit)) n r (bothSides (slice i p (now (t .entry))) (slice (p + 2) e (now (t .entry)))) ⌝ }
@@ -163,7 +163,7 @@ fn around(out: &mut [u8], n: usize, t: &[u8], i: usize, p: usize, e: usize) -> V
     }
 }
 
-// A text without a double colon: eight groups.
+// Reads a text without a double colon: exactly eight groups.
 fn whole(out: &mut [u8], n: usize, t: &[u8], i: usize, e: usize) -> Value
     requires { ⌜ (n < 2 ^ 30) × (i ≤ e) × (e ≤ length (now t)) × (length (now t) ≤ 1048576) ⌝ }
     ensures { λ r. ⌜ Values (now (out .entry)) (now (out .exit)) n r (sixteen (groupsIn true (slice i e (now (t .entry))))) ⌝ }
@@ -180,7 +180,7 @@ fn whole(out: &mut [u8], n: usize, t: &[u8], i: usize, e: usize) -> Value
     }
 }
 
-// Eight groups, or fewer with a double colon for those that are left.
+// Reads eight groups, or fewer with a double colon for the missing ones.
 pub fn aaaa(out: &mut [u8], n: usize, t: &[u8], i: usize, e: usize) -> Value
     requires { ⌜ (n < 2 ^ 30) × (i ≤ e) × (e ≤ length (now t)) × (length (now t) ≤ 1048576) ⌝ }
     ensures { λ r. ⌜ Values (now (out .entry)) (now (out .exit)) n r (readAAAA (slice i e (now (t .entry)))) ⌝ }

@@ -1,4 +1,4 @@
--- Base 64 of all the tokens that are left: its alphabet, its padding, and what any other octet does.
+-- Base 64 from all tokens that are left: its alphabet, its padding, and what any other octet does.
 use Prim.Native.Nat.{ℕ, zero, suc, _+_, _*_, _-_, _%_, _≤_, _<_}
 use mathlib.Core.Path.{_≡_, refl, sym, ap, subst, _∙_}
 use mathlib.Core.Bool.{Bool, true, false, not, cond, _||_, and-false}
@@ -51,7 +51,7 @@ alphabet-long a z = omega (arith, ap length z, long64)
 pub grouping64 : Grouping 6 64 4 3
 grouping64 = record { based = refl; some-bits = omega arith; few-bits = omega arith; some-digits = omega arith; few-digits = omega arith; less = omega arith; whole = refl }
 
--- a list that begins with elements that pass
+-- the longest front of a list that begins with elements that pass
 module _ (f : ℕ → Bool) where
   span-on : (xs ys : List ℕ) → allOf f xs ≡ true → (span f (xs ++ ys) .front ≡ xs ++ span f ys .front) × (span f (xs ++ ys) .rest ≡ span f ys .rest)
   span-on [] ys h = (refl, refl)
@@ -111,7 +111,7 @@ no-octets false = refl
 unpadded-is : (s : Spanned) (front rest : List ℕ) → s .front ≡ front → s .rest ≡ rest → unpadded s ≡ cond (sameOctets rest (padding (length front))) (eachOf base64Value front >>= fromDigits 6) none
 unpadded-is s front rest p q = rw (p, q)
 
--- a text does not begin with a digit
+-- a text that does not begin with a digit
 abbrev Ends : List ℕ → Type 0
 Ends [] = Unit {0}
 Ends (y ∷ ys) = base64Value y ≡ none
@@ -122,7 +122,7 @@ module _ (xs ds : List ℕ) (e : eachOf base64Value xs ≡ some ds) where
       let s = span-on notPadding xs ys (chars-pass xs ds e) in
       unpadded-is (span notPadding (xs ++ ys)) xs ys (s .0 ∙ ap (λ zs. xs ++ zs) p ∙ append-nil xs) (s .1 ∙ q) ∙ ap (λ o. cond (sameOctets ys (padding (length xs))) (o >>= fromDigits 6) none) e
 
-  -- the octets of digits where exactly their padding comes after them
+  -- the octets of digits that are followed by exactly their padding
   padded-text : (ys : List ℕ) → Ends ys → readBase64 (xs ++ ys) ≡ cond (sameOctets ys (padding (length xs))) (fromDigits 6 ds) none
   padded-text [] h = at-end [] refl refl
   padded-text (y ∷ ys) h = by (eqb y 61) refl
@@ -138,7 +138,7 @@ module _ (xs ds : List ℕ) (e : eachOf base64Value xs ≡ some ds) where
           ∙ no-octets (sameOctets (span notPadding ys .rest) (padding (length (xs ++ y ∷ span notPadding ys .front))))
           ∙ sym (ap (λ b. cond b (fromDigits 6 ds) none) (no-padding [] y ys ((4 - length xs % 4) % 4) p))
 
--- an octet that is neither a digit nor `=`
+-- a digit or `=`; any other octet makes reading fail
 abbrev character : ℕ → Bool
 character x = there (base64Value x) || eqb x 61
 
@@ -170,7 +170,7 @@ bad-character p x ys h = by (held notPadding x (rw u) p ys)
         unpadded-is (span notPadding (p ++ x ∷ ys)) (span notPadding (p ++ x ∷ ys) .front) (us ++ x ∷ vs) refl q
         ∙ ap (λ b. cond b (eachOf base64Value (span notPadding (p ++ x ∷ ys) .front) >>= fromDigits 6) none) (no-padding us x vs ((4 - length (span notPadding (p ++ x ∷ ys) .front) % 4) % 4) u)
 
--- a text that is there has octets
+-- only the empty text reads to no octets
 cons-some : (y : ℕ) (o : Option (List ℕ)) → consBoth (some y) o ≡ some [] → ⊥
 cons-some y none e = let z : _≡_ {A = ℕ} 0 1 = cc in omega arith
 cons-some y (some ys) e = let z : _≡_ {A = ℕ} 0 1 = cc in omega arith
@@ -205,11 +205,11 @@ some-base64 (x ∷ xs) e = absurd (by (notPadding x) refl)
         let q : _≡_ {A = Option (List ℕ)} none (some []) = sym (unpadded-is (span notPadding (x ∷ xs)) [] (x ∷ xs) f r) ∙ e in
         let z : _≡_ {A = ℕ} 0 1 = cc in omega arith
 
--- q of `=` stand from j to e, and nothing else that is not left out
+-- exactly q of `=` stand from j to e, and nothing else but what is left out
 abbrev pub Padded : (ℕ → Bool) → List ℕ → ℕ → ℕ → ℕ → Bool
 Padded f t e j q = sameOctets (without f (slice j e t)) (replicate q 61)
 
--- k of them are looked for from i on: q are left, from j on
+-- whether there are exactly k of them from i on is whether there are exactly q from j on
 pub record Pads (f : ℕ → Bool) (t : List ℕ) (e i k j q : ℕ) : Type 0 where
   pub within : j ≤ e
   pub kept : j < e → f (getD t j 0) ≡ false
@@ -259,7 +259,7 @@ module _ (f : ℕ → Bool) (t : List ℕ) (e : ℕ) (l : e ≤ length t) where
     pub pads-none : e ≤ j → q ≤ 0 → true ≡ Padded f t e i k
     pads-none h m = sym (ap (λ xs. sameOctets (without f xs) (replicate q 61)) (no-octet t j e h) ∙ ap (λ n. sameOctets [] (replicate n 61)) (none-wanted m)) ∙ s .same
 
--- the digits have been taken, up to an octet that is none
+-- the digits are read, up to an octet that is none
 module _ (a : List ℕ) (z : a ≡ base64Numbers) (t : List ℕ) (i : ℕ) (h : i ≤ length t) (o : (k : ℕ) → getD t k 0 < 256) (o₀ o₁ : List ℕ) (n at end count num : ℕ)
     (b : Begun o₀ o₁ n a 64 6 64 t i (length t) 4 at end count num) (few : count < 4) where
   chars : (x : ℕ) → x < 256 → charValue a 64 x ≡ base64Value x
@@ -316,7 +316,7 @@ module _ (a : List ℕ) (z : a ≡ base64Numbers) (t : List ℕ) (i : ℕ) (h : 
       subst (λ s. Values o₀ o₂ n r s) (sym (text ∙ ap (λ k. cond k (fromDigits 6 (b .all)) none) (sym tested ∙ p)))
       (begun-all o₀ n a 64 6 64 4 3 grouping64 t i (length t) h (omega arith) o₁ at end count num b o₂ r v)
 
--- all the tokens
+-- what reading all tokens answers
 module _ (t : List ℕ) (i : ℕ) where
   all : joinedBares readBase64 (tokens (drop i t)) ≡ joinedText readBase64 (without blank (drop i t))
   all = joined-is readBase64 character plain-character bad-character (drop i t)

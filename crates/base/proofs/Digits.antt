@@ -1,4 +1,4 @@
--- Octets as digits of w bits, for any width: whole groups of them, and a short one.
+-- Octets as digits of w bits, for any width: whole groups, and a short one.
 use Prim.Native.Nat.{ℕ, zero, suc, _+_, _*_, _-_, _/_, _^_, _≤_, _<_}
 use mathlib.Core.Path.{_≡_, refl, sym, ap, _∙_}
 use mathlib.Core.Bool.{Bool, true, false, cond}
@@ -30,14 +30,14 @@ next-octet p v i j e k h l b q =
     ∙ sym (ap (λ t. numberFrom 2 v (bits 8 t)) (next p (i + j) e h l) ∙ number-append 2 v (digits 2 8 x) (bits 8 (slice (i + j + 1) e p)))
     ∙ q
 
--- a number of a few octets has room for another
+-- the number of a few octets leaves room for another octet
 pub few-octets : (j v : ℕ) → j < 5 → v < 256 ^ j → v < 2 ^ 32
 few-octets j v h l = lt-of-lt-of-le l (let q : j ≤ 4 = omega arith in pow-le-pow-right (omega arith) q)
 
 pub more-octets : (j v b : ℕ) → v < 256 ^ j → b < 256 → v * 256 + b < 256 ^ (j + 1)
 more-octets j v b h l = rw (add-one j, pow-suc 256 j) (omega arith)
 
--- bits of digits give the digits
+-- the bits of digits give those digits
 filled-digit : (w v : ℕ) (bs r : List ℕ) → 1 ≤ length bs → filled w (length bs) v (bs ++ r) ≡ numberFrom 2 v bs ∷ filled w w 0 r
 filled-digit w v [] r h = absurd (omega arith)
 filled-digit w v (b ∷ []) r h = refl
@@ -64,7 +64,7 @@ module _ (w : ℕ) (some : 0 < w) where
   pub no-digits : toDigits w [] ≡ []
   no-digits = rw (eq-eqb w w refl)
 
-  -- octets that are whole digits, alone and before others
+  -- octets that make whole digits, alone and before others
   pub whole-digits : (k : ℕ) (xs : List ℕ) → w * k ≡ 8 * length xs → toDigits w xs ≡ digits (2 ^ w) k (number 2 (bits 8 xs))
   whole-digits k xs e =
       let ds : List ℕ = digits (2 ^ w) k (number 2 (bits 8 xs)) in
@@ -73,14 +73,14 @@ module _ (w : ℕ) (some : 0 < w) where
   pub digits-append : (k : ℕ) (xs r : List ℕ) → w * k ≡ 8 * length xs → toDigits w (xs ++ r) ≡ toDigits w xs ++ toDigits w r
   digits-append k xs r e = group-digits k xs r e ∙ ap (λ t. t ++ toDigits w r) (sym (whole-digits k xs e))
 
-  -- how many digits octets are
+  -- how many digits octets make
   pub digit-count : (xs : List ℕ) → length (toDigits w xs) ≡ (8 * length xs + w - 1) / w
   digit-count xs =
       let l : ℕ = length (toDigits w xs) in
       let d = digits-many w some xs in
       sym (div-eq-of-lt-le {k = l} w {m = 8 * length xs + w - 1} (omega arith) (omega arith))
 
-  -- zeros after the bits of octets add digits, and change none
+  -- zeros after the bits of octets add digits and change none
   first-zeros : (m v z : ℕ) → 0 < m → m ≤ z → take 1 (filled w m v (replicate z 0)) ≡ v * 2 ^ m ∷ []
   first-zeros zero v z h l = absurd (omega arith)
   first-zeros (suc m) v zero h l = absurd (omega arith)
@@ -110,7 +110,7 @@ module _ (w : ℕ) (some : 0 < w) where
   front-digits (suc q) xs h =
       rw (flat-append (digits 2 8) xs (replicate (suc q) 0), zero-bits (suc q)) (filled-front w 0 (8 * suc q) (bits 8 xs) some (omega arith) (omega arith))
 
-  -- a group that is short has the first digits of the group filled with zeros
+  -- a short group has the first digits of the group that is filled up with zeros
   pub short-digits : (k q : ℕ) (xs : List ℕ) → w ≤ 8 → w * k ≡ 8 * (length xs + q)
       → take ((8 * length xs + w - 1) / w) (digits (2 ^ w) k (number 2 (bits 8 (xs ++ replicate q 0)))) ≡ toDigits w xs
   short-digits k q xs h e =

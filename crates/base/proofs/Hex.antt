@@ -1,4 +1,4 @@
--- Laws of hex text that is written in parts.
+-- Laws of a hex text that is written in parts.
 use Prim.Native.Nat.{ℕ, _+_, _*_, _<_, _≤_}
 use mathlib.Core.Path.{_≡_, sym, ap, _∙_}
 use mathlib.Core.List.{List, _++_, map, append-assoc}

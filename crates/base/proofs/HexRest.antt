@@ -1,4 +1,4 @@
--- Hex digits of all the tokens that are left.
+-- Hex digits from all tokens that are left.
 use Prim.Native.Nat.{ℕ, _≤_, _<_}
 use mathlib.Core.Path.{_≡_, refl, sym, ap, _∙_}
 use mathlib.Core.Bool.{true, false, not, _||_}

@@ -1,4 +1,4 @@
--- All the tokens of a text, joined: for a reader that an octet other than its own makes fail, they are the text without blanks.
+-- All tokens of a text, joined: for a reader that fails at any octet but its own, they are the text without its blanks.
 use Prim.Native.Nat.{ℕ, _+_, _≤_, _<_}
 use mathlib.Core.Path.{_≡_, refl, sym, ap, _∙_}
 use mathlib.Core.Bool.{Bool, true, false, not, cond, _&&_}
@@ -16,7 +16,7 @@ use Rattle.format.proofs.Token.{plainly, in-bare, from-between}
 use Rattle.base_group.specs.Group.{without}
 use Rattle.buffer.specs.Writing.{after}
 
--- the octets of tokens, where all are bare
+-- the octets of tokens, if all are bare
 abbrev joined : List Token → Option (List ℕ)
 joined ts = eachOf bareOf ts >>= λ l. some (flat l)
 
@@ -101,7 +101,7 @@ abbrev place : Bool → Scan
 place true = inBare false
 place false = between
 
--- a reader's answer for the joined octets of the tokens that are left
+-- a reader's answer for the joined octets of all tokens
 abbrev pub joinedText : (List ℕ → Option (List ℕ)) → List ℕ → Got
 joinedText f [] = noToken
 joinedText f (x ∷ xs) = gotOr (f (x ∷ xs) >>= notEmpty) []
@@ -184,7 +184,7 @@ module _ (f : List ℕ → Option (List ℕ)) (good : ℕ → Bool) (plain : (x 
       by (t ∷ ts) [] n e = cc
       by (t ∷ ts) (x ∷ xs) n e = ap (λ o. gotOr o []) (of (eachOf bareOf (t ∷ ts)) ∙ ap (λ o. o >>= notEmpty) e)
 
--- a text that a reader of no octets makes none of
+-- the reader's answer for a text: a fault, or octets
 pub text-fault : (f : List ℕ → Option (List ℕ)) (xs : List ℕ) → f [] ≡ some [] → f xs ≡ none → joinedText f xs ≡ badToken
 text-fault f [] z e = cc
 text-fault f (x ∷ xs) z e = rw e

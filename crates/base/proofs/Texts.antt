@@ -1,4 +1,4 @@
--- Laws of digits written by their characters: group by group, and the last group.
+-- Laws of digits that are written as characters: group by group, and the last group.
 use Prim.Native.Nat.{ℕ, zero, suc, min, _+_, _*_, _-_, _/_, _%_, _^_, _≤_, _<_}
 use mathlib.Core.Path.{_≡_, refl, sym, ap, _∙_}
 use mathlib.Core.List.{List, [], _∷_, _++_, map, map-append, append-nil}
@@ -24,7 +24,7 @@ pub times : (g d : ℕ) → 0 < d → g * d ≡ g * (d - 1) + g
 times g zero h = absurd (omega arith)
 times g (suc d) h = let e : suc d - 1 ≡ d = omega arith in rw (e, mul-suc g d)
 
--- octets stored into zeros stand before zeros
+-- octets stored into zeros, and the zeros after them
 take-zeros : (g q : ℕ) → g ≤ q → take {A = ℕ} g (replicate q 0) ≡ replicate g 0
 take-zeros zero q h = refl
 take-zeros (suc g) zero h = absurd (omega arith)
@@ -62,14 +62,14 @@ module _ (w g : ℕ) (t p : List ℕ) (grouped : Grouped w g t) where
   text-length f i e l =
       length-map (toDigits w (slice i e p)) f ∙ digit-count w (grouped .some-bits) (slice i e p) ∙ ap (λ x. (8 * x + w - 1) / w) (length-slice i e p l)
 
-  -- where a text ends, by whatever characters
+  -- where a text ends, whatever its characters are
   pub near : {o o′ : List ℕ} {n m : ℕ} (f : ℕ → ℕ) (i e : ℕ) → e ≤ length p → length p ≤ 65535 → Wrote o o′ n m (map f (toDigits w (slice i e p))) → m ≤ n + 2 ^ 20
   near f i e l h v = omega (arith, v .count, text-length f i e l, div-le-self (8 * (e - i) + w - 1) w, grouped .few-bits)
 
   whole-groups : (c : ℕ) → w * (8 * g / w * c) ≡ 8 * (g * c)
   whole-groups c = sym (mul-assoc w (8 * g / w) c) ∙ ap (λ x. x * c) (grouped .whole) ∙ mul-assoc 8 g c
 
-  -- the same of c groups; and the buffer is as long as before
+  -- the same for c groups; and the buffer keeps its length
   pub placed : {o o′ : List ℕ} {n m : ℕ} (f : ℕ → ℕ) (i c : ℕ) → i + g * c ≤ length p → Wrote o o′ n m (map f (toDigits w (slice i (i + g * c) p))) → (m ≡ n + 8 * g / w * c) × (length o′ ≡ length o)
   placed {n = n} f i c l v =
       let k : ℕ = 8 * g / w * c in
@@ -78,7 +78,7 @@ module _ (w g : ℕ) (t p : List ℕ) (grouped : Grouped w g t) where
       let e : (8 * (g * c) + w - 1) / w ≡ k = div-eq-of-lt-le {k = k} w {m = 8 * (g * c) + w - 1} (omega (arith, grouped .some-bits)) (omega (arith, grouped .some-bits)) in
       (v .count ∙ ap (λ x. n + x) (text-length f i (i + g * c) l ∙ ap (λ x. (8 * x + w - 1) / w) d ∙ e), wrote-length v)
 
-  -- a part that is whole digits, and the rest
+  -- a part that makes whole digits, and the rest
   two-texts : (k i j e : ℕ) → i ≤ j → j ≤ e → e ≤ length p → w * k ≡ 8 * (j - i)
       → chars t (toDigits w (slice i e p)) ≡ chars t (toDigits w (slice i j p)) ++ chars t (toDigits w (slice j e p))
   two-texts k i j e a b l q =
@@ -105,7 +105,7 @@ module _ (w g : ℕ) (t p : List ℕ) (grouped : Grouped w g t) where
       let m : (8 * r + w - 1) / w < 8 * g / w + 1 = div-lt-iff-lt-mul (grouped .some-bits) .1 (omega (arith, grouped .whole, grouped .some-bits)) in
       omega arith
 
-  -- the characters of a group that is filled with zeros: the first are those of its octets
+  -- the first characters of a group that is filled up with zeros are those of its octets
   short-group : (v k : ℕ) (xs : List ℕ) → length xs ≤ g → v ≡ number 2 (bits 8 (take g (sets (replicate 5 0) 0 xs))) → k ≡ (8 * length xs + w - 1) / w
       → take k (sets (replicate 8 0) 0 (chars t (digits (length t) (8 * g / w) v))) ≡ chars t (toDigits w xs)
   short-group v k xs h e q =
@@ -133,7 +133,7 @@ module _ (w g : ℕ) (t p : List ℕ) (grouped : Grouped w g t) where
       let d : v ≡ number 2 (bits 8 (take g (sets (replicate 5 0) 0 (slice i e p)))) = rw (eq, lent p i e a, z) at ev in
       wrote-text _ _ (ap (take k) ex ∙ short-group v k (slice i e p) (omega arith) d (ek ∙ ap (λ y. (8 * y + w - 1) / w) (sym r))) u
 
-  -- Octets that are at most one group, or of which what follows their first group has no room.
+  -- Octets that are at most one group, or of which only the first group has room.
   pub rest-wrote : {o o′ : List ℕ} {n m : ℕ} (i e h r : ℕ) → h ≡ min e (i + g) → i ≤ e → e ≤ length p → (i + g < e → length o ≤ n + 8 * g / w)
       → r ≡ n + (8 * (e - i) + w - 1) / w → Wrote o o′ n m (chars t (toDigits w (slice i h p))) → Wrote o o′ n r (chars t (toDigits w (slice i e p)))
   rest-wrote {o} {o′} {n} {m} i e h r a b l out q v = by (decLt (i + g) e)

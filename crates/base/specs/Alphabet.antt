@@ -4,11 +4,11 @@ use mathlib.Core.Path.{_≡_}
 use mathlib.Core.List.{List, map}
 use lib.ListN.{length, getD}
 
--- the characters of digits, each at its digit's place of an alphabet
+-- the characters of digits: each digit is a place in the alphabet
 abbrev pub chars : List ℕ → List ℕ → List ℕ
 chars t ds = map (λ d. getD t d 0) ds
 
--- an alphabet of digits of w bits, and groups of g octets that are whole digits
+-- an alphabet for digits of w bits, and groups of g octets that make whole digits
 pub record Grouped (w g : ℕ) (t : List ℕ) : Type 0 where
   pub some-bits : 0 < w
   pub few-bits : w ≤ 8

@@ -1,3 +1,3 @@
-// B32, B64, X and X[C]: octets as digits of a base.
+// B32, B64, X and X[C]: octets written as digits in a base.
 pub mod print;
 pub mod read;

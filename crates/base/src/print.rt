@@ -1,5 +1,5 @@
-// Writers of octets as digits. Those of B32 and B64 have w bits, each by its character of an alphabet t; they are written in groups
-// of g octets that are whole digits: 5 octets are 8 digits of 5 bits, and 3 octets 4 digits of 6. X has two hex digits an octet.
+// Writers of octets as digits. Those of B32 and B64 have w bits, and an alphabet t gives their characters; they are written in
+// groups of g octets that make whole digits: 5 octets are 8 digits of 5 bits, 3 are 4 of 6 bits. X has two hex digits an octet.
 ghost use mathlib.Core.Path.{_≡_};
 ghost use Prim.Native.Nat.{_+_, _*_, _-_, _/_, _^_, _<_, _≤_};
 ghost use lib.ListN.{length};
@@ -15,7 +15,7 @@ use buffer::put_all;
 use digits::hex_digit;
 use digits::put_hex_octet;
 
-// The number whose bits are those of g octets from i on.
+// The number whose bits are those of the g octets from i on.
 fn number_of(p: &[u8], i: usize, g: usize) -> usize
     requires { ⌜ (i + g ≤ length (now p)) × (g ≤ 5) ⌝ }
     ensures { λ r. ⌜ r ≡ number 2 (bits 8 (slice i (i + g) (now (p .entry)))) ⌝ }
@@ -29,7 +29,7 @@ fn number_of(p: &[u8], i: usize, g: usize) -> usize
     v
 }
 
-// The k lowest digits of v, from the last on, where there is room for them.
+// Stores the k lowest digits of v, from the last on; there is room for them.
 fn store(out: &mut [u8], n: usize, t: &[u8], k: usize, v: usize)
     requires { ⌜ (n + k ≤ length (now out)) × (0 < length (now t)) ⌝ }
     ensures { λ _. ⌜ now (out .exit) ≡ sets (now (out .entry)) n (chars (now (t .entry)) (digits (length (now (t .entry))) k v)) ⌝ }
@@ -43,8 +43,8 @@ fn store(out: &mut [u8], n: usize, t: &[u8], k: usize, v: usize)
     }
 }
 
-// The digits of c groups, where there is room for them. It is called with numbers for w and g, so that its inner loops are
-// unrolled for each of the two.
+// Writes the digits of c groups; there is room for them. It is called with constants for w and g, so that its inner loops are
+// unrolled for each of the two bases.
 fn groups(
     out: &mut [u8],
     n: usize,
@@ -71,7 +71,7 @@ fn groups(
     m
 }
 
-// The digits of at most one group, which is filled with zeros.
+// Writes the digits of at most one group; a short group is filled up with zeros.
 fn group(
     out: &mut [u8],
     n: usize,
@@ -93,7 +93,7 @@ fn group(
     put_all(out, n, &text[0..k])
 }
 
-// The digits of octets that are at most one group, or of which what follows their first group has no room.
+// Writes the digits of the octets from i to e: at most one group, or there is no room for what follows the first group.
 fn rest(
     out: &mut [u8],
     n: usize,
@@ -112,7 +112,7 @@ fn rest(
     n + (8 * (e - i) + w - 1) / w
 }
 
-// Octets as base 32 without padding. Where there is no room the digits are only counted.
+// Writes octets in base 32, without padding. Digits for which there is no room are only counted.
 pub fn base32(out: &mut [u8], n: usize, p: &[u8], i: usize, e: usize) -> usize
     requires { ⌜ (n < 2 ^ 30) × (i ≤ e) × (e ≤ length (now p)) × (length (now p) ≤ 65535) ⌝ }
     ensures { λ r. ⌜ Wrote (now (out .entry)) (now (out .exit)) n r (base32Text (slice i e (now (p .entry)))) ⌝ }
@@ -123,7 +123,7 @@ pub fn base32(out: &mut [u8], n: usize, p: &[u8], i: usize, e: usize) -> usize
     rest(out, m, t, 5, 5, p, i + 5 * c, e)
 }
 
-// As base32, with padding.
+// Writes octets in base 64, with padding; else as `base32`.
 pub fn base64(out: &mut [u8], n: usize, p: &[u8], i: usize, e: usize) -> usize
     requires { ⌜ (n < 2 ^ 30) × (i ≤ e) × (e ≤ length (now p)) × (length (now p) ≤ 65535) ⌝ }
     ensures { λ r. ⌜ Wrote (now (out .entry)) (now (out .exit)) n r (base64Text (slice i e (now (p .entry)))) ⌝ }
@@ -137,7 +137,7 @@ pub fn base64(out: &mut [u8], n: usize, p: &[u8], i: usize, e: usize) -> usize
     put_all(out, r, &padding[0..k])
 }
 
-// Two digits an octet, where there is room for all.
+// Writes two hex digits for each octet; there is room for all.
 fn hex_pairs(out: &mut [u8], n: usize, s: &[u8]) -> usize
     requires { ⌜ 2 * length (now s) ≤ length (now out) - n ⌝ }
     ensures { λ r. ⌜ Wrote (now (out .entry)) (now (out .exit)) n r (hexText (now (s .entry))) ⌝ }
@@ -154,7 +154,7 @@ fn hex_pairs(out: &mut [u8], n: usize, s: &[u8]) -> usize
     m
 }
 
-// Two digits an octet. The first octet without room for both may have room for one; the others have none.
+// Writes two hex digits for each octet. The first octet without room for both may have room for one; those after it have none.
 pub fn put_hex_upper(out: &mut [u8], n: usize, s: &[u8]) -> usize
     requires { ⌜ (n < 2 ^ 32) × (length (now s) < 2 ^ 32) ⌝ }
     ensures { λ r. ⌜ Wrote (now (out .entry)) (now (out .exit)) n r (hexText (now (s .entry))) ⌝ }

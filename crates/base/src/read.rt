@@ -1,4 +1,4 @@
-// Readers of octets that are written as digits of w bits: hex, base 32 in the extended hex alphabet, and base 64. A token is the
+// Readers of octets written as digits of w bits: hex, base 32 in the extended hex alphabet, and base 64. A token is the
 // octets from i to e of the text t.
 ghost use Prim.Native.Nat.{_<_, _^_, _≤_};
 ghost use Rattle.base_group.specs.Group.{base64Numbers, leftOut, without};
@@ -14,7 +14,7 @@ ghost use lib.Seq.{slice};
 ghost use mathlib.Core.Path.{_≡_};
 use buffer::Value;
 
-// The octets after their count.
+// Reads base 32 from one token, and stores the octets after their count.
 pub fn counted_base32(out: &mut [u8], n: usize, t: &[u8], i: usize, e: usize) -> Value
     requires { ⌜ (n < 2 ^ 30) × (i ≤ e) × (e ≤ length (now t)) × (length (now t) ≤ 1048576) ⌝ }
     ensures { λ r. ⌜ Values (now (out .entry)) (now (out .exit)) n r (readBase32 (slice i e (now (t .entry)))) ⌝ }
@@ -22,7 +22,7 @@ pub fn counted_base32(out: &mut [u8], n: usize, t: &[u8], i: usize, e: usize) ->
     base_group::counted(out, n, t, i, e, 5, 32, 8, 5)
 }
 
-// The octets after their count.
+// Reads hex digits from one token, and stores the octets after their count.
 pub fn counted_hex(out: &mut [u8], n: usize, t: &[u8], i: usize, e: usize) -> Value
     requires { ⌜ (n < 2 ^ 30) × (i ≤ e) × (e ≤ length (now t)) × (length (now t) ≤ 1048576) ⌝ }
     ensures { λ r. ⌜ Values (now (out .entry)) (now (out .exit)) n r (readCountedHex (slice i e (now (t .entry)))) ⌝ }
@@ -30,7 +30,7 @@ pub fn counted_hex(out: &mut [u8], n: usize, t: &[u8], i: usize, e: usize) -> Va
     base_group::counted(out, n, t, i, e, 4, 16, 8, 4)
 }
 
-// Whether k of `=` stand from i to e, and nothing else that is not left out.
+// Whether exactly k of `=` stand from i to e, and nothing else but what is left out.
 fn padded(t: &[u8], i: usize, e: usize, a: &[u8], skip: usize, k: usize) -> bool
     requires { ⌜ (i ≤ e) × (e ≤ length (now t)) × (256 ≤ length (now a)) ⌝ }
     ensures { λ r. ⌜ r ≡ sameOctets (without (leftOut (now (a .entry)) skip) (slice i e (now (t .entry)))) (replicate k 61) ⌝ }
@@ -53,7 +53,7 @@ fn padded(t: &[u8], i: usize, e: usize, a: &[u8], skip: usize, k: usize) -> bool
     true
 }
 
-// The octets of all the characters from i on.
+// Reads base 64 from all the characters from i on, with the alphabet a.
 fn base64_by(out: &mut [u8], n: usize, t: &[u8], i: usize, a: &[u8]) -> Value
     requires { ⌜ (n < 2 ^ 30) × (i ≤ length (now t)) × (length (now t) ≤ 1048576) × (now a ≡ base64Numbers) ⌝ }
     ensures { λ r. ⌜ Values (now (out .entry)) (now (out .exit)) n r (readBase64 (without blank (drop i (now (t .entry))))) ⌝ }
@@ -66,7 +66,7 @@ fn base64_by(out: &mut [u8], n: usize, t: &[u8], i: usize, a: &[u8]) -> Value
     Value::Fault
 }
 
-// The same. 64 stands for a blank and 99 for an octet that is no digit.
+// The same, with the alphabet in a table: 64 stands for a blank, 99 for an octet that is no digit.
 fn base64(out: &mut [u8], n: usize, t: &[u8], i: usize) -> Value
     requires { ⌜ (n < 2 ^ 30) × (i ≤ length (now t)) × (length (now t) ≤ 1048576) ⌝ }
     ensures { λ r. ⌜ Values (now (out .entry)) (now (out .exit)) n r (readBase64 (without blank (drop i (now (t .entry))))) ⌝ }
@@ -76,14 +76,14 @@ fn base64(out: &mut [u8], n: usize, t: &[u8], i: usize) -> Value
     base64_by(out, n, t, i, a)
 }
 
-// No token is left; or a rule is broken; or the octets are stored up to a place.
+// What a reader of all tokens answers: no token is left; a rule is broken; or the octets are stored up to a place.
 pub enum Got {
     Missing,
     Fault,
     Upto(usize),
 }
 
-// Hex digits from i on: an octet that is neither a digit nor a blank is a fault in whatever token it stands.
+// Reads hex digits from all tokens from i on: an octet that is neither a digit nor a blank is a fault, whatever token it is in.
 pub fn hex_rest(out: &mut [u8], n: usize, t: &[u8], i: usize) -> Got
     requires { ⌜ (n < 2 ^ 30) × (i ≤ length (now t)) × (length (now t) ≤ 1048576) ⌝ }
     ensures { λ r. ⌜ Gets (now (out .entry)) (now (out .exit)) n r (joinedBares fromHex (tokens (drop i (now (t .entry))))) ⌝ }
@@ -100,7 +100,7 @@ pub fn hex_rest(out: &mut [u8], n: usize, t: &[u8], i: usize) -> Got
     }
 }
 
-// Base 64 from i on: the same of an octet that is neither a digit, a blank nor the padding.
+// Reads base 64 from all tokens from i on: the same holds of an octet that is no digit, no blank and no padding.
 pub fn base64_rest(out: &mut [u8], n: usize, t: &[u8], i: usize) -> Got
     requires { ⌜ (n < 2 ^ 30) × (i ≤ length (now t)) × (length (now t) ≤ 1048576) ⌝ }
     ensures { λ r. ⌜ Gets (now (out .entry)) (now (out .exit)) n r (joinedBares readBase64 (tokens (drop i (now (t .entry))))) ⌝ }

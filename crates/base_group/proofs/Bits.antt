@@ -26,14 +26,14 @@ use Rattle.buffer.proofs.Values.{after-none}
 pub number-last : (b : ℕ) (ds : List ℕ) (d : ℕ) → number b (ds ++ d ∷ []) ≡ number b ds * b + d
 number-last b ds d = number-append b 0 ds (d ∷ [])
 
--- bits after a number
+-- the number of a's bits followed by others
 number-from : (a : ℕ) (bs : List ℕ) → numberFrom 2 a bs ≡ a * 2 ^ length bs + number 2 bs
 number-from a [] = omega (arith, pow-zero 2)
 number-from a (b ∷ bs) =
     let e : 2 ^ suc (length bs) ≡ 2 ^ length bs * 2 = pow-suc 2 (length bs) in
     number-from (a * 2 + b) bs ∙ sym (rw e (ap (λ x. a * (2 ^ length bs * 2) + x) (number-from (0 * 2 + b) bs) ∙ omega arith))
 
--- digits are known by how many they are and by their number
+-- the bits of digits follow from their count and their number
 pub digits-bits : (w : ℕ) (ds : List ℕ) → Below (2 ^ w) ds → bits w ds ≡ digits 2 (w * length ds) (number (2 ^ w) ds)
 digits-bits w ds h =
     sym (digits-number 2 (bits w ds) (bits-below w ds)) ∙ ap (λ x. digits 2 x (number 2 (bits w ds))) (bits-length w ds) ∙ ap (digits 2 (w * length ds)) (bits-number w 0 ds h)
@@ -41,7 +41,7 @@ digits-bits w ds h =
 pub digits-bound : (w : ℕ) (ds : List ℕ) → Below (2 ^ w) ds → number (2 ^ w) ds < 2 ^ (w * length ds)
 digits-bound w ds h = rw (power w (length ds)) (number-bound (2 ^ w) ds h)
 
--- octets and z bits after them
+-- bits are octets and z bits after them
 two-parts : (z a b : ℕ) → b < 2 ^ z → ((a * 2 ^ z + b) / 2 ^ z ≡ a) × ((a * 2 ^ z + b) % 2 ^ z ≡ b)
 two-parts z a b h =
     let pos : 0 < 2 ^ z = one-le-pow z 2 (omega arith) in
@@ -61,7 +61,7 @@ octets-and-bits o z bs b e =
     let bz : digits 2 z (number 2 r) ≡ r = ap (λ x. digits 2 x (number 2 r)) (sym lr) ∙ digits-number 2 r br in
     rw (v, t .0, t .1, bp, bz) (sym (take-append-drop (8 * o) bs))
 
--- the octets of bits
+-- the octets of bits, and the bits left over
 cons-after : (x : ℕ) (xs : List ℕ) (o : Option (List ℕ)) → consBoth (some x) (after xs o) ≡ after (x ∷ xs) o
 cons-after x xs none = refl
 cons-after x xs (some ys) = refl
@@ -101,7 +101,7 @@ number-octets w l v o z e h s =
     mod-small : (z v : ℕ) → v % 2 ^ z < 2 ^ z
     mod-small z v = mod-lt v (one-le-pow z 2 (omega arith))
 
--- a group's octets before those of other digits
+-- the octets of a group, before those of the digits after it
 pub group-octets : (w g : ℕ) (ds r : List ℕ) → Below (2 ^ w) ds → w * length ds ≡ 8 * g → fromDigits w (ds ++ r) ≡ after (digits 256 g (number (2 ^ w) ds)) (fromDigits w r)
 group-octets w g ds r h e =
     let v : ℕ = number (2 ^ w) ds in
@@ -109,7 +109,7 @@ group-octets w g ds r h e =
     let d : bits w ds ≡ bits 8 (digits 256 g v) = sym (regrouped 8 g (bits w ds) (bits-below w ds) (bits-length w ds ∙ e)) ∙ ap (λ x. bits 8 (digits 256 g x)) n in
     ap (wholeOctets w 8 0) (flat-append (digits 2 w) ds r ∙ ap (λ x. x ++ bits w r) d) ∙ octets-whole w (digits 256 g v) (bits w r) (digits-below 256 g v (omega arith))
 
--- powers of 2, one after another
+-- the next power of 2
 pub power-on : (p k : ℕ) → p ≡ 2 ^ k → p * 2 ≡ 2 ^ (k + 1)
 power-on p k e = rw (add-one k, pow-suc 2 k, e)
 
@@ -119,7 +119,7 @@ power-small p k e h = let l : k ≤ 7 = omega arith in rw e (pow-le-pow-right {n
 pub power-end : (p k z : ℕ) → p ≡ 2 ^ k → k ≤ z → z ≤ k → p ≡ 2 ^ z
 power-end p k z e h l = let q : k ≡ z = omega arith in e ∙ ap (λ x. 2 ^ x) q
 
--- the octets of a few digits by their number
+-- the octets of the last digits, given their number
 pub few-bits : (w q : ℕ) → w ≤ 6 → q ≤ 8 → w * q ≤ 48
 few-bits w q h l = let m : w * q ≤ 6 * q = mul-le-mul-right q h in omega arith
 

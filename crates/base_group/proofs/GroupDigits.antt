@@ -64,7 +64,7 @@ module _ (f : ℕ → Bool) where
     pub run-stops : j < e → f (getD t j 0) ≡ false
     run-stops k = stopped f (slice i e t) (getD t j 0) (slice (j + 1) e t) (sym (front-rest f t i e) ∙ ap (λ m. slice m e t) (sym p) ∙ next t j e k l)
 
-    -- what is left out stands before the first that is not
+    -- the octets that are left out before the first other one may be skipped
     pub run-skipped : without f (slice i e t) ≡ without f (slice j e t)
     run-skipped =
         ap (without f) (slice-append t i j e (run-within .0) (run-within .1) l) ∙ without-append (slice i j t) (slice j e t)
@@ -90,7 +90,7 @@ each-none f (x ∷ xs) y ys p = rw (each-none f xs y ys p) (by (f x))
     by none = refl
     by (some d) = refl
 
--- at most k digits are being taken: q so far, up to j
+-- q digits, which make v, are read from i up to j, where no octet is left out
 pub record Taking (a : List ℕ) (skip base : ℕ) (t : List ℕ) (e i q v j : ℕ) : Type 0 where
   pub ds : List ℕ
   pub from : i + q ≤ j
@@ -101,7 +101,7 @@ pub record Taking (a : List ℕ) (skip base : ℕ) (t : List ℕ) (e i q v j : �
   pub read : digitsBy a skip base (slice i j t) ≡ some ds
   pub kept : j < e → leftOut a skip (getD t j 0) ≡ false
 
--- the digits of one part and of another
+-- the digits of one part, and then of another
 module _ (a : List ℕ) (skip base : ℕ) (t : List ℕ) where
   digits-append : (i j k : ℕ) (ds es : List ℕ) → i ≤ j → j ≤ k → k ≤ length t → digitsBy a skip base (slice i j t) ≡ some ds → digitsBy a skip base (slice j k t) ≡ some es
       → digitsBy a skip base (slice i k t) ≡ some (ds ++ es)
@@ -282,7 +282,7 @@ module _ (o₀ : List ℕ) (n : ℕ) (a : List ℕ) (skip w base k g : ℕ) (u :
         let z : number (2 ^ w) (b .ds) ≡ v = ap (λ x. number x (b .ds)) (sym (u .based)) ∙ b .is in
         subst (λ x. x < 2 ^ (w * q)) z (subst (λ x. number (2 ^ w) (b .ds) < 2 ^ (w * x)) (b .long) (digits-bound w (b .ds) d))
 
-    -- all of the digits have been taken, or another octet stands before the end
+    -- all digits are read; or an octet that is no digit stands before the end
     begun-digits : fromDigits w (b .all) ≡ after (b .xs) (wholeOctets w 8 0 (digits 2 (w * q) v))
     begun-digits =
         let d : Below (2 ^ w) (b .ds) = subst (λ x. Below x (b .ds)) (u .based) (b .below) in

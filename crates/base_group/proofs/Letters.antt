@@ -1,4 +1,4 @@
--- The alphabet of digits and letters against the definitions.
+-- The alphabet of digits and letters gives the digits of the definitions.
 use Prim.Native.Nat.{ℕ, _+_, _-_, _%_, _<_}
 use mathlib.Core.Path.{_≡_, refl, sym, ap, subst, _∙_}
 use mathlib.Core.Bool.{Bool, true, false, not, cond}
@@ -22,7 +22,7 @@ use Rattle.buffer.specs.Writing.{after}
 use Rattle.base_group.specs.Group.{charValue, leftOut, without, octetsBy, letters, countedBy}
 use Rattle.base_group.proofs.Bits.{group-octets}
 
--- octets at each place make octets of a part
+-- a part of octets is a list of octets
 pub octets-part : (t : List ℕ) (i e : ℕ) → ((k : ℕ) → getD t k 0 < 256) → Octets (slice i e t)
 octets-part t i e h = below-drop 256 i (take e t) (below-take 256 e t (below-each 256 t h))
 
@@ -75,7 +75,7 @@ each-by : (f g : ℕ → Option ℕ) → ((x : ℕ) → x < 256 → f x ≡ g x)
 each-by f g h [] o = refl
 each-by f g h (x ∷ s) o = rw (all-kept x (o .0), h x (o .0), each-by f g h s (o .1))
 
--- pairs of digits
+-- pairs of hex digits as octets
 digit-small : (x d : ℕ) → digitValue 16 x ≡ some d → d < 16
 digit-small x d e = by (digit x) (letter x) (x - 48) (lowered x - 97 + 10) e
   where
@@ -118,7 +118,7 @@ hex-digits (a ∷ b ∷ s) =
         let z : number 16 (x ∷ y ∷ []) % 256 ≡ number 16 (x ∷ y ∷ []) = omega arith in
         group-octets 4 1 (x ∷ y ∷ []) ds (h, (l, tt)) (omega arith) ∙ ap (λ k. after (k ∷ []) (fromDigits 4 ds)) z
 
--- where nothing is left out
+-- the same if nothing is left out
 pub octets-hex : (s : List ℕ) → Octets s → octetsBy letters 100 4 16 s ≡ fromHex s
 octets-hex s o = ap (λ x. x >>= fromDigits 4) (each-by (charValue letters 16) (digitValue 16) letters16 s o) ∙ sym (hex-digits s)
 

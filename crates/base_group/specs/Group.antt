@@ -1,4 +1,4 @@
--- Digits of w bits by an alphabet, which gives the number of each octet, and their octets.
+-- Digits of w bits, read by an alphabet that gives the number of each octet, and the octets that they make.
 use Prim.Native.Nat.{ℕ, zero, suc, _+_, _*_, _^_, _≤_, _<_}
 use mathlib.Core.Path.{_≡_}
 use mathlib.Core.Bool.{Bool, cond, false}
@@ -15,15 +15,15 @@ use Rattle.format.specs.Base.{fromDigits, base64Value}
 use Rattle.buffer.specs.Writing.{Wrote, after}
 use Rattle.octets.specs.Octets.{frontEnd}
 
--- a digit below the base
+-- the digit that an octet stands for, if it is below the base
 abbrev pub charValue : List ℕ → ℕ → ℕ → Option ℕ
 charValue a base x = provided (ltb (getD a x 0) base) (getD a x 0)
 
--- an octet that is passed over
+-- an octet that is left out
 abbrev pub leftOut : List ℕ → ℕ → ℕ → Bool
 leftOut a skip x = eqb (getD a x 0) skip
 
--- the place of the first octet from i on that is not passed over, or e
+-- the place of the first octet from i on that is not left out, or e
 abbrev pub keptFrom : List ℕ → ℕ → List ℕ → ℕ → ℕ → ℕ
 keptFrom a skip t i e = frontEnd (leftOut a skip) t i e
 
@@ -32,7 +32,7 @@ abbrev pub without : (ℕ → Bool) → List ℕ → List ℕ
 without f [] = []
 without f (x ∷ xs) = cond (f x) (without f xs) (x ∷ without f xs)
 
--- the digits of a text, what is passed over left out
+-- the digits of a text, without what is left out
 abbrev pub digitsBy : List ℕ → ℕ → ℕ → List ℕ → Option (List ℕ)
 digitsBy a skip base s = eachOf (charValue a base) (without (leftOut a skip) s)
 
@@ -55,7 +55,7 @@ pub record Stops (a : List ℕ) (skip base x : ℕ) : Type 0 where
   pub kept : leftOut a skip x ≡ false
   pub high : base ≤ getD a x 0
 
--- `count` digits with a number stand from i to `at`, k or as many as there are
+-- from i to `at` there are `count` digits, which make `num`: k of them, or fewer if no digit follows
 pub record Taken (a : List ℕ) (skip base : ℕ) (t : List ℕ) (i e k at count num : ℕ) : Type 0 where
   pub ds : List ℕ
   pub from : i + count ≤ at
@@ -67,7 +67,7 @@ pub record Taken (a : List ℕ) (skip base : ℕ) (t : List ℕ) (i e k at count
   pub read : digitsBy a skip base (slice i at t) ≡ some ds
   pub stops : at < e → count < k → Stops a skip base (getD t at 0)
 
--- The digits from i to `at` are `all`: the octets of whole groups of them stand from n to `end`, and `ds` are left.
+-- From i to `at` the digits are `all`: the octets of the whole groups among them stand from n to `end`, and the digits `ds` are left.
 pub record Begun (before after′ : List ℕ) (n : ℕ) (a : List ℕ) (skip w base : ℕ) (t : List ℕ) (i e k at end count num : ℕ) : Type 0 where
   pub xs : List ℕ
   pub all : List ℕ
@@ -86,32 +86,32 @@ pub record Begun (before after′ : List ℕ) (n : ℕ) (a : List ℕ) (skip w b
   pub same : (r : List ℕ) → fromDigits w (all ++ r) ≡ after xs (fromDigits w (ds ++ r))
   pub stops : at < e → count < k → Stops a skip base (getD t at 0)
 
--- f at n numbers from x on
+-- the values of f at n numbers, starting at x
 abbrev pub numbered : (ℕ → ℕ) → ℕ → ℕ → List ℕ
 numbered f x zero = []
 numbered f x (suc n) = f x ∷ numbered f (x + 1) n
 
--- a number, or d where there is none
+-- a number, or d if there is none
 abbrev pub orNumber : Option ℕ → ℕ → ℕ
 orNumber none d = d
 orNumber (some x) d = x
 
--- 0 to 9, then letters in either case
+-- 0 to 9, then letters in either case; 64 for a blank, 99 for any other octet
 abbrev pub letterNumber : ℕ → ℕ
 letterNumber x = cond (blank x) 64 (orNumber (digitValue 32 x) 99)
 
--- the table of these for all octets
+-- the table of these numbers for all octets
 unfoldable pub letters : List ℕ
 letters = numbered letterNumber 0 256
 
--- RFC 4648's base 64 alphabet
+-- RFC 4648's base 64 alphabet; 64 for a blank, 99 for any other octet
 abbrev pub base64Number : ℕ → ℕ
 base64Number x = cond (blank x) 64 (orNumber (base64Value x) 99)
 
--- the table of these for all octets
+-- the table of these numbers for all octets
 unfoldable pub base64Numbers : List ℕ
 base64Numbers = numbered base64Number 0 256
 
--- the octets of digits in one token, after their count
+-- the octets of the digits in one token, after their count
 abbrev pub countedBy : ℕ → ℕ → List ℕ → Option (List ℕ)
 countedBy w base s = octetsBy letters 100 w base s >>= counted 1

@@ -1,5 +1,5 @@
-// Digits of w bits and their octets: k digits are g octets. Each digit is a character whose number an alphabet gives; a
-// character with the number `skip` is left out.
+// Reads digits of w bits into octets, k digits into g octets. An alphabet gives the number of each character; a character with
+// the number `skip` is left out.
 ghost use Prim.Native.Nat.{ℕ, _+_, _*_, _^_, _<_, _≤_};
 ghost use mathlib.Core.Path.{_≡_};
 ghost use lib.ListN.{length, getD};
@@ -12,14 +12,14 @@ use buffer::Value;
 use buffer::put;
 use digits::put_octets;
 
-// The digits from a place on, up to `at`: how many, and their number.
+// Digits that were read up to `at`: how many there are, and the number that they make.
 pub struct Digits {
     pub at: usize,
     pub count: usize,
     pub number: usize,
 }
 
-// The octets of whole groups stand up to `end`; then come fewer digits than a group, up to `at`.
+// Whole groups were read, and their octets stored up to `end`; then fewer digits than a group were read, up to `at`.
 pub struct Front {
     pub at: usize,
     pub end: usize,
@@ -35,7 +35,7 @@ fn number_of(a: &[u8], b: u8) -> usize
     a[b as usize] as usize
 }
 
-// The first place from i on and before e whose octet is not left out.
+// The first place from i on whose octet is not left out, or e.
 pub fn kept_from(t: &[u8], i: usize, e: usize, a: &[u8], skip: usize) -> usize
     requires { ⌜ (i ≤ e) × (e ≤ length (now t)) × (256 ≤ length (now a)) ⌝ }
     ensures { λ r. ⌜ r ≡ keptFrom (now (a .entry)) skip (now (t .entry)) i e ⌝ }
@@ -50,7 +50,7 @@ pub fn kept_from(t: &[u8], i: usize, e: usize, a: &[u8], skip: usize) -> usize
     j
 }
 
-// k digits from i on, one after another, if they are: else a count of 0.
+// The k digits from i on, if k digits stand there with nothing between them; else a count of 0.
 fn next_digits(t: &[u8], i: usize, a: &[u8], base: usize, k: usize) -> Digits
     requires { ⌜ (i + k ≤ length (now t)) × (base ≤ 64) × (k ≤ 8) × (256 ≤ length (now a)) ⌝ }
     ensures { λ r. ⌜ (0 < r .count → (skip : ℕ) → base ≤ skip → (e : ℕ) → i + k ≤ e → Taken (now (a .entry)) skip base (now (t .entry)) i e k (r .at) (r .count) (r .number)) ⌝ }
@@ -76,7 +76,7 @@ fn next_digits(t: &[u8], i: usize, a: &[u8], base: usize, k: usize) -> Digits
     }
 }
 
-// The same for groups that are read often: with their numbers written out the loop is unrolled.
+// The same for the usual groups: with constants for base and k the loop is unrolled. A count of 0 for all others.
 fn quick_digits(t: &[u8], i: usize, e: usize, a: &[u8], base: usize, k: usize) -> Digits
     requires { ⌜ (i ≤ e) × (e ≤ length (now t)) × (256 ≤ length (now a)) ⌝ }
     ensures { λ r. ⌜ (0 < r .count → (skip : ℕ) → base ≤ skip → Taken (now (a .entry)) skip base (now (t .entry)) i e k (r .at) (r .count) (r .number)) ⌝ }
@@ -105,7 +105,7 @@ fn quick_digits(t: &[u8], i: usize, e: usize, a: &[u8], base: usize, k: usize) -
     }
 }
 
-// At most k digits, with what is left out between them.
+// The next digits, at most k, with what is left out between them.
 fn some_digits(t: &[u8], i: usize, e: usize, a: &[u8], skip: usize, base: usize, k: usize) -> Digits
     requires { ⌜ (i ≤ e) × (e ≤ length (now t)) × (base ≤ 64) × (k ≤ 8) × (256 ≤ length (now a)) ⌝ }
     ensures { λ r. ⌜ Taken (now (a .entry)) skip base (now (t .entry)) i e k (r .at) (r .count) (r .number) ⌝ }
@@ -140,7 +140,7 @@ fn some_digits(t: &[u8], i: usize, e: usize, a: &[u8], skip: usize, base: usize,
     }
 }
 
-// At most k digits.
+// The next digits, at most k; the quick way is tried first.
 fn take_digits(t: &[u8], i: usize, e: usize, a: &[u8], skip: usize, base: usize, k: usize) -> Digits
     requires { ⌜ (i ≤ e) × (e ≤ length (now t)) × (base ≤ 64) × (k ≤ 8) × (256 ≤ length (now a)) ⌝ }
     ensures { λ r. ⌜ Taken (now (a .entry)) skip base (now (t .entry)) i e k (r .at) (r .count) (r .number) ⌝ }
@@ -155,7 +155,7 @@ fn take_digits(t: &[u8], i: usize, e: usize, a: &[u8], skip: usize, base: usize,
     some_digits(t, i, e, a, skip, base, k)
 }
 
-// g octets of a number: with their count written out the loop is unrolled.
+// Writes a number in g octets: with a constant for g the loop is unrolled.
 fn put_group(out: &mut [u8], n: usize, g: usize, v: usize) -> usize
     requires { ⌜ (n < 2 ^ 32) × (g ≤ 8) ⌝ }
     ensures { λ r. ⌜ Wrote (now (out .entry)) (now (out .exit)) n r (digits 256 g v) ⌝ }
@@ -169,7 +169,7 @@ fn put_group(out: &mut [u8], n: usize, g: usize, v: usize) -> usize
     put_octets(out, n, g, v as u64)
 }
 
-// 2 ^ z
+// 2 to the power z.
 fn power(z: usize) -> usize
     requires { ⌜ z < 8 ⌝ }
     ensures { λ r. ⌜ r ≡ 2 ^ z ⌝ }
@@ -183,7 +183,7 @@ fn power(z: usize) -> usize
     p
 }
 
-// The octets of q digits whose number is v, which are all that are left.
+// Writes the octets of the last q digits, which make v. The left-over bits must be zero and fewer than w.
 pub fn finish(out: &mut [u8], n: usize, w: usize, q: usize, v: usize) -> Value
     requires { ⌜ (n < 2 ^ 32) × (0 < w) × (w ≤ 6) × (q ≤ 8) × (v < 2 ^ (w * q)) ⌝ }
     ensures { λ r. ⌜ Values (now (out .entry)) (now (out .exit)) n r (wholeOctets w 8 0 (digits 2 (w * q) v)) ⌝ }
@@ -199,7 +199,7 @@ pub fn finish(out: &mut [u8], n: usize, w: usize, q: usize, v: usize) -> Value
     Value::Upto(put_octets(out, n, w * q / 8, (v / p) as u64))
 }
 
-// The whole groups.
+// Reads all whole groups of digits from i on, and the digits after them.
 pub fn groups(
     out: &mut [u8],
     n: usize,
@@ -236,7 +236,7 @@ pub fn groups(
     }
 }
 
-// All of the digits from i to e, and nothing else.
+// Reads the digits from i to e; nothing else may stand there, but for what is left out.
 fn octets(
     out: &mut [u8],
     n: usize,
@@ -261,7 +261,7 @@ fn octets(
     finish(out, d.end, w, d.count, d.number)
 }
 
-// The same by the digits 0 to 9 and letters in either case. 64 stands for a blank and 99 for an octet that is no digit.
+// The same with the digits 0 to 9 and then letters, in either case. 64 stands for a blank, 99 for an octet that is no digit.
 pub fn lettered(
     out: &mut [u8],
     n: usize,
@@ -282,7 +282,7 @@ pub fn lettered(
     octets(out, n, t, i, e, a, skip, w, base, k, g)
 }
 
-// The octets after their count, which is stored last.
+// Reads digits, and stores the octets after their count, which is stored last.
 pub fn counted(
     out: &mut [u8],
     n: usize,

@@ -1,4 +1,4 @@
--- Laws of blocks: those of a part that is taken whole, and their types.
+-- Laws of blocks: of a part that is whole blocks, and of their types.
 use Prim.Native.Nat.{ℕ, zero, suc, _+_, _-_, _*_, _≤_, _<_}
 use mathlib.Core.Path.{_≡_, refl, sym, ap, subst, _∙_}
 use mathlib.Core.Bool.{Bool, true, false, not, cond}
@@ -75,7 +75,7 @@ octet-types p i e v h l = let q : e - i ≡ suc (e - (i + 1)) = omega arith in r
 pub no-octets : (p : List ℕ) (i e v : ℕ) → e ≤ i → typesFrom (atOctets v (e - i)) (slice i e p) ≡ []
 no-octets p i e v h = rw (none p i e h)
 
--- and then those of the blocks after it
+-- the types of a block, and then those of the blocks after it
 octets-then : (p : List ℕ) (c i e v : ℕ) → i + c ≤ e → e ≤ length p
     → typesFrom (atOctets v c) (slice i e p) ≡ typesFrom (atOctets v c) (slice i (i + c) p) ++ types (slice (i + c) e p)
 octets-then p zero i e v h l = let q : i + 0 ≡ i = omega arith in rw (q, none p i i (omega arith))
@@ -90,7 +90,7 @@ block-types p i e c a h l =
     let q : i + 2 + c - (i + 2) ≡ c = omega arith in
     rw (next-two p i e (omega arith) l, ← a, q) (octets-then p c (i + 2) e (getD p i 0 * 256) h l)
 
--- at most eight for each octet
+-- at most eight types for each octet
 types-short : (s : BlockPlace) (xs : List ℕ) → length (typesFrom s xs) ≤ 8 * length xs
 types-short s [] = omega arith
 types-short atWindow (w ∷ xs) = omega (arith, types-short (atCount w) xs)

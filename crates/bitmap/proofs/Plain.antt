@@ -1,4 +1,4 @@
--- Laws of types in a text: those that are plainly written, and those of the tokens that are left.
+-- Laws of types in a text: of a type that is written plainly, and of the tokens that are left.
 use Prim.Native.Nat.{ℕ, suc, _+_, _-_, _≤_, _<_}
 use mathlib.Core.Path.{_≡_, refl, sym, ap, _∙_}
 use mathlib.Core.Bool.{Bool, true, false, not, cond, _&&_, _||_}
@@ -42,7 +42,7 @@ module _ (f : ℕ → Bool) (c : ℕ) (t : allBelow (λ x. not (eqb (lowered x) 
       let l : x < suc c = omega (arith, raised x, eqb-true (lowered x) c e) in
       implied (eqb (lowered x) c) (f x) (at-each (λ x. not (eqb (lowered x) c) || f x) (suc c) t x l) e
 
--- and a decimal digit
+-- a decimal digit is plain
 not-digit : (x d : ℕ) → digit x ≡ false → digitValue 10 x ≡ some d → plainly x ≡ true
 not-digit x d h e = by (letter x) (rw h at e)
   where
@@ -74,7 +74,7 @@ decimal-plain xs v e = by (inRange 1 10 (length xs)) e
     by true k = let (ds, a, c) = bind-some (eachOf (digitValue 10) xs) (λ ds. some (number 10 ds)) v k in digits-plain xs ds a
     by false k = let z : _≡_ {A = ℕ} 0 1 = cc in absurd (omega arith)
 
--- So a type's octets are plain; the first is no quote, and the number is in range.
+-- So the octets of a type are plain, the first is no quote, and the number is in range.
 pub record Typed (xs : List ℕ) (v : ℕ) : Type 0 where
   pub plain : Plainly xs
   pub some-octet : 1 ≤ length xs
@@ -127,7 +127,7 @@ plain-then [] [] h e = refl
 plain-then [] (x ∷ r) h e = rw e
 plain-then (x ∷ s) r h e = rw (in-bare x (h .0), plain-then s r (h .1) e)
 
--- a type that stands so after blanks
+-- such a type after blanks
 module _ (t : List ℕ) (i a e v : ℕ) (h : i ≤ length t) (p : a ≡ i + length (span blank (slice i (length t) t) .front)) (q : typeNumber (slice a e t) ≡ some v)
     (l : a ≤ e) (m : e ≤ length t) (r : partedOff (drop e t) ≡ true) where
   y : Typed (slice a e t) v
@@ -170,7 +170,7 @@ pub found-plain : (t : List ℕ) (a e : ℕ) → a ≤ e → e ≤ length t → 
 found-plain t a e h l r none q = tt
 found-plain t a e h l r (some v) q = (q, h, l, r)
 
--- the types that are left, after some
+-- the types so far, then those that are left
 pub after-one : (ts : List ℕ) (v : ℕ) (o : Option (List ℕ)) → after ts (consBoth (some v) o) ≡ after (ts ++ v ∷ []) o
 after-one ts v none = refl
 after-one ts v (some l) = ap some (sym (append-assoc ts (v ∷ []) l))

@@ -1,4 +1,4 @@
--- Laws of the text of types that is written in pieces, and of the types of an octet's bits.
+-- Laws of a text of types that is written in pieces, and of the types of an octet's bits.
 use Prim.Native.Nat.{ℕ, zero, suc, _+_, _-_, _*_, _/_, _%_, _≤_, _<_}
 use mathlib.Core.Path.{_≡_, refl, sym, ap, subst, _∙_}
 use mathlib.Core.Bool.{Bool, true, false}
@@ -23,12 +23,12 @@ use Rattle.buffer.proofs.Laws.{Left, left-all, left-piece, left-none}
 use Rattle.buffer.proofs.Parted.{first-later}
 use Rattle.bitmap.specs.Types.{typesText}
 
--- no types have no text, and one has some
+-- no types have an empty text, and one type has a text
 pub no-types : (b : Bool) → typesText b [] ≡ []
 no-types true = refl
 no-types false = refl
 
--- so a loop that has no types left has written all of the text
+-- a loop that has no types left has written the whole text
 pub types-done : {o₀ text o ts : List ℕ} {start m : ℕ} (b : Bool) → Left o₀ start text o m (typesText b ts) → ts ≡ [] → Wrote o₀ o start m text
 types-done b l e = left-none l (ap (typesText b) e ∙ no-types b)
 
@@ -53,14 +53,14 @@ types-more false t ts us =
     first-text t (ts ++ us) ∙ ap (λ (l : List ℕ). typeText t ++ l) (later-more ts us) ∙ sym (append-assoc (typeText t) (typesText true ts) (typesText true us))
     ∙ ap (λ (l : List ℕ). l ++ typesText true us) (sym (first-text t ts))
 
--- from m on, where the text begins at n
+-- the same from m on, in a text that begins at n
 text-on : (n m r : ℕ) (ts us : List ℕ) → n ≤ m → r ≡ m + length (typesText (ltb n m) ts) → typesText (ltb n m) (ts ++ us) ≡ typesText (ltb n m) ts ++ typesText (ltb n r) us
 text-on n m r [] us h q =
     let e : r ≡ m = omega (arith, ap length (no-types (ltb n m))) in
     rw (no-types (ltb n m), e)
 text-on n m r (t ∷ ts) us h q = rw (lt-ltb n r (omega (arith, some-types (ltb n m) t ts))) (types-more (ltb n m) t ts us)
 
--- some of the types left are written
+-- some of the types that are left are written
 pub types-left : {o₀ text o ys : List ℕ} {start m : ℕ} (n : ℕ) (o′ : List ℕ) (r : ℕ) (ts us : List ℕ) → Left o₀ start text o m (typesText (ltb n m) ys) → ys ≡ ts ++ us → n ≤ m
     → Wrote o o′ m r (typesText (ltb n m) ts) → Left o₀ start text o′ r (typesText (ltb n r) us)
 types-left {m = m} n o′ r ts us l e h w =
@@ -76,7 +76,7 @@ types-length true ts = later-length ts
 types-length false [] = omega arith
 types-length false (t ∷ ts) = rw (first-text t ts) (omega (arith, later-length ts, decimal-10 t, length-append (decimal t) (typesText true ts)))
 
--- a bit and those after it
+-- one bit, and those after it
 pub bit-set : (v b : ℕ) → (b ≡ 0 → ⊥) → setBits v (b ∷ []) ≡ v ∷ []
 bit-set v zero h = absurd (h refl)
 bit-set v (suc b) h = refl
@@ -88,12 +88,12 @@ bit-first v (suc b) bs = rw (add-one v)
 pub octet-length : (b : Bool) (v x : ℕ) → length (typesText b (setBits v (digits 2 8 x))) ≤ 120
 octet-length b v x = omega (arith, types-length b (setBits v (digits 2 8 x)), set-short v (digits 2 8 x), digits-length 2 8 x)
 
--- w bits from the highest of an octet on
+-- the w highest bits of an octet
 abbrev pub highBits : ℕ → ℕ → List ℕ
 highBits zero y = []
 highBits (suc w) y = y / 128 ∷ highBits w (y % 128 * 2)
 
--- no bit is set after w of them
+-- no bit is set after the w highest
 abbrev pub Within : ℕ → ℕ → Type 0
 Within zero y = y ≡ 0
 Within (suc w) y = Within w (y % 128 * 2)
@@ -101,7 +101,7 @@ Within (suc w) y = Within w (y % 128 * 2)
 octet-bits : (x : ℕ) → x < 256 → digits 2 8 x ≡ highBits 8 x
 octet-bits x h = octets-same (digits 2 8 x) (highBits 8 x) (at-each (λ x. sameOctets (digits 2 8 x) (highBits 8 x)) 256 refl x h)
 
--- Before type t of an octet whose first is type v, y is what is left of the octet.
+-- The types left from t on in an octet whose first type is v; y is what is left of the octet, shifted to its highest bits.
 abbrev pub typesLeft : ℕ → ℕ → ℕ → List ℕ
 typesLeft v t y = setBits t (highBits (v + 8 - t) y)
 

@@ -1,4 +1,4 @@
--- Types read from text, one after another.
+-- Types that are read from text, one after another.
 use Prim.Native.Nat.{ℕ, _≤_, _<_}
 use mathlib.Core.Path.{_≡_}
 use mathlib.Core.Bool.{true}
@@ -18,15 +18,15 @@ use Rattle.bitmap.specs.declared.read.NextType.the-variants.{End, Found,
 use Rattle.bitmap.specs.declared.read.Filled.{Filled}
 use Rattle.bitmap.specs.declared.read.Filled.the-variants.{Fault as NotFilled, Top}
 
--- a bare token's type
+-- the type of a bare token
 abbrev pub typeOf : Token → Option ℕ
 typeOf k = bareOf k >>= typeNumber
 
--- the types of a text
+-- the types that a text lists
 abbrev pub typesRead : List ℕ → Option (List ℕ)
 typesRead t = eachOf typeOf (tokens t)
 
--- and their blocks
+-- the blocks of these types
 abbrev pub bitmapRead : List ℕ → Option (List ℕ)
 bitmapRead t = readBitmap typeOf (tokens t)
 
@@ -35,25 +35,25 @@ abbrev pub foundAt : ℕ → Option ℕ → NextType
 foundAt e none = Fault
 foundAt e (some v) = Found v e
 
--- the types that are left, by the next one
+-- the types that are left, given the next one
 abbrev pub typesBy : List ℕ → NextType → Option (List ℕ)
 typesBy t End = some []
 typesBy t (Found v e) = consBoth (some v) (typesRead (drop e t))
 typesBy t Fault = none
 
--- where its token ends, from i on
+-- its number is a type's, and its token ends after i
 abbrev pub TypeWithin : List ℕ → ℕ → NextType → Type 0
 TypeWithin t i End = Unit {0}
 TypeWithin t i (Found v e) = (v < 65536) × (i < e) × (e ≤ length t)
 TypeWithin t i Fault = Unit {0}
 
--- a type whose token stands from a to a blank or the end
+-- a type that stands at a, up to a blank or the end
 abbrev pub PlainAt : List ℕ → ℕ → NextType → Type 0
 PlainAt t a End = Unit {0}
 PlainAt t a (Found v e) = (typeNumber (slice a e t) ≡ some v) × (a ≤ e) × (e ≤ length t) × (partedOff (drop e t) ≡ true)
 PlainAt t a Fault = Unit {0}
 
--- a picture that was filled holds the types
+-- a picture that was filled holds the types; or there was a token that is no type
 abbrev pub Marks : List (List ℕ) → Filled → Option (List ℕ) → Type 0
 Marks m NotFilled o = o ≡ none
 Marks m (Top top) o = (top ≤ 256) × ((ts : List ℕ) × (o ≡ some ts) × Holds m top ts)

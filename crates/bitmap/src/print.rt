@@ -1,4 +1,4 @@
-// Bitmaps of RR types: blocks of a window, a count and octets.
+// Prints bitmaps of RR types: blocks, each of a window, a count and octets.
 ghost use Prim.Native.Nat.{_+_, _-_, _*_, _^_, _<_, _≤_};
 ghost use mathlib.Core.Path.{_≡_};
 ghost use mathlib.Core.List.{[], _∷_};
@@ -13,7 +13,7 @@ ghost use Rattle.buffer.specs.Writing.{Wrote};
 ghost use Rattle.bitmap.specs.Types.{typesText};
 use buffer::put_octet;
 
-// A type, with a space before it where types were written from start on.
+// Writes a type, with a space before it if types were written between start and n.
 fn put_type(out: &mut [u8], n: usize, start: usize, v: u64) -> usize
     requires { ⌜ (start ≤ n) × (n < 2 ^ 31) × (v < 65536) ⌝ }
     ensures { λ r. ⌜ Wrote (now (out .entry)) (now (out .exit)) n r (typesText (ltb start n) (v ∷ [])) ⌝ }
@@ -25,7 +25,7 @@ fn put_type(out: &mut [u8], n: usize, start: usize, v: u64) -> usize
     rrtype::print::number(out, n, v)
 }
 
-// A type, where its bit is set.
+// Writes a type if its bit is set.
 fn put_if(out: &mut [u8], n: usize, start: usize, v: u64, bit: u8) -> usize
     requires { ⌜ (start ≤ n) × (n < 2 ^ 31) × (v < 65536) ⌝ }
     ensures { λ r. ⌜ Wrote (now (out .entry)) (now (out .exit)) n r (typesText (ltb start n) (setBits v (bit ∷ []))) ⌝ }
@@ -36,7 +36,7 @@ fn put_if(out: &mut [u8], n: usize, start: usize, v: u64, bit: u8) -> usize
     put_type(out, n, start, v)
 }
 
-// The types of an octet's set bits, of which the highest is type v.
+// Writes the types of the set bits of an octet, whose highest bit is type v.
 fn octet(out: &mut [u8], n: usize, start: usize, v: u64, x: u8) -> usize
     requires { ⌜ (start ≤ n) × (n + 120 < 2 ^ 31) × (v + 8 ≤ 65536) ⌝ }
     ensures { λ r. ⌜ Wrote (now (out .entry)) (now (out .exit)) n r (typesText (ltb start n) (setBits v (digits 2 8 x))) ⌝ }
@@ -52,7 +52,7 @@ fn octet(out: &mut [u8], n: usize, start: usize, v: u64, x: u8) -> usize
     m
 }
 
-// The types of a block's octets, from i to e, of which the first is type v.
+// Writes the types of a block's octets, from i to e; the first bit of the first octet is type v.
 fn block(out: &mut [u8], n: usize, start: usize, p: &[u8], i: usize, e: usize, v: u64) -> usize
     requires { ⌜ (start ≤ n) × (i ≤ e) × (e ≤ length (now p)) × (n + 2 ^ 20 < 2 ^ 31) × (v + 8 * (e - i) ≤ 65536) ⌝ }
     ensures { λ r. ⌜ Wrote (now (out .entry)) (now (out .exit)) n r (typesText (ltb start n) (typesFrom (atOctets v (e - i)) (slice i e (now (p .entry))))) ⌝ }
@@ -68,7 +68,7 @@ fn block(out: &mut [u8], n: usize, start: usize, p: &[u8], i: usize, e: usize, v
     m
 }
 
-// The types of the blocks of p from i to e, rising, with spaces between.
+// Writes the types of the blocks of p from i to e, in rising order, with spaces between them.
 pub fn field(out: &mut [u8], n: usize, p: &[u8], i: usize, e: usize) -> usize
     requires { ⌜ (n < 2 ^ 30) × (i ≤ e) × (e ≤ length (now p)) × (length (now p) ≤ 65535) × (taken (window 0) (slice i e (now p)) ≡ took (e - i)) ⌝ }
     ensures { λ r. ⌜ Wrote (now (out .entry)) (now (out .exit)) n r (bitmapText typeText (slice i e (now (p .entry)))) ⌝ }

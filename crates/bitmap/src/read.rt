@@ -1,4 +1,4 @@
-// Bitmaps read from text: the types of all tokens that are left, in any order, into a picture, and from there into blocks.
+// Reads bitmaps: the types in all tokens that are left, in any order, go into a picture, and from there into blocks.
 ghost use Prim.Native.Nat.{_^_, _<_, _≤_};
 ghost use mathlib.Core.Path.{_≡_};
 ghost use mathlib.Core.List.{[]};
@@ -16,14 +16,14 @@ use octets::Number;
 use rrtype::read::Front;
 use tokens::Next;
 
-// The next type: none is left; its number, and where its token ends; or a token that is no type.
+// The next type: none is left; its number and where its token ends; or a fault, a token that is no type.
 enum NextType {
     End,
     Found(u64, usize),
     Fault,
 }
 
-// The type of a bare token from a to e.
+// The type of the bare token from a to e.
 fn type_of(t: &[u8], a: usize, e: usize) -> NextType
     requires { ⌜ (a ≤ e) × (e ≤ length (now t)) ⌝ }
     ensures { λ r. ⌜ r ≡ foundAt e (typeNumber (slice a e (now (t .entry)))) ⌝ }
@@ -35,7 +35,7 @@ fn type_of(t: &[u8], a: usize, e: usize) -> NextType
     }
 }
 
-// The next token's type.
+// The type of the next token from i on.
 fn token_type(t: &[u8], i: usize) -> NextType
     requires { ⌜ (i ≤ length (now t)) × (length (now t) ≤ 1048576) ⌝ }
     ensures { λ r. ⌜ (typesBy (now (t .entry)) r ≡ typesRead (drop i (now (t .entry)))) × TypeWithin (now (t .entry)) i r ⌝ }
@@ -49,7 +49,8 @@ fn token_type(t: &[u8], i: usize) -> NextType
     }
 }
 
-// The type at a, where it is four octets and digits, parted off: its token need not be scanned for other octets.
+// The type at a, if four octets and digits stand there before a blank or the end: then no token need be scanned. It may deny
+// a type that is there.
 fn last_type(t: &[u8], a: usize) -> NextType
     requires { ⌜ a ≤ length (now t) ⌝ }
     ensures { λ r. ⌜ PlainAt (now (t .entry)) a r ⌝ }
@@ -64,7 +65,7 @@ fn last_type(t: &[u8], a: usize) -> NextType
     NextType::Fault
 }
 
-// The same. What has nine octets is read in one walk.
+// The same. If nine octets are left, the type is read in one pass.
 fn plain_type(t: &[u8], a: usize) -> NextType
     requires { ⌜ a ≤ length (now t) ⌝ }
     ensures { λ r. ⌜ PlainAt (now (t .entry)) a r ⌝ }
@@ -84,7 +85,7 @@ fn plain_type(t: &[u8], a: usize) -> NextType
     }
 }
 
-// The next type.
+// The next type from i on; the quick way is tried first.
 fn next_type(t: &[u8], i: usize) -> NextType
     requires { ⌜ (i ≤ length (now t)) × (length (now t) ≤ 1048576) ⌝ }
     ensures { λ r. ⌜ (typesBy (now (t .entry)) r ≡ typesRead (drop i (now (t .entry)))) × TypeWithin (now (t .entry)) i r ⌝ }
@@ -98,13 +99,13 @@ fn next_type(t: &[u8], i: usize) -> NextType
     }
 }
 
-// What a picture was filled with: the types up to a top; or a token was no type.
+// How filling a picture ended: with a fault, a token that was no type; or with all types, and the picture's top.
 enum Filled {
     Fault,
     Top(usize),
 }
 
-// The types of all tokens from i on, into a picture of none.
+// Fills an empty picture with the types of all tokens from i on.
 fn fill(m: &mut [[u8; 32]; 256], t: &[u8], i: usize) -> Filled
     requires { ⌜ (i ≤ length (now t)) × (length (now t) ≤ 1048576) × Holds (now m) 0 [] ⌝ }
     ensures { λ r. ⌜ Marks (now (m .exit)) r (typesRead (drop i (now (t .entry)))) ⌝ }
@@ -128,7 +129,7 @@ fn fill(m: &mut [[u8; 32]; 256], t: &[u8], i: usize) -> Filled
     }
 }
 
-// The blocks of the types of all tokens from i on.
+// Reads the types of all tokens from i on into blocks.
 pub fn read(out: &mut [u8], n: usize, t: &[u8], i: usize) -> Value
     requires { ⌜ (n < 2 ^ 30) × (i ≤ length (now t)) × (length (now t) ≤ 1048576) ⌝ }
     ensures { λ r. ⌜ Values (now (out .entry)) (now (out .exit)) n r (bitmapRead (drop i (now (t .entry)))) ⌝ }

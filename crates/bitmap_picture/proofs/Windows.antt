@@ -1,4 +1,4 @@
--- Laws of a picture: the bit of one more type, and its blocks.
+-- Laws of a picture: one more type and its bit, and the blocks.
 use Prim.Native.Nat.{ℕ, zero, suc, _+_, _-_, _*_, _/_, _%_, _^_, _≤_, _<_}
 use mathlib.Core.Path.{_≡_, refl, sym, ap, _∙_}
 use mathlib.Core.Bool.{Bool, true, false, cond, _||_}
@@ -20,7 +20,7 @@ use Rattle.format.proofs.Digits.{digits-number, number-bound}
 use Rattle.format.proofs.Bitmap.{window-length}
 use Rattle.bitmap_picture.specs.Windows.{zeroOctet, Holds}
 
--- an octet with one bit more
+-- an octet with one more bit
 with-bit : (x k : ℕ) → x < 256 → k < 8 → bitOr x (128 / 2 ^ k) ≡ number 2 (set (digits 2 8 x) k 1)
 with-bit x k h l = eqb-true _ _ (at-each (λ k. same x k) 8 (at-each (λ x. allBelow (λ k. same x k) 8) 256 refl x h) k l)
   where
@@ -46,7 +46,7 @@ bits-length : (ts : List ℕ) (n c : ℕ) → length (bitsOf ts n c) ≡ c
 bits-length ts n zero = refl
 bits-length ts n (suc c) = ap suc (bits-length ts (suc n) c)
 
--- types that are the same from n to below n + c
+-- two lists hold the same types from n to below n + c
 abbrev Same : List ℕ → List ℕ → ℕ → ℕ → Type 0
 Same ts us n c = (i : ℕ) → n ≤ i → i < n + c → among i us ≡ among i ts
 
@@ -63,7 +63,7 @@ octets-same ts us n zero h = refl
 octets-same ts us n (suc c) h =
     octets-both (bits-same ts us n 8 (λ i l m. h i l (omega arith))) (octets-same ts us (n + 8) c (λ i l m. h i (omega arith) (omega arith)))
 
--- one type more
+-- one more type
 among-more : (ts : List ℕ) (v i : ℕ) → among i (ts ++ v ∷ []) ≡ eqb i v || among i ts
 among-more [] v i = refl
 among-more (t ∷ ts) v i = rw (among-more ts v i) (by (eqb i t) (eqb i v))
@@ -96,7 +96,7 @@ module _ (ts : List ℕ) (v : ℕ) where
   octets-more n (suc b) k (suc c) e h l =
       octets-both (sym (bits-same ts more n 8 (λ i m o. others i (λ r. omega arith)))) (octets-more (n + 8) b k c (omega arith) h (omega arith))
 
--- a window that has octets is there
+-- a window that has octets lies in the picture
 row-there : (m : List (List ℕ)) (w : ℕ) → 0 < length (getD m w []) → w < length m
 row-there [] w h = absurd (omega arith)
 row-there (r ∷ m) zero h = omega arith
@@ -157,7 +157,7 @@ module _ (r : List ℕ) where
       let t : take (suc n) r ≡ take n r ++ getD r n 0 ∷ [] = take-suc r n 0 (omega arith) in
       sym (ap length (ap withoutLastZeros t ∙ last-some (take n r) (getD r n 0) z ∙ sym t) ∙ length-take-le (suc n) r l)
 
--- a window of zeros has no octet before them
+-- a window of zeros has no octets without its last zeros
 all-zeros : (r : List ℕ) → allOf zeroOctet r ≡ true → withoutLastZeros r ≡ []
 all-zeros [] h = refl
 all-zeros (x ∷ xs) h =
@@ -167,7 +167,7 @@ all-zeros (x ∷ xs) h =
 pub empty-block : (w : ℕ) (r : List ℕ) → allOf zeroOctet r ≡ true → [] ≡ blockOf w (withoutLastZeros r)
 empty-block w r h = rw (all-zeros r h)
 
--- a window without its last zeros is the front of it
+-- a window without its last zeros is a front of it
 front : (xs : List ℕ) → take (length (withoutLastZeros xs)) xs ≡ withoutLastZeros xs
 front [] = refl
 front (x ∷ xs) = by x (withoutLastZeros xs) (front xs)
@@ -180,7 +180,7 @@ front (x ∷ xs) = by x (withoutLastZeros xs) (front xs)
 pub front-length : (xs : List ℕ) → length (withoutLastZeros xs) ≤ length xs
 front-length xs = omega (arith, length-take (length (withoutLastZeros xs)) xs, ap length (front xs))
 
--- and so is a block
+-- the block of a window, or none
 module _ (w c : ℕ) (r : List ℕ) (e : c ≡ length (withoutLastZeros r)) where
   pub no-block : c ≡ 0 → [] ≡ blockOf w (withoutLastZeros r)
   no-block z = by (withoutLastZeros r) (sym e ∙ z)

@@ -1,4 +1,5 @@
-// A picture of 256 windows of 32 octets: a bit for each type, set where the type is held. No type is held from the window `top` on.
+// A picture of 256 windows of 32 octets: one bit for each type, set if the picture holds the type. No window from `top` on
+// holds any.
 ghost use Prim.Native.Nat.{ℕ, _^_, _<_, _≤_};
 ghost use mathlib.Core.Path.{_≡_};
 ghost use mathlib.Core.List.{List, [], _∷_, _++_};
@@ -10,7 +11,7 @@ ghost use Rattle.bitmap_picture.specs.Windows.{zeroOctet, Holds};
 use buffer::put_all;
 use buffer::put_octet;
 
-// The top, where window w is in use too.
+// The top of the picture once window w is in use too.
 fn above(top: usize, w: usize) -> usize
     requires { ⌜ (top ≤ 256) × (w < 256) ⌝ }
     ensures { λ r. ⌜ (top ≤ r) × (w < r) × (r ≤ 256) ⌝ }
@@ -21,7 +22,7 @@ fn above(top: usize, w: usize) -> usize
     top
 }
 
-// The picture with type v, and its top.
+// Adds the type v to the picture, and returns the new top.
 pub fn mark(m: &mut [[u8; 32]; 256], top: usize, v: u64) -> usize
     requires { ⌜ (top ≤ 256) × (v < 65536) ⌝ }
     ensures { λ r. ⌜ (r ≤ 256) × ((ts : List ℕ) → Holds (now (m .entry)) top ts → Holds (now (m .exit)) r (ts ++ v ∷ [])) ⌝ }
@@ -33,7 +34,7 @@ pub fn mark(m: &mut [[u8; 32]; 256], top: usize, v: u64) -> usize
     above(top, w)
 }
 
-// How many octets of a window are left without the last zeros.
+// How many octets a window has without its last zeros.
 fn count(r: &[u8]) -> usize
     ensures { λ n. ⌜ n ≡ length (withoutLastZeros (now (r .entry))) ⌝ }
 {
@@ -47,7 +48,7 @@ fn count(r: &[u8]) -> usize
     n
 }
 
-// Whether a window holds no type: no way out of the loop, so that many octets are tested at once.
+// Whether a window holds no type. The loop has no early exit, so that many octets are tested at once.
 fn is_empty(r: &[u8]) -> bool
     ensures { λ q. ⌜ q ≡ allOf zeroOctet (now (r .entry)) ⌝ }
 {
@@ -60,7 +61,7 @@ fn is_empty(r: &[u8]) -> bool
     all
 }
 
-// The block of window w, if it has one.
+// Writes the block of window w, if it holds any type.
 fn put_block(out: &mut [u8], n: usize, w: u8, r: &[u8]) -> usize
     requires { ⌜ (n < 2 ^ 31) × (length (now r) ≤ 32) ⌝ }
     ensures { λ k. ⌜ Wrote (now (out .entry)) (now (out .exit)) n k (blockOf w (withoutLastZeros (now (r .entry)))) ⌝ }
@@ -77,7 +78,7 @@ fn put_block(out: &mut [u8], n: usize, w: u8, r: &[u8]) -> usize
     put_all(out, b, &r[0..c])
 }
 
-// The blocks of a picture.
+// Writes the blocks of a picture.
 pub fn put_blocks(out: &mut [u8], n: usize, m: &[[u8; 32]; 256], top: usize) -> usize
     requires { ⌜ (n < 2 ^ 30) × (top ≤ 256) ⌝ }
     ensures { λ r. ⌜ ((ts : List ℕ) → Holds (now (m .entry)) top ts → Wrote (now (out .entry)) (now (out .exit)) n r (blocks ts)) ⌝ }

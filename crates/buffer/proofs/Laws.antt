@@ -11,7 +11,7 @@ use lib.Seq.{sets, set-out, set-comm, take-all, length-sets}
 use Rattle.buffer.specs.Writing.{Wrote}
 pub use Rattle.format.proofs.Lists.{drop-next as next, drop-none as none}
 
--- stores: one text after another, past the end, into the rest, and one octet before a text
+-- storing one text after another; past the end; into the rest; an octet before a text
 sets-append : (o : List ℕ) (n : ℕ) (s t : List ℕ) → sets o n (s ++ t) ≡ sets (sets o n s) (n + length s) t
 sets-append o n [] t = rw add-zero
 sets-append o n (b ∷ s) t = sets-append (set o n b) (suc n) s t ∙ ap (λ (k : ℕ). sets (sets (set o n b) (suc n) s) k t) (omega arith)
@@ -44,7 +44,7 @@ set-after o i n b (x ∷ t) h =
 pub sets-last : (o : List ℕ) (n : ℕ) (t : List ℕ) (b : ℕ) → sets o n (t ++ b ∷ []) ≡ sets (set o (n + length t) b) n t
 sets-last o n t b = sets-append o n t (b ∷ []) ∙ set-after o (n + length t) n b t (omega arith)
 
--- straight-line writers
+-- writers that store nothing, one octet, two, or one text after another
 pub wrote-none : (o : List ℕ) (n : ℕ) → Wrote o o n n []
 wrote-none o n = record { octets = refl; count = omega arith }
 
@@ -66,7 +66,7 @@ wrote-length {o} {o′} {n} {r} {t} w = ap length (w .octets) ∙ length-sets o 
 pub wrote-text : {o o′ : List ℕ} {n r : ℕ} (s t : List ℕ) → s ≡ t → Wrote o o′ n r s → Wrote o o′ n r t
 wrote-text {o} {o′} {n} {r} s t e w = subst (λ (x : List ℕ). Wrote o o′ n r x) e w
 
--- what follows a text has no room
+-- for what follows a text there is no room
 pub wrote-out : {o o′ : List ℕ} {n m : ℕ} {s : List ℕ} (r : ℕ) (t : List ℕ) → Wrote o o′ n m s → length o ≤ m → r ≡ m + length t → Wrote o o′ n r (s ++ t)
 wrote-out {o} {o′} {n} {m} {s} r t w h e = record {
   octets = w .octets ∙ sym (sets-append o n s t ∙ sets-out (sets o n s) (n + length s) t (omega (arith, length-sets o n s, w .count)));
@@ -80,7 +80,7 @@ wrote-before {o} {o₁} {n} {r} {t} o₂ b w p = record {
   count = omega (arith, w .count);
 }
 
--- A loop that writes a text from the place `start` on: `rest` is still to be written at n, and then all of the text is.
+-- In a loop that writes a text at `start`: if `rest` is now written at n, then the whole text is.
 pub record Left (o₀ : List ℕ) (start : ℕ) (text o : List ℕ) (n : ℕ) (rest : List ℕ) : Type 0 where
   pub octets : sets o n rest ≡ sets o₀ start text
   pub count : n + length rest ≡ start + length text
@@ -121,7 +121,7 @@ home xs ys a =
     ap (λ (l : List ℕ). take a xs ++ (ys ++ l)) (drop-of-length-le (drop a xs) (subst (λ (k : ℕ). k ≤ length xs - a) (sym (length-drop a xs)) (le-refl _)))
     ∙ ap (λ (l : List ℕ). take a xs ++ l) (append-nil ys)
 
--- a writer that is lent the part from min at (length xs) on writes its text at `at` of the whole
+-- a writer that is lent the part from min at (length xs) on writes its text at the place `at` of the whole
 pub part-wrote : (xs ys : List ℕ) (at a w : ℕ) (t : List ℕ) → a ≡ min at (length xs) → Wrote (take (length xs - a) (drop a xs)) ys 0 w t
     → Wrote xs (take a xs ++ (ys ++ drop (length xs - a) (drop a xs))) at (at + w) t
 part-wrote xs ys at a w t e v = record {

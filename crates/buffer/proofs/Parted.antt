@@ -1,5 +1,4 @@
--- Texts with a separator between them, as a loop writes them: the first text, and then each later one with the separator
--- before it.
+-- Texts with a separator between them, as a loop writes them: the first text, then each later one after a separator.
 use Prim.Native.Nat.{ℕ}
 use mathlib.Core.Path.{_≡_, sym, ap, _∙_}
 use mathlib.Core.List.{List, [], _∷_, _++_, map, append-nil, append-assoc}
@@ -7,7 +6,7 @@ use Rattle.format.specs.Lists.{flatMap, parted}
 use Rattle.buffer.specs.Writing.{Wrote}
 use Rattle.buffer.proofs.Laws.{Left, left-piece, wrote-append, wrote-text}
 
--- each text with the separator before it
+-- each text after a separator
 abbrev pub later : {A : Type 0} → List ℕ → (A → List ℕ) → List A → List ℕ
 later s f xs = flatMap (λ x. s ++ f x) xs
 

@@ -1,4 +1,4 @@
--- A value that is read piece by piece, or after its count.
+-- A value that is read piece by piece, or stored after its count.
 use Prim.Native.Nat.{ℕ, _+_, _-_, _≤_, _<_}
 use mathlib.Core.Path.{_≡_, refl, sym, ap, _∙_}
 use mathlib.Core.List.{List, [], _∷_, _++_, append-assoc, append-nil}
@@ -22,7 +22,7 @@ pub after-after : (xs ys : List ℕ) (o : Option (List ℕ)) → after xs (after
 after-after xs ys none = refl
 after-after xs ys (some zs) = ap some (sym (append-assoc xs ys zs))
 
--- A reader that has stored the first octets of a value, up to m: what is left to be read is `rest`.
+-- A reader has stored the first octets of the value `all`, up to m, and `rest` is left to be read: all is those octets and the rest.
 pub record Begun (o₀ o : List ℕ) (n m : ℕ) (all rest : Option (List ℕ)) : Type 0 where
   pub octets : List ℕ
   pub wrote : Wrote o₀ o n m octets
@@ -39,7 +39,7 @@ begun-piece piece w b p e = record {
   same = b .same ∙ ap (after (b .octets)) e ∙ after-after (b .octets) piece w;
 }
 
--- no value is left, or all of it is read, or the rest is read by a callee
+-- the rest has no value, or is empty, or is read by a callee
 pub begun-fault : {o₀ o : List ℕ} {n m : ℕ} {all v : Option (List ℕ)} → Begun o₀ o n m all v → v ≡ none → all ≡ none
 begun-fault b e = b .same ∙ ap (after (b .octets)) e
 
@@ -50,7 +50,7 @@ pub begun-rest : {o₀ o : List ℕ} {n m : ℕ} {all v : Option (List ℕ)} (o�
 begun-rest o′ Fault b h = begun-fault b h
 begun-rest o′ (Upto r) b (xs, e, w) = (b .octets ++ xs, b .same ∙ ap (after (b .octets)) e, wrote-append (b .wrote) w)
 
--- a value with its count before it, of lo to 255
+-- a value after its count, which must be lo to 255
 module _ (lo : ℕ) (o o₁ : List ℕ) (n m : ℕ) (v : Option (List ℕ)) (h : Values o o₁ (n + 1) (Upto m) v) where
   pub count-is : m ≡ n + 1 + length (h .0)
   count-is = h .2 .count

@@ -1,18 +1,18 @@
-// Writers of text. Each stores its text from a place of the buffer on, drops what has no room, and returns the place after
-// the whole text: on an empty buffer it measures.
+// Writers of text. Each stores its text at a place in the buffer, drops what does not fit, and returns the place after the
+// whole text: on an empty buffer it measures.
 ghost use mathlib.Core.Path.{_≡_};
 ghost use mathlib.Core.List.{[], _∷_};
 ghost use Prim.Native.Nat.{_+_, _-_, _/_, _^_, _<_, _≤_, min};
 ghost use lib.ListN.{length, set};
 ghost use Rattle.buffer.specs.Writing.{Wrote};
 
-// What a reader makes of a token: no value; or the value's octets, stored up to a place.
+// What a reader makes of a token: a fault if it has no value; or the place after the value's octets, which are stored.
 pub enum Value {
     Fault,
     Upto(usize),
 }
 
-// One octet at a place; nothing where the place is past the end.
+// Stores one octet at a place, or nothing if the place is past the end.
 pub fn put(out: &mut [u8], i: usize, b: u8)
     ensures { λ _. ⌜ now (out .exit) ≡ set (now (out .entry)) i b ⌝ }
 {
@@ -28,7 +28,7 @@ pub fn least(a: usize, b: usize) -> usize
     if a < b { a } else { b }
 }
 
-// How many of `count` pieces of w octets each have room from n on, in a buffer of `len`.
+// How many of `count` pieces of w octets each have room from n on in a buffer of `len` octets.
 pub fn fitting(len: usize, n: usize, w: usize, count: usize) -> usize
     requires { ⌜ 0 < w ⌝ }
     ensures { λ r. ⌜ r ≡ min count ((len - n) / w) ⌝ }
@@ -39,7 +39,7 @@ pub fn fitting(len: usize, n: usize, w: usize, count: usize) -> usize
     least(count, (len - n) / w)
 }
 
-// One octet.
+// Writes one octet.
 pub fn put_octet(out: &mut [u8], n: usize, b: u8) -> usize
     requires { ⌜ n < 2 ^ 32 ⌝ }
     ensures { λ r. ⌜ Wrote (now (out .entry)) (now (out .exit)) n r (b ∷ []) ⌝ }
@@ -48,7 +48,7 @@ pub fn put_octet(out: &mut [u8], n: usize, b: u8) -> usize
     n + 1
 }
 
-// A whole list of octets, where there is room for all of them: without a test at each, many are stored at once.
+// Writes a whole list of octets for which there is room: without a test at each octet, many are stored at once.
 fn store_all(out: &mut [u8], n: usize, s: &[u8]) -> usize
     requires { ⌜ n + length (now s) ≤ length (now out) ⌝ }
     ensures { λ r. ⌜ Wrote (now (out .entry)) (now (out .exit)) n r (now (s .entry)) ⌝ }
@@ -61,7 +61,7 @@ fn store_all(out: &mut [u8], n: usize, s: &[u8]) -> usize
     n + i
 }
 
-// A whole list of octets.
+// Writes a whole list of octets.
 pub fn put_all(out: &mut [u8], n: usize, s: &[u8]) -> usize
     requires { ⌜ (n < 2 ^ 32) × (length (now s) < 2 ^ 32) ⌝ }
     ensures { λ r. ⌜ Wrote (now (out .entry)) (now (out .exit)) n r (now (s .entry)) ⌝ }
@@ -72,7 +72,7 @@ pub fn put_all(out: &mut [u8], n: usize, s: &[u8]) -> usize
     put_each(out, n, s)
 }
 
-// The same where there may not be room for all.
+// The same if there may not be room for all.
 fn put_each(out: &mut [u8], n: usize, s: &[u8]) -> usize
     requires { ⌜ (n < 2 ^ 32) × (length (now s) < 2 ^ 32) ⌝ }
     ensures { λ r. ⌜ Wrote (now (out .entry)) (now (out .exit)) n r (now (s .entry)) ⌝ }

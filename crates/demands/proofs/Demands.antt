@@ -21,7 +21,7 @@ use Rattle.format.proofs.Demands.{demand-2, demand-3, prints, read-accepted, ki
 use Rattle.demands.specs.Demands.{Call, accepted, written, Answers, CutCalls, EmptyCall, Demand3, ReadCall, rdataOf, Demand2, OneText, ReadAccepted}
 use Rattle.entry.proofs.Numbers.{print-told, read-told, zero-done, HasRun, print-run, read-run}
 
--- the octets of a text that is stored
+-- the octets of a stored text
 stored-text : (out : List ℕ) (at : ℕ) (t : List ℕ) → length t ≤ room out at → take (length t) (drop at (stored out at t)) ≡ t
 stored-text out at [] h = refl
 stored-text out at (x ∷ t) h =
@@ -32,7 +32,7 @@ stored-text out at (x ∷ t) h =
 nothing-stored : (out : List ℕ) (at : ℕ) → stored out at [] ≡ out
 nothing-stored out at = ap (λ i. take at out ++ [] ++ drop i out) (add-zero at) ∙ ap (λ r. r ++ drop at out) (append-nil (take at out)) ∙ take-append-drop at out
 
--- 1, 8, 9 and 10 are not 0 nor 12
+-- 1, 8, 9 and 10 are neither 0 nor 12
 no-answer : (n : ℕ) → among n (1 ∷ 8 ∷ 9 ∷ 10 ∷ []) ≡ true → among n (0 ∷ 12 ∷ []) ≡ false
 no-answer n h = by (eqb n 1) (eqb n 8) (eqb n 9) (eqb n 10) refl refl refl refl h
   where
@@ -44,7 +44,7 @@ no-answer n h = by (eqb n 1) (eqb n 8) (eqb n 9) (eqb n 10) refl refl refl refl 
     by false false false false p q r s e = absurd (true≢false (sym e))
 
 module _ (ks : List Kind) (stanza : List ℕ) (first many : ℕ) (xs : List ℕ) (p : Prints stanza first many ks xs) (c : Call stanza first many xs) where
-  -- one of three ways to answer
+  -- the three ways to answer
   data Way : Type 0 where
     written-text : accepts ks xs ≡ true → length (textOf ks xs) ≤ room (c .out) (c .at) → c .reply .number ≡ 0 → c .reply .place ≡ length (textOf ks xs)
         → c .after ≡ stored (c .out) (c .at) (textOf ks xs) → Way
@@ -87,7 +87,7 @@ module _ (ks : List Kind) (stanza : List ℕ) (first many : ℕ) (xs : List ℕ)
         refused = λ z. (n, r);
       }
 
--- where a call answers 0, its list accepts
+-- if a call answers 0, its list accepts
 done-accepts : (ks : List Kind) (stanza : List ℕ) (first many : ℕ) (xs : List ℕ) (c : Call stanza first many xs) → Answers ks stanza first many xs c → c .reply .number ≡ 0 → accepts ks xs ≡ true
 done-accepts ks stanza first many xs c a z = sym (a .exactly) ∙ rw z
 
@@ -164,7 +164,7 @@ module _ (stanza : List ℕ) (first many : ℕ) (h : HasRun stanza first many) w
   run-answers : (xs : List ℕ) (c : Call stanza first many xs) → Answers run-kinds stanza first many xs c
   run-answers xs c = answers run-kinds stanza first many xs (prints stanza (h .description) (h .accepted) first many (h .run) xs) c
 
--- a call that answers 0 is of such a run
+-- a call that answers 0 is on such a run
 printed-run : (stanza : List ℕ) (first many : ℕ) (xs : List ℕ) (c : Call stanza first many xs) → c .reply .number ≡ 0 → HasRun stanza first many
 unfolding print
 printed-run stanza first many xs c z =

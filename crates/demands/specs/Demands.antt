@@ -1,4 +1,4 @@
--- Demands 2 and 3 over what `print` and `read` promise of their calls, whatever they do otherwise.
+-- Demands 2 and 3 over what `print` and `read` promise of their calls, whatever else they do.
 use Prim.Native.Nat.{ℕ, _+_, _-_, _≤_, _<_}
 use mathlib.Core.Path.{_≡_}
 use mathlib.Core.Logic.{_↔_, _⊎_}
@@ -15,7 +15,7 @@ use Rattle.format.specs.Demands.{wholeList, firstList, secondList}
 use Rattle.entry.specs.declared.Reply.{Reply}
 use Rattle.entry.specs.Entries.{Leaves}
 
--- a call of `print`: what is lent, the answer, the octets afterwards, and the promise
+-- a call of `print`: the lent buffer and place, the answer, the buffer afterwards, and the promise
 pub record Call (stanza : List ℕ) (first many : ℕ) (rdata : List ℕ) : Type 0 where
   pub out : List ℕ
   pub at : ℕ
@@ -66,7 +66,7 @@ Demand3 = (stanza : List ℕ) (d : Description) → judged stanza ≡ described 
     (back : (e : ℕ) → Call stanza (k + 1) (length (kinds (d .fields)) - k) (drop e xs)) → CutCalls stanza (kinds (d .fields)) k xs whole front back)
     × ((c : Call stanza (k + 1) 0 xs) → EmptyCall stanza k xs c)
 
--- a call of `read`: the same
+-- a call of `read`, likewise
 pub record ReadCall (stanza : List ℕ) (first many : ℕ) (origin text : List ℕ) : Type 0 where
   pub out : List ℕ
   pub at : ℕ

@@ -13,12 +13,12 @@ use Rattle.format.specs.Base.{bits}
 use Rattle.format.proofs.Digits.{digits-below, digits-length, number-digits, digits-number, number-bound, number-append}
 use Rattle.format.proofs.Base.{bits-below, bits-length}
 
--- what octets are written as, one after another
+-- flatMap of two lists, one after another
 pub flat-append : {A B : Type 0} (f : A → List B) (xs ys : List A) → flatMap f (xs ++ ys) ≡ flatMap f xs ++ flatMap f ys
 flat-append f [] ys = refl
 flat-append f (x ∷ xs) ys = ap (λ t. f x ++ t) (flat-append f xs ys) ∙ sym (append-assoc (f x) (flatMap f xs) (flatMap f ys))
 
--- a number and the w bits of another
+-- the number of a's bits followed by the w bits of d
 pub bits-after : (w a d : ℕ) → d < 2 ^ w → numberFrom 2 a (digits 2 w d) ≡ a * 2 ^ w + d
 bits-after zero a d h = omega (arith, pow-zero 2)
 bits-after (suc w) a d h =
@@ -36,7 +36,7 @@ pub power : (w k : ℕ) → 2 ^ (w * k) ≡ (2 ^ w) ^ k
 power w zero = let e : w * 0 ≡ 0 = omega arith in rw (e, pow-zero (2 ^ w))
 power w (suc k) = rw (mul-suc w k, pow-add 2 (w * k) w, power w k, pow-suc (2 ^ w) k)
 
--- bits are the bits of digits of w bits
+-- bits regrouped into digits of w bits are the same bits
 pub regrouped : (w k : ℕ) (bs : List ℕ) → Below 2 bs → length bs ≡ w * k → bits w (digits (2 ^ w) k (number 2 bs)) ≡ bs
 regrouped w k bs b e =
     let v : ℕ = number 2 bs in

@@ -1,4 +1,4 @@
--- Laws of decimal text, and of the octets of a number, that are stored from the last on.
+-- Laws of a number's decimal text, and of its octets, stored from the last on.
 use Prim.Native.Nat.{ℕ, zero, suc, _+_, _-_, _*_, _/_, _%_, _^_, _<_, _≤_}
 use mathlib.Core.Path.{_≡_, refl, sym, ap, _∙_}
 use mathlib.Core.List.{List, [], _∷_, _++_, map}
@@ -20,7 +20,7 @@ map-last f (e ∷ ds) d = ap (λ (t : List ℕ). f e ∷ t) (map-last f ds d)
 fixed-length : (w v : ℕ) → length (fixedDecimal w v) ≡ w
 fixed-length w v = length-map (digits 10 w v) upperDigit ∙ digits-length 10 w v
 
--- the last of the digits that are to be written may be stored first
+-- the last of the digits may be stored first
 pub last-digit : (char : ℕ → ℕ) (b : ℕ) (o o′ : List ℕ) (n k x : ℕ) → 0 < k → o′ ≡ set o (n + (k - 1)) (char (x % b))
     → sets o′ n (map char (digits b (k - 1) (x / b))) ≡ sets o n (map char (digits b k x))
 last-digit char b o o′ n zero x h p = absurd (omega arith)
@@ -57,7 +57,7 @@ fewer w n h = div-lt-iff-lt-mul {k = 10} {x = n} {y = 10 ^ w} (omega arith) .1 (
 as-many : (w n : ℕ) → 10 ^ suc w ≤ n → 10 ^ w ≤ n / 10
 as-many w n h = let g : 10 ^ w * 10 ≤ n = rw (pow-suc 10 w) at h in omega arith
 
--- a number that has fewer digits begins with a zero, and the zero is not written
+-- a number with fewer digits begins with a zero, which is not written
 lead : (w n : ℕ) → n < 10 ^ w → digits 10 (suc w) n ≡ 0 ∷ digits 10 w n
 lead zero n h = let e : n ≡ 0 = omega arith in rw e
 lead (suc w) n h = rw (lead w (n / 10) (fewer w n h))
@@ -76,7 +76,7 @@ strip (suc k) w n h =
     let f : suc w + suc k ≡ suc (suc w + k) = omega arith in
     rw f (ap withoutZeros (lead (suc w + k) n l) ∙ t ∙ strip k w n h)
 
--- a number that has as many digits begins with none
+-- a number with as many digits does not begin with a zero
 pub record Begins (ds : List ℕ) : Type 0 where
   pub first : ℕ
   pub others : List ℕ

@@ -4,6 +4,6 @@ use Prim.Native.Char.{code}
 use mathlib.Core.Bool.{cond}
 use lib.Dec.{ltb}
 
--- the digit d, whose letters begin with the octet ten: upperDigit for A, lowerDigit for a
+-- the digit d, with `ten` as the letter for ten: upperDigit if that is A, lowerDigit if it is a
 abbrev pub digitFrom : ℕ → ℕ → ℕ
 digitFrom ten d = cond (ltb d 10) (code "0" + d) (ten + (d - 10))

@@ -8,7 +8,7 @@ ghost use Rattle.buffer.specs.Writing.{Wrote};
 ghost use Rattle.digits.specs.Hex.{digitFrom};
 use buffer::put;
 
-// w decimal digits, stored from the last on.
+// Writes a number in w decimal digits; the last digit is stored first.
 pub fn put_fixed(out: &mut [u8], n: usize, w: usize, v: u64) -> usize
     requires { ⌜ (n < 2 ^ 33) × (w < 2 ^ 32) ⌝ }
     ensures { λ r. ⌜ Wrote (now (out .entry)) (now (out .exit)) n r (fixedDecimal w v) ⌝ }
@@ -23,7 +23,7 @@ pub fn put_fixed(out: &mut [u8], n: usize, w: usize, v: u64) -> usize
     n + w
 }
 
-// A number in w octets, the highest first, stored from the last on.
+// Writes a number in w octets, big-endian; the last octet is stored first.
 pub fn put_octets(out: &mut [u8], n: usize, w: usize, v: u64) -> usize
     requires { ⌜ (n < 2 ^ 32) × (w ≤ 8) ⌝ }
     ensures { λ r. ⌜ Wrote (now (out .entry)) (now (out .exit)) n r (digits 256 w v) ⌝ }
@@ -38,7 +38,7 @@ pub fn put_octets(out: &mut [u8], n: usize, w: usize, v: u64) -> usize
     n + w
 }
 
-// A hex digit, whose letters begin with the octet ten.
+// The hex digit d; `ten` is the letter for ten, `A` or `a`.
 pub fn hex_digit(d: u8, ten: u8) -> u8
     requires { ⌜ (d < 16) × (ten ≤ 97) ⌝ }
     ensures { λ r. ⌜ r ≡ digitFrom ten d ⌝ }
@@ -46,7 +46,7 @@ pub fn hex_digit(d: u8, ten: u8) -> u8
     if d < 10 { b'0' + d } else { ten + (d - 10) }
 }
 
-// The two hex digits of an octet.
+// Writes the two hex digits of an octet.
 pub fn put_hex_octet(out: &mut [u8], n: usize, b: u8, ten: u8) -> usize
     requires { ⌜ (n < 2 ^ 34) × (ten ≤ 97) ⌝ }
     ensures { λ r. ⌜ Wrote (now (out .entry)) (now (out .exit)) n r (map (digitFrom ten) (digits 16 2 b)) ⌝ }
@@ -91,7 +91,7 @@ fn digit_count(v: u64) -> usize
     10
 }
 
-// Decimal without leading zeros.
+// Writes a number in decimal without leading zeros.
 pub fn put_decimal(out: &mut [u8], n: usize, v: u64) -> usize
     requires { ⌜ (n < 2 ^ 32) × (v < 10 ^ 10) ⌝ }
     ensures { λ r. ⌜ Wrote (now (out .entry)) (now (out .exit)) n r (decimal v) ⌝ }

@@ -1,4 +1,4 @@
--- What the judged outline answers.
+-- What judging answers, given the outline.
 use Prim.Native.Nat.{ℕ, _+_, _*_, _≤_}
 use mathlib.Core.Path.{_≡_, sym, _∙_}
 use mathlib.Core.List.{List}

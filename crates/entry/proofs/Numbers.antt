@@ -1,4 +1,4 @@
--- No refusal has the number 0: so 0 is answered only with a result.
+-- No refusal has the number 0, so 0 is answered only with a result.
 use Prim.Native.Nat.{ℕ, suc, _≤_}
 use mathlib.Core.Path.{_≡_, refl, sym, _∙_}
 use mathlib.Core.Bool.{Bool, true, false, not, cond, _||_, true≢false}
@@ -25,7 +25,7 @@ either : {A : Type 0} (P : A → Type 0) (b : Bool) (x y : A) → P x → P y �
 either P true x y h k = h
 either P false x y h k = k
 
--- a line's refusal
+-- the refusals of a line
 abbrev Faulty : Verdict → Type 0
 Faulty (faulty n) = eqb n 0 ≡ false
 Faulty (goesOn p) = Unit {0}
@@ -60,7 +60,7 @@ line-faulty p l =
     let s = span blank (l .octets) in
     either Faulty (ignored (s .rest)) (goesOn p) _ tt (content-faulty p (not (null (s .front))) _ (s .rest))
 
--- a stanza's
+-- the refusals of a stanza
 abbrev Rejected : Judged → Type 0
 Rejected (rejected n i) = eqb n 0 ≡ false
 Rejected (described d) = Unit {0}
@@ -79,7 +79,7 @@ stanza-rejected : (s : List ℕ) → Rejected (judged s)
 unfolding judged
 stanza-rejected s = either Rejected (leb (length s) maxStanza) (judgedFrom 1 beforeHeader (lines s)) (rejected 1 0) (lines-rejected 1 beforeHeader (lines s)) refl
 
--- a run's
+-- the refusals of a run
 abbrev Refused : Parts → Type 0
 Refused (refused n i) = eqb n 0 ≡ false
 Refused (parts ps) = Unit {0}
@@ -110,7 +110,7 @@ reads-refused f (k ∷ ks) ts = by (f k ts) (λ us. reads-refused f ks us)
     by badToken ih = refl
     by (got p us) ih = first-refused p (readRun f ks us) (ih us)
 
--- an entry's
+-- the refusals of printing and reading
 abbrev pub Told : Answer → Type 0
 Told (done t) = Unit {0}
 Told (refusal n i) = eqb n 0 ≡ false
@@ -141,7 +141,7 @@ read-told s first many origin text =
     parts-told (readRun (λ k ts. readField k origin ts) (run first many ks) (tokens text)) (reads-refused (λ k ts. readField k origin ts) (run first many ks) (tokens text)) _ (λ ps.
     or-told 11 refl (leb (length (flat ps)) maxRdata) (done (flat ps)) tt)))))
 
--- where the number is 0, the answer is a result that has room
+-- if the number is 0, the answer is a result for which there is room
 pub zero-done : (a : Answer) → Told a → (out : List ℕ) (at : ℕ) → outcome out at (ifRoom (room out at) a) .number ≡ 0 → (t : List ℕ) × (a ≡ done t) × (length t ≤ room out at)
 zero-done (refusal n i) h out at z = absurd (true≢false (sym (eq-eqb n 0 z) ∙ h))
 zero-done (done t) h out at z = by (leb (length t) (room out at)) refl z
@@ -150,7 +150,7 @@ zero-done (done t) h out at z = by (leb (length t) (room out at)) refl z
     by true l z = (t, refl, leb-true (length t) (room out at) l)
     by false l z = absurd (true≢false (sym (eq-eqb 12 0 z)))
 
--- and the run is one of an accepted stanza
+-- and the run is a run of an accepted stanza
 pub record HasRun (s : List ℕ) (first many : ℕ) : Type 0 where
   pub description : Description
   pub accepted : judged s ≡ described description

@@ -1,4 +1,4 @@
--- A text stored in the room from a place on, or refused for want of it.
+-- A text that is stored in the room from a place on, or refused for want of room.
 use Prim.Native.Nat.{ℕ, _+_, _-_, _≤_, _<_, min}
 use mathlib.Core.Path.{_≡_, refl, sym, ap, _∙_}
 use mathlib.Core.List.{List, [], _∷_, _++_, append-nil}
@@ -28,7 +28,7 @@ leaves-done o out ys at a w t r e q h v n p =
       octets = part-wrote o ys at a w t (q ∙ ap (λ l. min at (length l)) (sym e)) v .octets ∙ ap (λ l. sets l at t) e ∙ sets-stored out at t h;
     })
 
--- there is none
+-- there is no room
 pub leaves-measured : (out after : List ℕ) (at need : ℕ) (t : List ℕ) (r : Reply) → after ≡ out → need ≡ 0 + length t → length out - at < need → r .number ≡ 12 → r .place ≡ need
     → Leaves r after (withRoom out at (done t))
 leaves-measured out after at need t r e m h n p =

@@ -26,7 +26,7 @@ use Rattle.stanza_types.specs.Fields.{kindFor}
 use Rattle.run_wire.proofs.Laws.{kinds-from, kinds-many, kinds-run}
 use Rattle.entry.proofs.Laws.{accepted, accepted-count}
 
--- every kind of a run by its number
+-- a test that holds of every field of a run
 module _ (f : Kind → Bool) (s : List ℕ) (fs : List FieldDesc) where
   all-at : (k m : ℕ) → allOf f (kindsFrom s fs k m) ≡ true → (j : ℕ) → j < m → f (kindFor s (getD fs (k + j) noField)) ≡ true
   all-at k zero h j l = absurd (omega arith)
@@ -75,7 +75,7 @@ judged-short s d e = by (decLt 8192 (length s))
     by (no h) = omega arith
     by (yes h) = let z : _≡_ {A = Judged} (rejected 1 0) (described d) = sym (rw (lt-leb (length s) 8192 h)) ∙ e in let y : _≡_ {A = ℕ} 0 1 = cc in absurd (omega arith)
 
--- 6, without a sum that could overflow
+-- refusal 6, tested without a sum that could overflow
 pub run-test : (first many count : ℕ) → 1 ≤ first → many ≤ count → leb (first - 1) (count - many) ≡ leb 1 first && leb (first - 1 + many) count
 run-test first many count h l = rw (le-leb 1 first h) (by (decLt count (first - 1 + many)))
   where

@@ -11,12 +11,12 @@ use Rattle.format.specs.Run.{shown, readField, Parts, parts, partsOf, maxRdata,
 use Rattle.format.specs.Entries.{Answer, done, orRefusal, ofParts, ifRoom, room, Outcome, outcome}
 use Rattle.entry.specs.declared.Reply.{Reply}
 
--- an answer is an outcome's number and its place or count
+-- an answer has the outcome's number, and its place or count
 pub record Replies (r : Reply) (o : Outcome) : Type 0 where
   pub numbers : r .number ≡ o .number
   pub places : r .place ≡ o .place
 
--- and the lent octets are afterwards the outcome's
+-- the same, and the lent octets are afterwards those of the outcome
 pub record Leaves (r : Reply) (after : List ℕ) (o : Outcome) : Type 0 where
   pub numbers : r .number ≡ o .number
   pub places : r .place ≡ o .place
@@ -27,11 +27,11 @@ pub record Packs (r : ℕ) (after : List ℕ) (o : Outcome) : Type 0 where
   pub answer : r ≡ o .number * 4294967296 + o .place
   pub octets : after ≡ o .lent
 
--- an answer in the room from a place on
+-- the outcome of an answer, given the room from a place on
 abbrev pub withRoom : List ℕ → ℕ → Answer → Outcome
 withRoom out at a = outcome out at (ifRoom (room out at) a)
 
--- the text of a run, want of room apart
+-- the text of a run, whatever the room is
 abbrev pub runText : List Kind → List ℕ → Answer
 runText ks xs = ofParts (partsOf ks xs) (λ ps. done (textOfParts shown ks ps))
 
@@ -39,7 +39,7 @@ runText ks xs = ofParts (partsOf ks xs) (λ ps. done (textOfParts shown ks ps))
 abbrev pub runParts : List Kind → List ℕ → List ℕ → Parts
 runParts ks origin text = readRun (λ k ts. readField k origin ts) ks (tokens text)
 
--- the octets of a run's text, or 11, want of room apart
+-- the octets that a run reads from a text, or 11, whatever the room is
 abbrev pub runOctets : List Kind → List ℕ → List ℕ → Answer
 runOctets ks origin text = ofParts (runParts ks origin text) (λ ps. orRefusal 11 (leb (length (flat ps)) maxRdata) (done (flat ps)))
 

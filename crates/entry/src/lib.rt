@@ -1,4 +1,4 @@
-// An answer of the public entries, and what they share.
+// The answers of the public entries, judging, and what printing and reading share.
 ghost use Prim.Native.Nat.{_+_, _*_, _-_};
 ghost use mathlib.Core.Path.{_≡_};
 ghost use mathlib.Core.Bool.{_&&_};
@@ -6,13 +6,13 @@ ghost use lib.Dec.{leb};
 ghost use Rattle.format.specs.Entries;
 ghost use Rattle.entry.specs.Entries.{Replies};
 
-// An answer: 0 and the count, or a refusal's number and place.
+// An answer: 0 and a count, or a refusal's number and place.
 pub struct Reply {
     pub number: u32,
     pub place: u32,
 }
 
-// Judge a description: 0 and the number of its fields, or a refusal's number and line.
+// Judges a description: 0 and the number of its fields, or a refusal's number and line.
 pub fn judge(s: &[u8]) -> Reply
     ensures { λ r. ⌜ Replies r (Entries.judge (now (s .entry))) ⌝ }
 {
@@ -31,7 +31,7 @@ pub fn judge(s: &[u8]) -> Reply
     }
 }
 
-// Whether the fields from first on, from 1, so many, are among count.
+// Whether `many` fields, starting at `first`, are among `count`; the first field is number 1.
 pub fn is_run(first: usize, many: usize, count: usize) -> bool
     ensures { λ r. ⌜ r ≡ leb 1 first && leb (first - 1 + many) count ⌝ }
 {

@@ -35,7 +35,7 @@ use Rattle.entry_print.specs.Needs.{Needs}
 use Rattle.entry.proofs.Laws.{accepted, refused as not-judged}
 use Rattle.entry.proofs.Runs.{kinds-length, run-kinds}
 
--- every kind of a run by its number
+-- a test that holds of every field of a run
 module _ (f : Kind → Bool) (s : List ℕ) (fs : List FieldDesc) where
   all-of : (k m : ℕ) → ((j : ℕ) → j < m → f (kindFor s (getD fs (k + j) noField)) ≡ true) → allOf f (kindsFrom s fs k m) ≡ true
   all-of k zero h = refl
@@ -44,7 +44,7 @@ module _ (f : Kind → Bool) (s : List ℕ) (fs : List FieldDesc) where
       let a : f (kindFor s (getD fs k noField)) ≡ true = subst (λ i. f (kindFor s (getD fs i noField)) ≡ true) q (h 0 (omega arith)) in
       rw a (all-of (k + 1) m (λ j l. let r : k + suc j ≡ k + 1 + j = omega arith in subst (λ i. f (kindFor s (getD fs i noField)) ≡ true) r (h (suc j) (omega arith))))
 
--- a run whose last field is not R[L] has none
+-- a run whose last field is not R[L] has no R[L]
 plain-kind : (k : Kind) → tail k ≡ false → isBitmap k ≡ false
 plain-kind k h = by (isBitmap k) refl
   where
@@ -111,7 +111,7 @@ module _ {s codes : List ℕ} {o : Outline} (q : Outlined s codes o) where
     unfolding printing
     print-runs first many r xs h = rw (le-leb (length xs) 65535 h, accepted q n, kinds-length q n, ← r, run-kinds q n first many r)
 
--- a form other than R[L]'s
+-- any other form than R[L]
 pub other-form : (f : Form) → OneOf (0 ∷ 1 ∷ 3 ∷ 4 ∷ 5 ∷ 6 ∷ 7 ∷ 8 ∷ 9 ∷ 10 ∷ 11 ∷ 12 ∷ 13 ∷ 14 ∷ 15 ∷ []) (tagOf Rattle.stanza_types.proofs.Form.the-type f) → (l : List Symbol) → isBitmap (kindOf l f) ≡ false
 other-form (Int w) h l = refl
 other-form Rrtype h l = refl
@@ -130,7 +130,7 @@ other-form Hexc h l = refl
 other-form (Eui w) h l = refl
 other-form Time h l = refl
 
--- the room that a text needs: none to tell where it fits, else its length
+-- the room that a text needs: 0 if it fits, else its length
 pub fitting-needs : (room : ℕ) (t : List ℕ) → length t ≤ room → length t ≤ 1048576 → Needs room 0 t
 fitting-needs room t h l = record { told = λ z. absurd (omega arith); fits = λ z. h; short = l }
 

@@ -4,7 +4,7 @@ use mathlib.Core.Path.{_≡_}
 use mathlib.Core.List.{List}
 use lib.ListN.{length}
 
--- more than the room, and it is the text's length; else the text fits. No text is longer than the longest that is read.
+-- an answer over the room is the text's length, any other says that the text fits; no text is longer than the longest that may be read
 pub record Needs (room answer : ℕ) (text : List ℕ) : Type 0 where
   pub told : room < answer → answer ≡ length text
   pub fits : answer ≤ room → length text ≤ room

@@ -1,4 +1,4 @@
-// Printing: the refusals in their order, and the text where there is room for it.
+// Printing: the refusals in their order, and the text if there is room for it.
 ghost use Prim.Native.Nat.{ℕ, _+_, _≤_};
 ghost use mathlib.Core.Path.{_≡_};
 ghost use mathlib.Core.Bool.{true};
@@ -17,8 +17,8 @@ use entry::Reply;
 use run_wire::Checked;
 use stanza_types::Form;
 
-// Whether the text of so many octets fits the room whatever they are: R[L] apart no octet prints as more than 4, beside 64 a
-// field. Measuring tells where this does not.
+// Whether the text of `octets` octets surely fits the room: except for R[L], an octet prints as at most 4, and a field adds at
+// most 64. If this denies it, the text is measured.
 fn surely_fits(codes: &[u64; 64], first: usize, many: usize, octets: usize, room: usize) -> bool
     requires { ⌜ (first + many ≤ 64) × (octets ≤ 65535) ⌝ }
     ensures { λ r. ⌜ (r ≡ true → (s xs : List ℕ) → Octets xs → length xs ≡ octets → Accepted s (fieldsOf (now (codes .entry))) first many xs → length (textOf (kindsFrom s (fieldsOf (now (codes .entry))) first many) xs) ≤ room) ⌝ }
@@ -37,7 +37,7 @@ fn surely_fits(codes: &[u64; 64], first: usize, many: usize, octets: usize, room
     true
 }
 
-// The room that the text needs: 0 where it surely fits, else its length, measured on the empty part at the buffer's end.
+// The room that the text needs: 0 if it surely fits, else its length, measured on the empty part at the buffer's end.
 fn needed(
     s: &[u8],
     codes: &[u64; 64],
@@ -57,7 +57,7 @@ fn needed(
     run_print::put_run(&mut out[end..], codes, first, many, s, p)
 }
 
-// The text of RDATA that the run takes, from a place of the buffer on.
+// Writes the text of RDATA that the run takes, at a place in the buffer, if there is room.
 fn put_text(
     s: &[u8],
     codes: &[u64; 64],
@@ -86,7 +86,7 @@ fn put_text(
     }
 }
 
-// RDATA under a run of a judged stanza.
+// Prints RDATA under a run of a judged stanza.
 fn print_run(
     s: &[u8],
     codes: &[u64; 64],
@@ -109,8 +109,8 @@ fn print_run(
     }
 }
 
-// Print RDATA under so many fields of a description, from number first on: 0 and the count of the text's octets, which
-// stand in out from at on; or a refusal's number and place, and out as it was.
+// Prints RDATA under `many` fields of a description, starting at `first`: 0 and the number of octets of the text, which stands
+// in `out` from `at` on; or a refusal's number and place, with `out` as it was.
 pub fn print(s: &[u8], first: usize, many: usize, p: &[u8], out: &mut [u8], at: usize) -> Reply
     ensures { λ r. ⌜ Leaves r (now (out .exit)) (Entries.print (now (s .entry)) first many (now (p .entry)) (now (out .entry)) at) ⌝ }
 {

@@ -1,4 +1,4 @@
--- What a run's reading answers, by what the reader left in a buffer.
+-- What reading a run answers, given what the reader left in a buffer.
 use Prim.Native.Nat.{ℕ, _+_, _-_, _≤_, _<_, min}
 use mathlib.Core.Path.{_≡_, refl, sym, ap, _∙_, subst}
 use mathlib.Core.List.{List, [], _∷_, _++_}
@@ -20,14 +20,14 @@ use Rattle.entry.specs.declared.Reply.{Reply}
 use Rattle.entry.specs.Entries.{Leaves, withRoom, runParts, runOctets, ReadsIn}
 use Rattle.entry.proofs.Rooms.{leaves-done, leaves-measured, leaves-refused}
 
--- a run reads a text in one way
+-- a run reads a text in only one way
 one-reading : (p : Parts) (ps qs : List (List ℕ)) → p ≡ parts ps → p ≡ parts qs → qs ≡ ps
 one-reading p ps qs a b = let z : parts qs ≡ parts ps = sym b ∙ a in cc
 
 not-refused : (p : Parts) (ps : List (List ℕ)) (n i : ℕ) → p ≡ parts ps → p ≡ refused n i → ⊥
 not-refused p ps n i a b = let z : _≡_ {A = Parts} (refused n i) (parts ps) = sym b ∙ a in let y : _≡_ {A = ℕ} 0 1 = cc in absurd (omega arith)
 
--- the octets of a run that are not too many
+-- the octets of a run, if they are not too many
 stands-short : {before after : List ℕ} {m : ℕ} {xs : List ℕ} → Stands before after m xs → length xs ≤ maxRdata → Wrote before after 0 m xs
 stands-short {before} {after} {m} {xs} s h = by (decLe m maxRdata)
   where
@@ -35,7 +35,7 @@ stands-short {before} {after} {m} {xs} s h = by (decLe m maxRdata)
     by (yes l) = s .whole l
     by (no l) = absurd (omega (arith, s .over (omega arith)))
 
--- the front of an array that holds them
+-- the front of the array that holds them
 front-of : (before after : List ℕ) (m : ℕ) (xs : List ℕ) → Wrote before after 0 m xs → m ≤ length before → take (m - 0) after ≡ xs
 front-of before after m xs w h = let z : m - 0 ≡ m = omega arith in rw z (by xs w)
   where
@@ -71,11 +71,11 @@ module _ (ks : List Kind) (origin text out : List ℕ) (at : ℕ) (before after 
           let w = s .whole h in
           rw (octets-done ks origin text ps p (omega (arith, w .count))) (leaves-measured out out at m (flat ps) reply refl (w .count) l n i)
 
-      -- there is, and it is the lent part's
+      -- there is room for them in the lent part
       pub reads-in : m ≤ length out - at → ReadsIn ks origin text (length out - at)
       reads-in l = let (ps, p, s) = given (Done m) e in let w = s .whole h in record { fields = ps; reads = p; short = omega (arith, w .count); fits = omega (arith, w .count) }
 
-      -- there is, in the array too, and they are copied from its front
+      -- there is room in the array too, and they are copied from its front
       pub copied-leaves : (reply : Reply) (o ys : List ℕ) (a w : ℕ) → o ≡ out → a ≡ min at (length out) → m ≤ length out - at → m ≤ length after → Wrote (take (length o - a) (drop a o)) ys 0 w (take (m - 0) after)
           → reply .number ≡ 0 → reply .place ≡ w → Leaves reply (take a o ++ (ys ++ drop (length o - a) (drop a o))) (withRoom out at (runOctets ks origin text))
       copied-leaves reply o ys a w q b l f u n i =
@@ -84,7 +84,7 @@ module _ (ks : List Kind) (origin text out : List ℕ) (at : ℕ) (before after 
           rw (octets-done ks origin text ps p (omega (arith, x .count)))
           (leaves-done o out ys at a w (flat ps) reply q b (omega (arith, x .count)) (wrote-text _ (flat ps) (front-of before after m (flat ps) x (omega (arith, wrote-length x))) u) n i)
 
--- a second reading finds what the first found, so it is not refused, and all that it finds has room
+-- a second reading finds what the first found: it is not refused, and there is room for what it finds
 module _ {ks : List Kind} {origin text : List ℕ} {room : ℕ} (z : ReadsIn ks origin text room) (before after : List ℕ) (r : Run) (v : Reads before after r (runParts ks origin text)) where
   pub again-done : (n i : ℕ) → r ≡ Refused n i → ⊥
   again-done n i e = not-refused _ (z .fields) n i (z .reads) (subst (λ x. Reads before after x (runParts ks origin text)) e v)

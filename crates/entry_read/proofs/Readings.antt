@@ -26,7 +26,7 @@ use Rattle.entry.proofs.Runs.{kinds-length, run-kinds}
 pub whole-name : (p : List ℕ) (t : Take) → takenIn t ≡ taken (labelLength false 0) (slice 0 (length p) p) → takesAll (takenIn t) p ≡ isWireName p
 whole-name p t e = ap (λ x. takesAll x p) (e ∙ ap (taken (labelLength false 0)) (to-end p 0))
 
--- 1, the stanza's, 6 and 7
+-- refusals 1, the stanza's, 6 and 7
 pub read-long : (s : List ℕ) (first many : ℕ) (origin text : List ℕ) → 1048576 < length text → reading s first many origin text ≡ refusal 1 0
 unfolding reading
 read-long s first many origin text h = rw (lt-leb (length text) 1048576 h)

@@ -1,4 +1,4 @@
-// Reading: the refusals in their order, and then the octets.
+// Reading: the refusals in their order, and the octets if there is room for them.
 pub mod room;
 
 ghost use Prim.Native.Nat.{_≤_};
@@ -12,7 +12,7 @@ use entry::Reply;
 use field_wire::Take;
 use stanza_judge::Outline;
 
-// Whether octets are one whole wire name.
+// Whether the octets are one whole wire name.
 fn is_name(p: &[u8]) -> bool
     ensures { λ r. ⌜ r ≡ isWireName (now (p .entry)) ⌝ }
 {
@@ -24,7 +24,7 @@ fn is_name(p: &[u8]) -> bool
     }
 }
 
-// A text under a judged stanza.
+// Reads a text under a stanza that is already judged.
 pub fn read_judged(
     s: &[u8],
     o: Outline,
@@ -61,9 +61,8 @@ pub fn read_judged(
     }
 }
 
-// Read a text under so many fields of a description, from number first on, with names that lack their final dot under the
-// origin: 0 and the count of the RDATA's octets, which stand in out from at on; or a refusal's number and place, and out as
-// it was.
+// Reads a text under `many` fields of a description, starting at `first`; names without a final dot are under the origin: 0 and
+// the number of octets of the RDATA, which stand in `out` from `at` on; or a refusal's number and place, with `out` as it was.
 pub fn read(
     s: &[u8],
     first: usize,

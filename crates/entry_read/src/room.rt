@@ -1,4 +1,4 @@
-// The octets of a text under a run of fields, where there is room for them.
+// Reads a text under a run of fields into a lent buffer, if there is room.
 ghost use Prim.Native.Nat.{_-_, _≤_};
 ghost use mathlib.Core.Path.{_≡_};
 ghost use mathlib.Core.Bool.{true};
@@ -10,7 +10,7 @@ ghost use Rattle.entry.specs.Entries.{Leaves, withRoom, runOctets, ReadsIn};
 use entry::Reply;
 use run_read::Run;
 
-// The octets of a text that the run reads, from a place of the buffer on, where there is room: read a second time.
+// Reads a second time, now into the lent buffer, a text that the run reads and for which there is room.
 fn read_again(
     s: &[u8],
     codes: &[u64; 64],
@@ -48,8 +48,8 @@ fn refused(number: u32, place: u32) -> Reply
     }
 }
 
-// A text under a run of a judged stanza, by way of a short buffer: nothing lent changes before the result is known to be
-// whole. Of a result that is longer only the count is kept, and it is read again.
+// Reads a text under a run of a judged stanza, through a short buffer: nothing lent changes before the whole result is known.
+// Of a longer result only the count is kept, and it is read again.
 fn read_through(
     short: &mut [u8],
     s: &[u8],
@@ -88,8 +88,8 @@ fn read_through(
     }
 }
 
-// The same by way of an array of its own: one of 1,024 octets, soon cleared, where the text is short; else one of 12,288, which
-// every bitmap (8,704) fits.
+// The same through an array of its own: one of 1,024 octets, which is cleared quickly, if the text is short; else one of
+// 12,288, which every bitmap (8,704) fits into.
 pub fn read_run(
     s: &[u8],
     codes: &[u64; 64],

@@ -43,7 +43,7 @@ module _ (x v : ℕ) (e : v ≡ cond (digit x) (x - 48) 10) where
       by true f g = (f, g)
       by false f g = absurd (omega arith)
 
--- an octet that begins no escape, and a backslash
+-- an octet that begins no escape; and a backslash and what follows it
 pub plain-unescaped : (x : ℕ) (xs : List ℕ) → noEscape x ≡ true → unescapedFrom outside (x ∷ xs) ≡ consBoth (some (plain x)) (unescapedFrom outside xs)
 unfolding unescapedFrom
 plain-unescaped x xs h = rw (not-true (eqb x 92) h)
@@ -99,7 +99,7 @@ two-digit v x xs h k = rw (h, le-leb (v * 10 + (x - 48)) 255 k)
 abbrev ValueAt : List ℕ → ℕ → ℕ → Type 0
 ValueAt t i x = x ≡ cond (digit (getD t i 0)) (getD t i 0 - 48) 10
 
--- the same of a part
+-- the same in a part of a text
 module _ (t : List ℕ) (i e : ℕ) (l : e ≤ length t) where
   pub other-octet : (x : ℕ) → i < e → ValueAt t i x → 9 < x → unescapedFrom slash (slice i e t) ≡ consBoth (some (escape (getD t i 0))) (unescapedFrom outside (slice (i + 1) e t))
   other-octet x h p k = rw (next t i e h l) (slash-other (getD t i 0) (slice (i + 1) e t) (no-digit (getD t i 0) x p k))

@@ -1,4 +1,4 @@
--- Laws of an octet that is escaped, for any special octets.
+-- Laws of an octet that is escaped, whichever octets are special.
 use Prim.Native.Nat.{ℕ, _<_, _≤_}
 use mathlib.Core.Path.{_≡_}
 use mathlib.Core.Bool.{true, false, cond}
@@ -8,7 +8,7 @@ use Rattle.format.specs.Octets.{among, inRange}
 use Rattle.format.specs.Number.{fixedDecimal}
 use Rattle.format.specs.Token.{escaped}
 
--- an octet from lo to 7E hex as it is, another by its number
+-- an octet from lo to 7E hex as it is, any other as a backslash and three digits
 abbrev pub shown : ℕ → ℕ → List ℕ
 shown lo x = cond (inRange lo 0x7E x) (x ∷ []) (92 ∷ fixedDecimal 3 x)
 

@@ -15,12 +15,12 @@ use Rattle.escape.specs.declared.read.Escape.the-variants.{Fault, Octet}
 abbrev pub noEscape : ℕ → Bool
 noEscape x = not (eqb x (code "\\"))
 
--- the items that are left of a token that ends at e, by the escape
+-- the items that are left of a token that ends at e, given the escape that comes first
 abbrev pub itemsBy : List ℕ → ℕ → Escape → Option (List Item)
 itemsBy t e Fault = none
 itemsBy t e (Octet x j) = consBoth (some (escape x)) (unescapedFrom outside (slice j e t))
 
--- where it ends
+-- the escape ends after i, and not past e
 abbrev pub EndsWithin : ℕ → ℕ → Escape → Type 0
 EndsWithin i e Fault = Unit {0}
 EndsWithin i e (Octet x j) = (i < j) × (j ≤ e)

@@ -1,3 +1,3 @@
-// One octet of a name or a string, escaped where that is due: written, and read from a token.
+// One octet of a name or a string, escaped if needed: written, and read from a token.
 pub mod print;
 pub mod read;

@@ -1,4 +1,4 @@
-// Writers of one octet of a name or a string, escaped where that is due.
+// Writers of one octet of a name or a string, escaped if needed.
 ghost use mathlib.Core.Bool.{cond};
 ghost use mathlib.Core.Path.{_≡_};
 ghost use mathlib.Core.List.{[], _∷_};
@@ -12,7 +12,7 @@ use buffer::put;
 use buffer::put_octet;
 use digits::put_fixed;
 
-// Whether an octet stands after a backslash in a name's text.
+// Whether an octet is written after a backslash in a name's text.
 fn name_special(b: u8) -> bool
     ensures { λ r. ⌜ r ≡ among b (ascii ".\\\"';()@$") ⌝ }
 {
@@ -46,7 +46,7 @@ fn name_special(b: u8) -> bool
     false
 }
 
-// A backslash and the octet.
+// Writes a backslash and the octet.
 fn put_slashed(out: &mut [u8], n: usize, b: u8) -> usize
     requires { ⌜ n < 2 ^ 32 ⌝ }
     ensures { λ r. ⌜ Wrote (now (out .entry)) (now (out .exit)) n r (92 ∷ b ∷ []) ⌝ }
@@ -56,7 +56,7 @@ fn put_slashed(out: &mut [u8], n: usize, b: u8) -> usize
     n + 2
 }
 
-// A backslash and three digits.
+// Writes a backslash and the octet's three decimal digits.
 fn put_ddd(out: &mut [u8], n: usize, b: u8) -> usize
     requires { ⌜ n < 2 ^ 32 ⌝ }
     ensures { λ r. ⌜ Wrote (now (out .entry)) (now (out .exit)) n r (92 ∷ fixedDecimal 3 b) ⌝ }
@@ -65,7 +65,7 @@ fn put_ddd(out: &mut [u8], n: usize, b: u8) -> usize
     put_fixed(out, m, 3, b as u64)
 }
 
-// An octet from lo to 7E hex as it is, another by its number.
+// Writes an octet from lo to 7E hex as it is, any other as a backslash and three digits.
 fn put_shown(out: &mut [u8], n: usize, lo: u8, b: u8) -> usize
     requires { ⌜ n < 2 ^ 32 ⌝ }
     ensures { λ r. ⌜ Wrote (now (out .entry)) (now (out .exit)) n r (cond (inRange lo 0x7E b) (b ∷ []) (92 ∷ fixedDecimal 3 b)) ⌝ }
@@ -79,7 +79,7 @@ fn put_shown(out: &mut [u8], n: usize, lo: u8, b: u8) -> usize
     put_octet(out, n, b)
 }
 
-// An octet of a name's label.
+// Writes an octet of a label in a name's text.
 pub fn put_escaped_name(out: &mut [u8], n: usize, b: u8) -> usize
     requires { ⌜ n < 2 ^ 32 ⌝ }
     ensures { λ r. ⌜ Wrote (now (out .entry)) (now (out .exit)) n r (nameEscape b) ⌝ }
@@ -90,7 +90,7 @@ pub fn put_escaped_name(out: &mut [u8], n: usize, b: u8) -> usize
     put_shown(out, n, b'!', b)
 }
 
-// An octet of a quoted string.
+// Writes an octet of a quoted string.
 pub fn put_escaped_string(out: &mut [u8], n: usize, b: u8) -> usize
     requires { ⌜ n < 2 ^ 32 ⌝ }
     ensures { λ r. ⌜ Wrote (now (out .entry)) (now (out .exit)) n r (stringEscape b) ⌝ }

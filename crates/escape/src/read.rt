@@ -14,7 +14,7 @@ pub enum Escape {
     Octet(u8, usize),
 }
 
-// The value of a digit, or 10.
+// The value of a decimal digit, or 10 if the octet is none.
 fn digit_value(b: u8) -> u16
     ensures { λ r. ⌜ r ≡ cond (digit b) (b - 48) 10 ⌝ }
 {
@@ -27,7 +27,7 @@ fn digit_value(b: u8) -> u16
     (b - b'0') as u16
 }
 
-// The two digits from i on that follow a digit v: the number of the three is at most 255.
+// The escape whose first digit is v and whose other two stand at i. A fault if they are no digits, or the number is over 255.
 fn decimal(t: &[u8], i: usize, e: usize, v: u16) -> Escape
     requires { ⌜ (i ≤ e) × (e ≤ length (now t)) × (v < 10) ⌝ }
     ensures { λ r. ⌜ (unescapedFrom (oneDigit v) (slice i e (now (t .entry))) ≡ itemsBy (now (t .entry)) e r) × EndsWithin i e r ⌝ }
@@ -50,7 +50,7 @@ fn decimal(t: &[u8], i: usize, e: usize, v: u16) -> Escape
     Escape::Octet(w as u8, i + 2)
 }
 
-// The escape whose backslash stands before i.
+// The escape whose backslash stands just before i.
 pub fn read(t: &[u8], i: usize, e: usize) -> Escape
     requires { ⌜ (i ≤ e) × (e ≤ length (now t)) ⌝ }
     ensures { λ r. ⌜ (unescapedFrom slash (slice i e (now (t .entry))) ≡ itemsBy (now (t .entry)) e r) × EndsWithin i e r ⌝ }

@@ -1,4 +1,4 @@
-// EUI48 and EUI64, pairs of hex digits.
+// Prints EUI48 and EUI64.
 ghost use Prim.Native.Nat.{_^_, _<_, _≤_};
 ghost use lib.ListN.{length};
 ghost use lib.Seq.{slice};
@@ -7,7 +7,7 @@ ghost use Rattle.buffer.specs.Writing.{Wrote};
 use buffer::put_octet;
 use digits::put_hex_octet;
 
-// Two lower-case digits an octet, with hyphens between.
+// Writes two lower-case hex digits for each octet, with hyphens between the octets.
 pub fn field(out: &mut [u8], n: usize, p: &[u8], i: usize, e: usize) -> usize
     requires { ⌜ (n < 2 ^ 30) × (i ≤ e) × (e ≤ length (now p)) × (length (now p) ≤ 65535) ⌝ }
     ensures { λ r. ⌜ Wrote (now (out .entry)) (now (out .exit)) n r (euiText (slice i e (now (p .entry)))) ⌝ }

@@ -1,4 +1,4 @@
-// EUI48, EUI64.
+// Reads EUI48 and EUI64.
 ghost use Prim.Native.Nat.{_^_, _<_, _≤_};
 ghost use lib.ListN.{length};
 ghost use lib.Seq.{slice};
@@ -8,7 +8,7 @@ use address::part;
 use address::part::Form;
 use buffer::Value;
 
-// w pairs of hex digits with hyphens between.
+// Reads exactly w pairs of hex digits with hyphens between them.
 pub fn field(out: &mut [u8], n: usize, w: usize, t: &[u8], i: usize, e: usize) -> Value
     requires { ⌜ (n < 2 ^ 30) × (w ≤ 8) × (i ≤ e) × (e ≤ length (now t)) × (length (now t) ≤ 1048576) ⌝ }
     ensures { λ r. ⌜ Values (now (out .entry)) (now (out .exit)) n r (readEui w (slice i e (now (t .entry)))) ⌝ }

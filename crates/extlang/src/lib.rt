@@ -4,6 +4,7 @@ ghost use mathlib.Core.Path.{_≡_};
 ghost use Rattle.format.specs.Entries;
 ghost use Rattle.entry.specs.Entries.{Packs};
 
+// Judges a description: `entry::judge`, its answer in 64 bits.
 #[no_mangle]
 pub extern "C" fn extlang_judge(s: &[u8]) -> u64
     ensures { λ r. ⌜ r ≡ Entries.judge (now (s .entry)) .number * 4294967296 + Entries.judge (now (s .entry)) .place ⌝ }
@@ -12,6 +13,7 @@ pub extern "C" fn extlang_judge(s: &[u8]) -> u64
     entry::packed(r)
 }
 
+// Prints RDATA: `entry_print::print`, its answer in 64 bits.
 #[no_mangle]
 pub extern "C" fn extlang_print(
     s: &[u8],
@@ -27,6 +29,7 @@ pub extern "C" fn extlang_print(
     entry::packed(r)
 }
 
+// Reads a text: `entry_read::read`, its answer in 64 bits.
 #[no_mangle]
 pub extern "C" fn extlang_read(
     s: &[u8],

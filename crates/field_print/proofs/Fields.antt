@@ -1,4 +1,4 @@
--- What the octets that a field takes are, by its kind.
+-- The octets that a field takes, by its kind.
 use Prim.Native.Nat.{ℕ, zero, suc, _+_, _-_, _≤_, _<_}
 use mathlib.Core.Path.{_≡_, sym, ap, _∙_, subst}
 use mathlib.Core.Bool.{Bool, true, false, true≢false}
@@ -30,7 +30,7 @@ counted-some p i e lo t = by (decLt i e)
     by (yes a) = omega arith
     by (no a) = let z : false ≡ true = at-end (count lo) (e - i) (subst (λ xs. taken (count lo) xs ≡ took (e - i)) (nothing p i e (omega arith)) t) .0 in absurd (true≢false (sym z))
 
--- a name that may be missing or not
+-- a name, whether it may be missing or not
 pub name-anyhow : (b : Bool) (xs : List ℕ) (n : ℕ) → taken (labelLength b 0) xs ≡ took n → taken (labelLength true 0) xs ≡ took n
 unfolding taken
 name-anyhow true xs n t = t
@@ -41,7 +41,7 @@ name-anyhow false (x ∷ xs) n t = by x t
     by zero e = e
     by (suc y) e = e
 
--- an integer's octets
+-- the octets of an integer
 pub int-wide : (s : List ℕ) (d : FieldDesc) (u : Usable s d) (w : ℕ) (g : d .form ≡ Int w) (p : List ℕ) (i e : ℕ) → i ≤ e → e ≤ length p
     → taken (start (kindFor s d)) (slice i e p) ≡ took (e - i) → e ≡ i + w
 int-wide s d u w g p i e h l t = octets-wide p i e w h l (int-some s d u w g) (rw g at t)

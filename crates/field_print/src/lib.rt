@@ -1,4 +1,4 @@
-// The text of one field.
+// Prints one field.
 ghost use Prim.Native.Nat.{ℕ, _-_, _≤_};
 ghost use mathlib.Core.Path.{_≡_};
 ghost use mathlib.Core.List.{List};
@@ -14,7 +14,7 @@ use field_wire::Take;
 use stanza_types::FieldDesc;
 use stanza_types::Form;
 
-// The octets of p from i to e as the text of a field, from the start of the buffer on.
+// Writes the text of the field in p from i to e, at the start of the buffer.
 pub fn put_field(out: &mut [u8], d: FieldDesc, s: &[u8], p: &[u8], i: usize, e: usize) -> usize
     requires { ⌜ Usable (now s) d × (length (now s) ≤ 8192) × (i ≤ e) × (e ≤ length (now p)) × (length (now p) ≤ 65535) × (taken (start (kindFor (now s) d)) (slice i e (now p)) ≡ took (e - i)) ⌝ }
     ensures { λ r. ⌜ Wrote (now (out .entry)) (now (out .exit)) 0 r (shown (kindFor (now (s .entry)) d) (slice i e (now (p .entry)))) ⌝ }
@@ -48,7 +48,7 @@ pub fn put_field(out: &mut [u8], d: FieldDesc, s: &[u8], p: &[u8], i: usize, e: 
     }
 }
 
-// How many octets the field at i takes; asked only where it takes some.
+// How many octets the field at i takes; it is called only for a field that is neither short nor broken.
 pub fn width(f: Form, p: &[u8], i: usize) -> usize
     requires { ⌜ i ≤ length (now p) ⌝ }
     ensures { λ r. ⌜ ((l : List Symbol) (w : ℕ) → taken (start (kindOf l f)) (slice i (length (now (p .entry))) (now (p .entry))) ≡ took w → r ≡ w) ⌝ }

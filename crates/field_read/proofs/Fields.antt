@@ -1,4 +1,4 @@
--- What a field makes of its token, by its kind.
+-- What a field makes of its tokens, by its kind.
 use Prim.Native.Nat.{ℕ, _/_, _%_, _<_, _≤_}
 use mathlib.Core.Path.{_≡_, refl, sym, ap, subst, _∙_}
 use mathlib.Core.Bool.{Bool, true, false, cond, _&&_, true≢false}
@@ -95,7 +95,7 @@ none-name m l o = by (leb 8 m)
     by true = refl
     by false = refl
 
--- the octets of a token, after which the tokens from j on are left
+-- the octets of a token, with the tokens from j on left
 pub gives : (before after t : List ℕ) (n : ℕ) (v : Value) (p : Option (List ℕ)) (j : ℕ) → Values before after n v p → j ≤ length t → Gives before after n t (placedAt v j) (gotOr p (tokens (drop j t)))
 gives before after t n NoValue p j e h = ap (λ q. gotOr q (tokens (drop j t))) e
 gives before after t n (ValueUpto m) p j (xs, e, w) h = (xs, ap (λ q. gotOr q (tokens (drop j t))) e, w, h)
@@ -118,7 +118,7 @@ pub onward : (before after : List ℕ) (i : ℕ) (v : Value) (j : ℕ) → i < j
 onward before after i NoValue j h = tt
 onward before after i (ValueUpto m) j h = h
 
--- a field that takes all the tokens
+-- a field that takes all tokens
 tokens-end : (t : List ℕ) → tokens (drop (length t) t) ≡ []
 unfolding scanned
 tokens-end t = let h : length t ≤ length t = omega arith in ap tokens (drop-of-length-le t h)

@@ -1,4 +1,4 @@
--- The forms of fields by their tags, and what a token may be to them.
+-- The forms of fields by their tags, and which tokens they take.
 use Prim.Native.Nat.{ℕ, _≤_}
 use mathlib.Core.Path.{_≡_, refl, sym}
 use mathlib.Core.Bool.{Bool, true, false, cond, _||_, true≢false}
@@ -26,7 +26,7 @@ in-eight w false false p q e = absurd (true≢false (sym e))
 pub eui-eight : (w : ℕ) → soundKind (eui w) ≡ true → w ≤ 8
 eui-eight w h = in-eight w (eqb w 6) (eqb w 8) refl refl h
 
--- the tags of the forms, but one
+-- the tags of all forms but one
 abbrev skipping : ℕ → List ℕ → List ℕ
 skipping n [] = []
 skipping n (x ∷ xs) = cond (eqb x n) (skipping n xs) (x ∷ skipping n xs)

@@ -23,7 +23,7 @@ use Rattle.buffer.proofs.Values.{after, Begun, begun-none, begun-piece, begun-f
 abbrev pub allStrings : List Token → Option (List ℕ)
 allStrings ts = eachOf readString ts >>= λ l. some (flat l)
 
--- a string with its count is 1 to 256 octets
+-- a string with its count has 1 to 256 octets
 string-sized : (t : Token) (xs : List ℕ) → readString t ≡ some xs → (1 ≤ length xs) × (length xs ≤ 256)
 string-sized t xs e =
     let (v, a, b) = bind-some (stringValue t) (counted 0) xs e in
@@ -32,7 +32,7 @@ string-sized t xs e =
     let h = leb-true (length v) 255 (and-right (leb 0 (length v)) (leb (length v) 255) c) in
     (omega arith, omega arith)
 
--- what the next string makes of the strings that are left
+-- the next string, and the strings after it
 pub record Next (us : List Token) (xs : List ℕ) (vs : List Token) : Type 0 where
   pub there : null us ≡ false
   pub first : allStrings us ≡ after xs (allStrings vs)
@@ -74,7 +74,7 @@ bad-string (t ∷ ts) e = by (readString t) refl e
     by none r g = (refl, ap (λ o. consBoth o (eachOf readString ts) >>= λ l. some (flat l)) r)
     by (some ys) r g = let z : _≡_ {A = ℕ} 0 1 = cc in absurd (omega arith)
 
--- A turn of the loop: the strings of ts before us stand from n to m; none does where m is n.
+-- In the loop: the strings of ts before us stand from n to m; there is none yet if m is n.
 pub record Before (o₀ o : List ℕ) (n m : ℕ) (ts us : List Token) : Type 0 where
   pub begun : Begun o₀ o n m (allStrings ts) (allStrings us)
   pub none-yet : m ≤ n → us ≡ ts

@@ -34,7 +34,7 @@ takesOne hexc = true
 takesOne (eui w) = true
 takesOne time = true
 
--- a reader's answer, after which the tokens from j on are left
+-- a reader's answer, with the tokens from j on left
 abbrev pub placedAt : Value → ℕ → Field
 placedAt NoValue j = Fault
 placedAt (ValueUpto m) j = Upto m j
@@ -44,13 +44,13 @@ gotAt NoToken j = Missing
 gotAt BadToken j = Fault
 gotAt (RestUpto m) j = Upto m j
 
--- a field's octets stand in the buffer from a place on, and the tokens from j on are left; or none was there, or a rule is broken
+-- no token was there; or a rule is broken; or the field's octets stand in the buffer, and the tokens from j on are left
 abbrev pub Gives : List ℕ → List ℕ → ℕ → List ℕ → Field → Got → Type 0
 Gives before after place t Missing g = g ≡ noToken
 Gives before after place t Fault g = g ≡ badToken
 Gives before after place t (Upto r j) g = (xs : List ℕ) × (g ≡ got xs (tokens (drop j t))) × Wrote before after place r xs × (j ≤ length t)
 
--- a token is gone; or none was there, and nothing is stored
+-- a token was taken; or there was none, and nothing is stored
 abbrev pub Onward : List ℕ → List ℕ → ℕ → Field → Type 0
 Onward before after i Missing = after ≡ before
 Onward before after i Fault = Unit {0}

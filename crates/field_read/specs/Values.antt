@@ -1,4 +1,4 @@
--- What the one token that a field takes is by the definitions of document 01.
+-- What the one token that a field takes means, by the definitions of document 01.
 use Prim.Native.Nat.{ℕ}
 use mathlib.Core.List.{List}
 use mathlib.Core.Option.{Option, none}
@@ -16,7 +16,7 @@ use Rattle.format.specs.Eui.{readEui}
 use Rattle.format.specs.Time.{readTime}
 use Rattle.format.specs.Run.{bareOf}
 
--- the value of the one token that a field takes; the fields that take all the tokens have none
+-- the value of the one token that a field takes; a field that takes all tokens has none
 abbrev pub tokenValue : Kind → List ℕ → Token → Option (List ℕ)
 tokenValue (int w l) o t = bareOf t >>= readInteger w l
 tokenValue rrtype o t = bareOf t >>= readType

@@ -1,4 +1,4 @@
-// One field's octets from its tokens.
+// Reads one field from its tokens.
 pub mod value;
 
 ghost use Prim.Native.Nat.{ℕ, _^_, _<_, _≤_};
@@ -23,15 +23,15 @@ use stanza_types::Form;
 use tokens::Next;
 use tokens::next_token;
 
-// What a field makes of the tokens that are left: none is there; a rule is broken; or its octets are stored up to a place,
-// and the tokens from another place of the text on are left.
+// What a field makes of the tokens that are left: none is there; a rule is broken; or its octets are stored up to a place, and
+// the tokens from a place in the text on are left.
 pub enum Field {
     Missing,
     Fault,
     Upto(usize, usize),
 }
 
-// A value, after which the tokens from j on are left.
+// The answer for a value, with the tokens from j on left.
 fn before(v: Value, j: usize) -> Field
     ensures { λ r. ⌜ r ≡ placedAt v j ⌝ }
 {
@@ -41,7 +41,7 @@ fn before(v: Value, j: usize) -> Field
     }
 }
 
-// No token is left: N[O] takes none.
+// The answer if no token is left: only N[O] may take none.
 fn none_left(f: Form, n: usize, i: usize) -> Field
     ensures { λ r. ⌜ ((b t : List ℕ) (l : List Symbol) (o : List ℕ) → i ≤ length t → tokens (drop i t) ≡ [] → takesOne (kindOf l f) ≡ true → Gives b b n t r (readField (kindOf l f) o [])) ⌝ }
 {
@@ -53,7 +53,7 @@ fn none_left(f: Form, n: usize, i: usize) -> Field
     Field::Missing
 }
 
-// A field that takes one token.
+// Reads a field that takes one token.
 fn one_token(
     out: &mut [u8],
     n: usize,
@@ -76,7 +76,7 @@ fn one_token(
     }
 }
 
-// The next string.
+// Reads the next string.
 fn string(out: &mut [u8], n: usize, t: &[u8], i: usize) -> Field
     requires { ⌜ (n < 2 ^ 30) × (i ≤ length (now t)) × (length (now t) ≤ 1048576) ⌝ }
     ensures { λ r. ⌜ Gives (now (out .entry)) (now (out .exit)) n (now (t .entry)) r (oneToken readString (tokens (drop i (now (t .entry))))) × Onward (now (out .entry)) (now (out .exit)) i r ⌝ }
@@ -90,7 +90,7 @@ fn string(out: &mut [u8], n: usize, t: &[u8], i: usize) -> Field
     }
 }
 
-// The strings of all the tokens that are left, one at least.
+// Reads the strings of all tokens that are left, at least one.
 fn strings(out: &mut [u8], n: usize, t: &[u8], i: usize) -> Field
     requires { ⌜ (n < 2 ^ 29) × (i ≤ length (now t)) × (length (now t) ≤ 1048576) ⌝ }
     ensures { λ r. ⌜ ((o : List ℕ) → Gives (now (out .entry)) (now (out .exit)) n (now (t .entry)) r (readField strs o (tokens (drop i (now (t .entry)))))) ⌝ }
@@ -117,7 +117,7 @@ fn strings(out: &mut [u8], n: usize, t: &[u8], i: usize) -> Field
     }
 }
 
-// What all the tokens came to, after which none is left from j on.
+// The answer for all tokens; none is left from j on.
 fn all(r: Got, j: usize) -> Field
     ensures { λ q. ⌜ q ≡ gotAt r j ⌝ }
 {
@@ -128,7 +128,7 @@ fn all(r: Got, j: usize) -> Field
     }
 }
 
-// A field from the tokens from i on.
+// Reads a field from the tokens from i on.
 pub fn read_field(
     out: &mut [u8],
     n: usize,

@@ -1,4 +1,4 @@
-// The value of the one token that a field takes, from a to e of the text.
+// Reads the value of the one token that a field takes, which stands in the text from a to e.
 ghost use Prim.Native.Nat.{ℕ, _^_, _<_, _≤_};
 ghost use mathlib.Core.Path.{_≡_};
 ghost use mathlib.Core.Bool.{true};
@@ -16,7 +16,7 @@ use buffer::Value;
 use stanza_types::FieldDesc;
 use stanza_types::Form;
 
-// The value of a bare token.
+// Reads the value of a bare token.
 pub fn of_bare(
     out: &mut [u8],
     n: usize,
@@ -53,7 +53,7 @@ pub fn of_bare(
     }
 }
 
-// The value of a quoted token: only strings have one.
+// Reads the value of a quoted token, which only strings may have.
 pub fn of_quoted(out: &mut [u8], n: usize, f: Form, t: &[u8], a: usize, e: usize) -> Value
     requires { ⌜ (n < 2 ^ 30) × (a ≤ e) × (e ≤ length (now t)) × (length (now t) ≤ 1048576) ⌝ }
     ensures { λ r. ⌜ ((l : List Symbol) (o : List ℕ) → Values (now (out .entry)) (now (out .exit)) n r (tokenValue (kindOf l f) o (quoted (slice a e (now (t .entry)))))) ⌝ }

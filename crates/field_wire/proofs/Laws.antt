@@ -1,4 +1,4 @@
--- A field taken by jumps takes what it takes octet by octet.
+-- A field that is taken by jumps takes what it takes octet by octet.
 use Prim.Native.Nat.{ℕ, zero, suc, _+_, _-_, _≤_, _<_}
 use mathlib.Core.Path.{_≡_, refl, sym, ap, _∙_}
 use mathlib.Core.Bool.{Bool, true, false, cond}
@@ -12,7 +12,7 @@ use Rattle.format.specs.Field.{anyOctets}
 use Rattle.format.proofs.Wire.{takes-end}
 use Rattle.octets.proofs.Slices.{next, none, rest}
 
--- k octets before what is taken
+-- k octets, and then what is taken
 abbrev pub plus : ℕ → Taken → Taken
 plus k short = short
 plus k bad = bad
@@ -33,7 +33,7 @@ plus-plus a b c short h = refl
 plus-plus a b c bad h = refl
 plus-plus a b c (took n) h = ap took (omega arith)
 
--- a stage and the move of the next octet
+-- a stage, and what the next octet does
 moved : (st : Stage) (x : ℕ) (xs : List ℕ) (t : Stage) → step st x ≡ go t → taken st (x ∷ xs) ≡ plus 1 (taken t xs)
 unfolding taken
 moved st x xs t h = rw h (one-plus (taken t xs))
@@ -50,7 +50,7 @@ ended : (st : Stage) (b : Bool) → mayEnd st ≡ b → taken st [] ≡ cond b (
 unfolding taken
 ended st b h = rw h
 
--- Octets of any value inside a label, a string, a block or a fixed field: n of them go by at once.
+-- Octets of any value inside a label, a string, a block or a fixed field: n of them are taken at once.
 module _ (inside : ℕ → Stage) (on : (n x : ℕ) → step (inside (suc n)) x ≡ go (inside n)) (ends : (n : ℕ) → mayEnd (inside n) ≡ false) where
   jump : (n : ℕ) (xs : List ℕ) → n ≤ length xs → taken (inside n) xs ≡ plus n (taken (inside 0) (drop n xs))
   jump zero xs h = plus-none (taken (inside 0) xs)
@@ -63,7 +63,7 @@ module _ (inside : ℕ → Stage) (on : (n x : ℕ) → step (inside (suc n)) x 
   cut zero (x ∷ xs) h = absurd (omega arith)
   cut (suc n) (x ∷ xs) h = moved (inside (suc n)) x xs (inside n) (on n x) ∙ ap (plus 1) (cut n xs (omega arith))
 
-  -- with the last of them
+  -- including the last of them
   all-of : (n : ℕ) (t : Stage) (xs : List ℕ) → ((x : ℕ) → step (inside 0) x ≡ go t) → suc n ≤ length xs → taken (inside n) xs ≡ plus (suc n) (taken t (drop (suc n) xs))
   all-of n t xs last h =
       jump n xs (omega arith)
@@ -95,11 +95,11 @@ module _ (s : List ℕ) (i e : ℕ) (l : e ≤ length s) where
   pub rest-all : i < e → took (e - i) ≡ taken (toTheEnd false) (slice i e s)
   rest-all h = sym (takes-end false (slice i e s) (λ _. omega (arith, long)) ∙ ap took long)
 
-  -- nothing is there
+  -- no octet is left
   pub nothing : (st : Stage) (b : Bool) → mayEnd st ≡ b → e ≤ i → cond b (took 0) short ≡ taken st (slice i e s)
   nothing st b m h = sym (ap (taken st) (none s i e h) ∙ ended st b m)
 
--- Where a field stands, with its next octet x.
+-- A field at some stage, with at least one octet left.
 module _ (s : List ℕ) (i e : ℕ) (l : e ≤ length s) (h : i < e) where
   first : (st : Stage) → taken st (slice i e s) ≡ taken st (getD s i 0 ∷ slice (i + 1) e s)
   first st = ap (taken st) (next s i e h l)
@@ -107,7 +107,7 @@ module _ (s : List ℕ) (i e : ℕ) (l : e ≤ length s) (h : i < e) where
   left : length (slice (i + 1) e s) ≡ e - (i + 1)
   left = length-slice (i + 1) e s l
 
-  -- the next octet breaks the rule, ends the field, or leads on
+  -- the next octet breaks the rule, ends the field, or goes on
   next-faults : (st : Stage) → step st (getD s i 0) ≡ fault → taken st (slice i e s) ≡ bad
   next-faults st p = first st ∙ faulted st (getD s i 0) (slice (i + 1) e s) p
 
@@ -117,7 +117,7 @@ module _ (s : List ℕ) (i e : ℕ) (l : e ≤ length s) (h : i < e) where
   next-goes : (st t : Stage) → step st (getD s i 0) ≡ go t → taken st (slice i e s) ≡ plus 1 (taken t (slice (i + 1) e s))
   next-goes st t p = first st ∙ moved st (getD s i 0) (slice (i + 1) e s) t p
 
-  -- it is the length of octets of any value, which are cut, or lead to the stage t
+  -- it is a length: so many octets of any value are cut short, or lead to the stage t
   module _ (inside : ℕ → Stage) (on : (n x : ℕ) → step (inside (suc n)) x ≡ go (inside n)) (ends : (n : ℕ) → mayEnd (inside n) ≡ false) where
     counted-cut : (st : Stage) (n : ℕ) → step st (getD s i 0) ≡ go (inside n) → e - i ≤ suc n → taken st (slice i e s) ≡ short
     counted-cut st n p k = next-goes st (inside n) p ∙ ap (plus 1) (cut inside on ends n (slice (i + 1) e s) (omega (arith, left)))
@@ -130,7 +130,7 @@ module _ (s : List ℕ) (i e : ℕ) (l : e ≤ length s) (h : i < e) where
         ∙ plus-plus 1 (suc n) (1 + suc n) (taken t (drop (suc n) (slice (i + 1) e s))) refl
         ∙ ap (λ x. plus (1 + suc n) (taken t x)) (rest s (i + 1) (suc n) e)
 
-  -- a count of lo or more
+  -- a count of at least lo
   pub count-low : (lo : ℕ) → getD s i 0 < lo → bad ≡ taken (count lo) (slice i e s)
   count-low lo k = sym (next-faults (count lo) (rw (lt-ltb (getD s i 0) lo k)))
 
@@ -156,7 +156,7 @@ module _ (s : List ℕ) (i e : ℕ) (l : e ≤ length s) (h : i < e) where
       next-goes (stringCount b) (stringCount true) (rw (← p)) ∙ ap (λ x. plus 1 (taken (stringCount true) (slice x e s))) z
   string-all b (suc n) p q = counted-all stringOctet (λ n x. refl) (λ n. refl) (stringCount b) (stringCount true) n (string-goes b n p) (λ x. refl) q
 
-  -- whether the input may end before it does not matter
+  -- if an octet is left, it does not matter whether the input might end
   pub string-there : (b c : Bool) → taken (stringCount b) (slice i e s) ≡ taken (stringCount c) (slice i e s)
   unfolding taken
   string-there b c = first (stringCount b) ∙ by (getD s i 0) ∙ sym (first (stringCount c))
@@ -221,7 +221,7 @@ module _ (s : List ℕ) (i e : ℕ) (l : e ≤ length s) (h : i < e) where
     block-cut zero p k q = absurd (omega arith)
     block-cut (suc n) p k q = counted-cut (blockOctet w) (λ n x. refl) (λ n. refl) (blockCount w) n (block-goes n p k) q
 
-    -- as far as the last octet
+    -- up to the last octet of the block
     block-last : (n : ℕ) → suc n ≡ getD s i 0 → suc n ≤ 32 → suc n < e - i → taken (blockCount w) (slice i e s) ≡ plus (suc n) (taken (blockOctet w 0) (slice (i + suc n) e s))
     block-last n p k q =
         let z : i + 1 + n ≡ i + suc n = omega arith in
@@ -231,11 +231,11 @@ module _ (s : List ℕ) (i e : ℕ) (l : e ≤ length s) (h : i < e) where
         ∙ ap (λ x. plus (suc n) (taken (blockOctet w 0) x)) (rest s (i + 1) n e)
         ∙ ap (λ x. plus (suc n) (taken (blockOctet w 0) (slice x e s))) z
 
--- a whole and what is left of it from j, of which a octets and n more go by
+-- what is taken from i on, given what is taken from j on, after a + n more octets
 goes-on : (i j a n : ℕ) (x y z : Taken) → i ≤ j → x ≡ plus (j - i) y → y ≡ plus (a + n) z → x ≡ plus (j + a + n - i) z
 goes-on i j a n x y z h p q = p ∙ ap (plus (j - i)) q ∙ plus-plus (j - i) (a + n) (j + a + n - i) z (omega arith)
 
--- the whole, where z is what is left
+-- what is taken in all, if z is taken of what is left
 pub whole : (k : ℕ) (x y z : Taken) → x ≡ plus k y → y ≡ z → plus k z ≡ x
 whole k x y z p q = sym (p ∙ ap (plus k) q)
 
@@ -265,7 +265,7 @@ label-again s i j e l h n x o v p a b c d =
     goes-on i j 1 n x (taken (labelLength false (j - i)) (slice j e s)) (taken (labelLength false (j - i + 1 + n)) (slice (j + 1 + n) e s)) o v (label-all s j e l h (j - i) n p a b c d)
     ∙ ap (λ k. plus (j + 1 + n - i) (taken (labelLength false k) (slice (j + 1 + n) e s))) z
 
--- a whole block from j: its window, its count n and its octets
+-- a whole block at j: its window, its count n and its octets
 module _ (s : List ℕ) (j e : ℕ) (l : e ≤ length s) (h : j < e) (lo : ℕ) (r : lo ≤ getD s j 0) where
   abbrev here : List ℕ
   here = slice j e s

@@ -1,4 +1,4 @@
-// One field taken off the wire, by jumps over the lengths that it gives.
+// Takes one field off the wire, jumping by the lengths that it gives.
 ghost use Prim.Native.Nat.{ℕ, _-_, _≤_};
 ghost use lib.ListN.{length};
 ghost use lib.Seq.{slice};
@@ -11,14 +11,14 @@ ghost use Rattle.stanza_types.specs.Types.{kindOf};
 ghost use Rattle.field_wire.specs.Wire.{takenIn};
 use stanza_types::Form;
 
-// What a field takes from its place on: octets are absent, one breaks its rule, or it takes so many.
+// What a field takes: octets are absent; one breaks its rule; or it takes a number of octets.
 pub enum Take {
     Short,
     Bad,
     Took(usize),
 }
 
-// w octets of any value; their values do not matter.
+// Takes w octets of any value, which need not be looked at.
 fn octets(i: usize, e: usize, w: usize) -> Take
     requires { ⌜ (i ≤ e) × (1 ≤ w) ⌝ }
     ensures { λ r. ⌜ ((s : List ℕ) → e ≤ length s → takenIn r ≡ taken (anyOctets w) (slice i e s)) ⌝ }
@@ -29,7 +29,7 @@ fn octets(i: usize, e: usize, w: usize) -> Take
     Take::Took(w)
 }
 
-// Octets to the end, one at least.
+// Takes all octets to the end, at least one.
 fn rest(i: usize, e: usize) -> Take
     requires { ⌜ i ≤ e ⌝ }
     ensures { λ r. ⌜ ((s : List ℕ) → e ≤ length s → takenIn r ≡ taken (toTheEnd false) (slice i e s)) ⌝ }
@@ -40,7 +40,7 @@ fn rest(i: usize, e: usize) -> Take
     Take::Short
 }
 
-// A count of lo or more, and as many octets.
+// Takes a count of at least lo, and as many octets.
 fn counted(s: &[u8], i: usize, e: usize, lo: u8) -> Take
     requires { ⌜ (i ≤ e) × (e ≤ length (now s)) ⌝ }
     ensures { λ r. ⌜ takenIn r ≡ taken (count lo) (slice i e (now (s .entry))) ⌝ }
@@ -59,7 +59,7 @@ fn counted(s: &[u8], i: usize, e: usize, lo: u8) -> Take
     Take::Took(1 + n)
 }
 
-// A name: labels, each after its length, and the closing zero.
+// Takes a name: labels, each after its length, and the closing zero; or nothing, if it is optional.
 pub fn name(s: &[u8], i: usize, e: usize, optional: bool) -> Take
     requires { ⌜ (i ≤ e) × (e ≤ length (now s)) ⌝ }
     ensures { λ r. ⌜ takenIn r ≡ taken (labelLength optional 0) (slice i e (now (s .entry))) ⌝ }
@@ -90,7 +90,7 @@ pub fn name(s: &[u8], i: usize, e: usize, optional: bool) -> Take
     Take::Short
 }
 
-// Counted strings to the end, one at least.
+// Takes counted strings to the end, at least one.
 fn strings(s: &[u8], i: usize, e: usize) -> Take
     requires { ⌜ (i ≤ e) × (e ≤ length (now s)) ⌝ }
     ensures { λ r. ⌜ takenIn r ≡ taken (stringCount false) (slice i e (now (s .entry))) ⌝ }
@@ -109,7 +109,7 @@ fn strings(s: &[u8], i: usize, e: usize) -> Take
     Take::Took(j - i)
 }
 
-// Blocks to the end: a window, higher than those before, a count of 1 to 32, and octets of which the last is not zero.
+// Takes blocks to the end: a window higher than those before, a count of 1 to 32, and octets of which the last is not zero.
 fn bitmap(s: &[u8], i: usize, e: usize) -> Take
     requires { ⌜ (i ≤ e) × (e ≤ length (now s)) ⌝ }
     ensures { λ r. ⌜ takenIn r ≡ taken (window 0) (slice i e (now (s .entry))) ⌝ }
@@ -143,7 +143,7 @@ fn bitmap(s: &[u8], i: usize, e: usize) -> Take
     Take::Took(j - i)
 }
 
-// The octets of an integer or an EUI, where none means one.
+// The number of octets of an integer or an EUI; 1 if it is 0.
 fn width(w: u8) -> usize
     ensures { λ r. ⌜ (1 ≤ r) × (r - 1 ≡ w - 1) ⌝ }
 {
@@ -153,7 +153,7 @@ fn width(w: u8) -> usize
     w as usize
 }
 
-// The field of a form.
+// Takes a field of the form f.
 pub fn take_field(f: Form, s: &[u8], i: usize, e: usize) -> Take
     requires { ⌜ (i ≤ e) × (e ≤ length (now s)) ⌝ }
     ensures { λ r. ⌜ ((l : List Symbol) → takenIn r ≡ taken (start (kindOf l f)) (slice i e (now (s .entry)))) ⌝ }

@@ -1,4 +1,4 @@
--- Laws of a job's form, gone through section by section.
+-- Laws of a job's form, read section by section.
 use Prim.Native.Nat.{ℕ, _+_, _≤_, _<_}
 use mathlib.Core.Path.{_≡_, refl, ap, _∙_}
 use mathlib.Core.Bool.{Bool, true, false, cond}
@@ -27,7 +27,7 @@ use Rattle.job_form.specs.Lines.{linesAt, Sections}
 use Rattle.job_form.specs.Form.{lastOf, Lasts, After, afterOf, AfterAt, Rests, jobWithin, Formed}
 use Rattle.job_form.proofs.Places.{no-lines, some-lines, line-some}
 
--- a section where nothing follows, and one where something does
+-- a section that nothing follows, and one that something follows
 null-none : (ls : List (List ℕ)) → 1 ≤ length ls → null ls ≡ false
 null-none [] h = absurd (omega arith)
 null-none (l ∷ ls) h = refl
@@ -158,7 +158,7 @@ job-after xs = by (section (linesAt xs 0))
     by none = refl
     by (some s) = origin s (section (s .later))
 
--- octets that were stored with room for all of them
+-- octets that are stored with room for all of them
 stored-front : (before after t : List ℕ) (n : ℕ) → Wrote before after 0 n t → length t ≤ length before → take n after ≡ t
 stored-front before after t n w h = rw (w .octets, sets-eq t before 0 (omega arith)) (take-at t (drop (0 + length t) before) n (omega (arith, w .count)))
 

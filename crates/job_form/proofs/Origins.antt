@@ -1,4 +1,4 @@
--- A name is absolute where another origin gives the same length.
+-- A name is absolute if an origin of another length gives it the same length.
 use Prim.Native.Nat.{ℕ, zero, suc, _+_, _-_, _≤_, _<_}
 use mathlib.Core.Path.{_≡_, refl, sym, ap, _∙_}
 use mathlib.Core.Bool.{Bool, true, false, cond}
@@ -62,7 +62,7 @@ label-adds l (some v) w e = (v, refl, by (inRange 1 63 (length l)) e)
     by true q = let s : withCount l ++ v ≡ w = cc in omega (arith, ap length s, length-append (withCount l) v)
     by false q = cc
 
--- a name that the origin ends is longer by what another origin is longer
+-- a name that ends with the origin grows by what another origin is longer
 wire-longer : (ps : List (List ℕ)) → ends-dotted ps ≡ false → (o q w v : List ℕ) → wireName (some o) ps ≡ some w → wireName (some q) ps ≡ some v → length w + length q ≡ length v + length o
 unfolding wireName
 wire-longer [] h o q w v e f = cc
@@ -77,7 +77,7 @@ wire-longer (l ∷ m ∷ ls) h o q w v e f =
     let (v′, f′, b) = label-adds l (wireName (some q) (m ∷ ls)) v f in
     omega (arith, wire-longer (m ∷ ls) h o q w′ v′ e′ f′)
 
--- A text spells an absolute name, or none, under every origin; or else one that is longer by what another origin is longer.
+-- Under every origin a text spells the same absolute name, or none; or a name that grows by what another origin is longer.
 data Spells (t : List ℕ) : Type 0 where
   absolute : ((o : List ℕ) → readName o t ≡ nameOf none t) → Spells t
   relative : nameOf none t ≡ none → ((o q w v : List ℕ) → readName o t ≡ some w → readName q t ≡ some v → length w + length q ≡ length v + length o) → Spells t
@@ -116,7 +116,7 @@ spells t = by (sameOctets t (64 ∷ [])) refl (sameOctets t (46 ∷ [])) refl (u
         ends true h = absolute (λ o. rw (p, q, r, wire-absolute (pieces-of is) h o))
         ends false h = relative (rw (q, r, wire-relative (pieces-of is) h)) (λ o z w v e f. wire-longer (pieces-of is) h o z w v (short-some _ w (rw (p, q, r) at e)) (short-some _ v (rw (p, q, r) at f)))
 
--- so two origins of different lengths tell
+-- so two origins of different lengths tell whether a name is absolute
 no-end : (t : List ℕ) → Spells t → (o : List ℕ) → readName o t ≡ none → nameOf none t ≡ none
 no-end t (absolute f) o e = sym (f o) ∙ e
 no-end t (relative n f) o e = n
@@ -178,7 +178,7 @@ module _ (t : List ℕ) (r : Next) (k : tokensBy t r ≡ tokens t) where
     pub whole-token : length t ≤ e - a → (o₁ o₂ : List ℕ) (v : Value) → Values o₁ o₂ 0 v (nameOf none t) → Values o₁ o₂ 0 v (originToken t (tokens t))
     whole-token h o₁ o₂ v x = rw (bare-name, whole-part t a e (bare-within .0) (bare-within .1) h, same-octets t) x
 
--- one line
+-- the origin's section has exactly one line
 pub not-one : (ls : List (List ℕ)) (n : ℕ) → n ≤ length ls → (n ≡ 1 → ⊥) → originOf (take n ls) ≡ none
 not-one ls zero h d = refl
 not-one ls (suc zero) h d = absurd (d refl)

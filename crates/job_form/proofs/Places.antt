@@ -1,4 +1,4 @@
--- Laws of the lines of a job that is gone through by a place.
+-- Laws of the lines of a job, by the place that was reached.
 use Prim.Native.Nat.{ℕ, zero, suc, _+_, _-_, _≤_, _<_}
 use mathlib.Core.Path.{_≡_, refl, sym, ap, ap₂, _∙_}
 use mathlib.Core.List.{List, [], _∷_, _++_, map}
@@ -57,7 +57,7 @@ line-ends j at h =
     (stopped (inClass NotNewline) (slice at (length j) j) (getD j (lineEnd j at) 0) (slice (lineEnd j at + 1) (length j) j)
     (sym (front-rest (inClass NotNewline) j at (length j)) ∙ next j (lineEnd j at) (length j) h (omega arith))))
 
--- one octet more
+-- a line with its LF
 with-newline : (j : List ℕ) (at e : ℕ) → at ≤ e → e < length j → getD j e 0 ≡ 10 → slice at (e + 1) j ≡ slice at e j ++ 10 ∷ []
 with-newline j at e h l q =
     slice-append j at e (e + 1) h (omega arith) (omega arith)
@@ -74,7 +74,7 @@ ends-line j at e h q =
       within = w;
     })
 
--- Lines passed one by one: what is told of the others holds of all.
+-- Lines that are skipped one by one: the answer for the others is the answer for all.
 module _ {j : List ℕ} {m e : ℕ} (l : NextLine j m e) where
   line-text : (to : ℕ) (ts : List (List ℕ)) → e + 1 ≤ to → to ≤ length j → ended ts ≡ slice (e + 1) to j → ended (slice m e j ∷ ts) ≡ slice m to j
   line-text to ts h w q =
@@ -104,7 +104,7 @@ skips-none j at h = record { enough = omega arith; later = refl; text = λ w. sy
 pub skips-short : (j : List ℕ) (at n : ℕ) → length j ≤ at → 0 < n → Skips j at n Short
 skips-short j at n h k = omega (arith, ap length (no-lines j at h))
 
--- a section after its count
+-- a section after its line count
 pub no-section : (j : List ℕ) (at : ℕ) → length j ≤ at → section (linesAt j at) ≡ none
 no-section j at h = ap section (no-lines j at h)
 

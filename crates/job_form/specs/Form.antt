@@ -1,4 +1,4 @@
--- A job's form, and what the code's answers for it mean, by the definitions of document 01.
+-- What the code's answers for a job's form mean, by the definitions of document 01.
 use Prim.Native.Nat.{ℕ, _≤_, _<_}
 use mathlib.Core.Path.{_≡_}
 use mathlib.Core.Bool.{cond}
@@ -27,7 +27,7 @@ abbrev pub Lasts : List ℕ → ℕ → Last → Type 0
 Lasts j at NoLast = lastOf (linesAt j at) ≡ none
 Lasts j at (From from) = lastOf (linesAt j at) ≡ some (linesAt j from)
 
--- the sections after the stanza
+-- what the sections after the stanza hold
 pub record After : Type 0 where
   pub origin : List ℕ
   pub records : List (List ℕ)
@@ -39,7 +39,7 @@ afterOf ls = do
   origin ← originOf (o .body)
   some (record { origin = origin; records = records })
 
--- the origin's n octets stand at the start of the buffer
+-- the sections after the stanza are found, and the origin's n octets stand at the start of the buffer
 pub record AfterAt (j : List ℕ) (at : ℕ) (before after : List ℕ) (n records : ℕ) : Type 0 where
   pub origin : List ℕ
   pub found : afterOf (linesAt j at) ≡ some (record { origin = origin; records = linesAt j records })
@@ -55,7 +55,7 @@ Rests j at before after (Found n records) = AfterAt j at before after n records
 abbrev pub jobWithin : List ℕ → Option Job
 jobWithin xs = cond (leb (length xs) maxJob) (jobOf xs) none
 
--- The job by its places: the stanza's octets, the origin's at the start of the buffer, and the lines from the first record on.
+-- The job, given its places: the stanza's octets, the origin at the start of the buffer, and the lines from the first record on.
 abbrev pub jobAt : List ℕ → List ℕ → Places → Job
 jobAt j buffer p = record { stanza = slice (p .from) (p .to) j; origin = take (p .origin) buffer; records = linesAt j (p .records) }
 

@@ -16,14 +16,14 @@ use Rattle.job_form.specs.declared.lines.Section.the-variants.{Bad, Line
 abbrev pub linesAt : List ℕ → ℕ → List (List ℕ)
 linesAt j at = linesOf (drop at j)
 
--- the first of them ends at e, and the others follow its LF
+-- the first of these lines ends at e, and the others follow its LF
 pub record NextLine (j : List ℕ) (at e : ℕ) : Type 0 where
   pub lines : linesAt j at ≡ slice at e j ∷ linesAt j (e + 1)
   pub text : e < length j → slice at (e + 1) j ≡ slice at e j ++ 10 ∷ []
   pub after : at ≤ e
   pub within : e ≤ length j
 
--- The first n end before the place `to`, where the others begin. If the last of them has its LF, all of them have.
+-- The first n lines end before the place `to`, where the others begin. If the last of them has its LF, all of them have.
 pub record LinesTo (j : List ℕ) (at n to : ℕ) : Type 0 where
   pub enough : n ≤ length (linesAt j at)
   pub later : drop n (linesAt j at) ≡ linesAt j to

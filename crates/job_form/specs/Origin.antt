@@ -1,4 +1,4 @@
--- Values that end alike.
+-- Two values that end at the same place.
 use mathlib.Core.Bool.{cond}
 use lib.Dec.{eqb}
 use Rattle.buffer.specs.declared.Value.{Value}

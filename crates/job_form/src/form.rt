@@ -1,4 +1,4 @@
-// The form of a job.
+// Reads the form of a job.
 ghost use Prim.Native.Nat.{_≤_};
 ghost use lib.ListN.{length};
 ghost use Rattle.job_form.specs.Form.{Lasts, Rests, Forms};
@@ -15,25 +15,25 @@ pub struct Places {
     pub records: usize,
 }
 
-// A job: it breaks the form, or its places.
+// The form of a job: it is broken; or the job's places.
 pub enum Form {
     Bad,
     Good(Places),
 }
 
-// The last section: none, or where its lines begin.
+// The last section: none; or where its lines begin.
 enum Last {
     NoLast,
     From(usize),
 }
 
-// What follows the stanza: none, or the count of the origin's octets, and where the records begin.
+// What follows the stanza: nothing that keeps the form; or the number of the origin's octets and where the records begin.
 enum Rest {
     NoRest,
     Found(usize, usize),
 }
 
-// The section that begins at a place, if nothing follows it.
+// The section that begins at `at`, if nothing follows it.
 fn last_section(j: &[u8], at: usize) -> Last
     ensures { λ r. ⌜ Lasts (now (j .entry)) at r ⌝ }
 {
@@ -49,7 +49,7 @@ fn last_section(j: &[u8], at: usize) -> Last
     }
 }
 
-// The origin and the records.
+// Reads the origin and the records, from `at` on.
 fn after_stanza(j: &[u8], at: usize, origin: &mut [u8]) -> Rest
     requires { ⌜ length (now j) ≤ 65535 ⌝ }
     ensures { λ r. ⌜ Rests (now (j .entry)) at (now (origin .entry)) (now (origin .exit)) r ⌝ }
@@ -73,7 +73,7 @@ fn after_stanza(j: &[u8], at: usize, origin: &mut [u8]) -> Rest
     }
 }
 
-// A job's places; its origin stands at the start of the lent buffer.
+// Reads a job's places; its origin is stored at the start of the lent buffer.
 pub fn read_form(j: &[u8], origin: &mut [u8]) -> Form
     requires { ⌜ 255 ≤ length (now origin) ⌝ }
     ensures { λ r. ⌜ Forms (now (j .entry)) (now (origin .exit)) r ⌝ }

@@ -1,4 +1,4 @@
-// A job's form: its sections by their places, and its origin.
+// The form of a job: the places of its sections, and its origin.
 pub mod form;
 pub mod lines;
 pub mod origin;

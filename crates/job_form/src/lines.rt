@@ -4,19 +4,19 @@ ghost use lib.ListN.{length};
 ghost use Rattle.job_form.specs.Lines.{NextLine, Skips, Sections};
 use octets::Number;
 
-// So many lines: they are too few, or the place after them.
+// The answer to skipping lines: there are too few; or the place after them.
 pub enum Skipped {
     Short,
     To(usize),
 }
 
-// A section: none, or where its lines begin, the place after them, and their count.
+// A section: none; or where its lines begin, the place after them, and their number.
 pub enum Section {
     Bad,
     Lines(usize, usize, u64),
 }
 
-// The end of the line that begins at a place.
+// The end of the line that begins at `at`.
 pub fn line_end(j: &[u8], at: usize) -> usize
     requires { ⌜ at < length (now j) ⌝ }
     ensures { λ r. ⌜ NextLine (now (j .entry)) at r ⌝ }
@@ -24,7 +24,7 @@ pub fn line_end(j: &[u8], at: usize) -> usize
     octets::line_end(j, at)
 }
 
-// The n lines from a place on.
+// Skips n lines from `at` on.
 fn skip_lines(j: &[u8], at: usize, n: u64) -> Skipped
     requires { ⌜ at ≤ length (now j) + 1 ⌝ }
     ensures { λ r. ⌜ Skips (now (j .entry)) at n r ⌝ }
@@ -42,7 +42,7 @@ fn skip_lines(j: &[u8], at: usize, n: u64) -> Skipped
     Skipped::To(m)
 }
 
-// The section whose count is the line that begins at a place.
+// The section whose line count is the line that begins at `at`.
 pub fn read_section(j: &[u8], at: usize) -> Section
     ensures { λ r. ⌜ Sections (now (j .entry)) at r ⌝ }
 {

@@ -1,4 +1,4 @@
-// The origin of a job.
+// Reads the origin of a job.
 ghost use Prim.Native.Nat.{_≤_};
 ghost use mathlib.Core.Path.{_≡_};
 ghost use mathlib.Core.Option.{none};
@@ -13,7 +13,7 @@ use crate::lines::line_end;
 use buffer::Value;
 use tokens::Next;
 
-// The end of two values that end alike.
+// The end of two values if it is the same, else a fault.
 fn same_end(x: Value, y: Value) -> Value
     ensures { λ r. ⌜ r ≡ sameEnd x y ⌝ }
 {
@@ -31,7 +31,7 @@ fn same_end(x: Value, y: Value) -> Value
     }
 }
 
-// The absolute name that a text spells: one that is as long under a longer origin.
+// Reads the absolute name that a text spells: a name is absolute if it is as long under a longer origin.
 fn absolute_name(out: &mut [u8], t: &[u8]) -> Value
     requires { ⌜ length (now t) ≤ 1048576 ⌝ }
     ensures { λ r. ⌜ Values (now (out .entry)) (now (out .exit)) 0 r (nameOf none (now (t .entry))) ⌝ }
@@ -42,7 +42,7 @@ fn absolute_name(out: &mut [u8], t: &[u8]) -> Value
     same_end(x, y)
 }
 
-// The absolute name that a line is, as one bare token.
+// Reads a line that is one bare token, an absolute name.
 fn name_line(out: &mut [u8], t: &[u8]) -> Value
     requires { ⌜ length (now t) ≤ 1048576 ⌝ }
     ensures { λ r. ⌜ Values (now (out .entry)) (now (out .exit)) 0 r (originToken (now (t .entry)) (tokens (now (t .entry)))) ⌝ }
@@ -61,7 +61,7 @@ fn name_line(out: &mut [u8], t: &[u8]) -> Value
     }
 }
 
-// The origin that a section of n lines from a place on gives.
+// Reads the origin from its section, of n lines from `at` on.
 pub fn read_origin(out: &mut [u8], j: &[u8], at: usize, n: u64) -> Value
     requires { ⌜ (length (now j) ≤ 65535) × (n ≤ length (linesAt (now j) at)) ⌝ }
     ensures { λ r. ⌜ Values (now (out .entry)) (now (out .exit)) 0 r (originOf (take n (linesAt (now (j .entry)) at))) ⌝ }

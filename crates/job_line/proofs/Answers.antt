@@ -35,14 +35,14 @@ pub ok-octets : (xs : List ℕ) → (length xs ≡ 0 → ⊥) → ascii "ok " ++
 ok-octets [] h = absurd (h refl)
 ok-octets (x ∷ xs) h = refl
 
--- the longest line: of 65,535 octets
+-- the longest line, that of 65,535 octets
 line-most : (a : Answer) → Short a → length (answerLine a) ≤ 131074
 line-most (done []) h = omega arith
 line-most (done (x ∷ xs)) h = omega (arith, hex-length (x ∷ xs), length-append (hexText (x ∷ xs)) (ascii "\n"))
 line-most (refusal n i) h =
     omega (arith, length-append (decimal n ++ ascii " " ++ decimal i) (ascii "\n"), length-append (decimal n ++ ascii " ") (decimal i), length-append (decimal n) (ascii " "), decimal-10 n, decimal-10 i)
 
--- RDATA that is read has no more: else it is refusal 11
+-- RDATA that is read has no more octets; else there is refusal 11
 or-short : (n : ℕ) (b : Bool) (a : Answer) → Short a → Short (orRefusal n b a)
 or-short n true a h = h
 or-short n false a h = tt

@@ -1,4 +1,4 @@
-// The lines that answer a job.
+// Writes the lines that answer a job.
 ghost use Prim.Native.Nat.{_^_, _<_, _≤_};
 ghost use mathlib.Core.Option.{none};
 ghost use lib.ListN.{length};
@@ -10,7 +10,7 @@ use buffer::put_all;
 use buffer::put_octet;
 use digits::put_decimal;
 
-// `ok`, then the octets in hex if there are any.
+// Writes `ok`, then the octets in hex if there are any.
 pub fn put_ok(out: &mut [u8], n: usize, rdata: &[u8]) -> usize
     requires { ⌜ (n < 2 ^ 31) × (length (now rdata) ≤ 65535) ⌝ }
     ensures { λ r. ⌜ Wrote (now (out .entry)) (now (out .exit)) n r (answerLine (done (now (rdata .entry)))) ⌝ }
@@ -23,7 +23,7 @@ pub fn put_ok(out: &mut [u8], n: usize, rdata: &[u8]) -> usize
     put_octet(out, end, b'\n')
 }
 
-// `no`, then a refusal's number and place.
+// Writes `no`, then a refusal's number and place.
 pub fn put_no(out: &mut [u8], n: usize, number: u32, place: u32) -> usize
     requires { ⌜ n < 2 ^ 31 ⌝ }
     ensures { λ r. ⌜ Wrote (now (out .entry)) (now (out .exit)) n r (answerLine (refusal number place)) ⌝ }
@@ -35,7 +35,7 @@ pub fn put_no(out: &mut [u8], n: usize, number: u32, place: u32) -> usize
     put_octet(out, end, b'\n')
 }
 
-// The line that answers a job that breaks the form.
+// Writes the line that answers a job that breaks the form.
 pub fn put_bad_job(out: &mut [u8], n: usize) -> usize
     requires { ⌜ n < 2 ^ 31 ⌝ }
     ensures { λ r. ⌜ Wrote (now (out .entry)) (now (out .exit)) n r (written none) ⌝ }

@@ -1,4 +1,4 @@
--- Laws of what reading left for a record, and the line that it gives.
+-- Laws of what reading a record answered and left, and of the line for it.
 use Prim.Native.Nat.{ℕ, zero, suc, _+_, _-_, _≤_, _<_}
 use mathlib.Core.Path.{_≡_, refl, sym, ap, _∙_}
 use mathlib.Core.Bool.{true}
@@ -21,7 +21,7 @@ use Rattle.entry_read.proofs.Readings.{read-rejected}
 use Rattle.entry.proofs.Numbers.{read-told, zero-done}
 use Rattle.job_record.specs.Answer.{lineUnder}
 
--- What reading left in a buffer with room for any RDATA is its answer.
+-- What reading leaves in a buffer with room for any RDATA is its answer.
 module _ (a : Answer) (h : Short a) (out : List ℕ) (big : 65535 ≤ length out) where
   pub refused-answer : (number place : ℕ) → number ≡ outcome out 0 (ifRoom (room out 0) a) .number → place ≡ outcome out 0 (ifRoom (room out 0) a) .place → (number ≡ 0 → ⊥) → a ≡ refusal number place
   refused-answer number place p q z = by a h p q
@@ -49,7 +49,7 @@ module _ (a : Answer) (h : Short a) (out : List ℕ) (big : 65535 ≤ length out
         let z : place - 0 ≡ length t = omega (arith, done-place) in
         rw (f, z) (take-at t (drop (0 + length t) out) (length t) refl)
 
--- Under a judged stanza, as many fields as were counted give each record's answer.
+-- Under a judged stanza, the number of fields that were counted gives each record's answer.
 pub counted-answer : {s codes : List ℕ} {o : Outline} → Outlined s codes o → (origin t : List ℕ) → length t ≤ 1048576 → reading s 1 (o .count) origin t ≡ reading s 1 (fieldCount (judged s)) origin t
 counted-answer {s} {codes} {o} q origin t h = by (o .number) refl
   where
@@ -59,7 +59,7 @@ counted-answer {s} {codes} {o} q origin t h = by (o .number) refl
         let p : 0 < o .number = omega arith in
         read-rejected q origin t h 1 (o .count) p ∙ sym (read-rejected q origin t h 1 (fieldCount (judged s)) p)
 
--- So each record's line is that of what reading answered and left.
+-- So each record's line is the line for what reading answered and left.
 module _ {s codes : List ℕ} {o : Outline} (h : Outlined s codes o) (origin t : List ℕ) (l : length t ≤ 1048576) (out : List ℕ) (big : 65535 ≤ length out)
     (r : Reply) (after : List ℕ) (w : Leaves r after (read s 1 (o .count) origin t out 0)) where
   answer : Answer

@@ -1,8 +1,8 @@
--- The line of a record.
+-- The line that answers a record.
 use Prim.Native.Nat.{ℕ}
 use mathlib.Core.List.{List, []}
 use Rattle.format.specs.Job.{recordLine}
 
--- it depends on the job's stanza and origin alone
+-- of the job, it depends on the stanza and the origin only
 abbrev pub lineUnder : List ℕ → List ℕ → List ℕ → List ℕ
 lineUnder stanza origin t = recordLine (record { stanza = stanza; origin = origin; records = [] }) t

@@ -1,4 +1,4 @@
-// The line that answers a record of a job, whose stanza is judged once for all its records.
+// Writes the line that answers a record of a job, whose stanza is judged once for all records.
 ghost use Prim.Native.Nat.{_^_, _≤_, _<_};
 ghost use lib.ListN.{length};
 ghost use Rattle.stanza_judge.specs.Stanza.{Outlined};
@@ -8,7 +8,7 @@ use job_line::put_no;
 use job_line::put_ok;
 use stanza_judge::Outline;
 
-// The line that answers a record under a judged stanza. Its RDATA is read into a buffer that has room for any.
+// Writes the line that answers a record under a judged stanza. RDATA is read into `rdata`, which has room for any.
 pub fn put_record(
     out: &mut [u8],
     n: usize,

@@ -1,5 +1,4 @@
--- What is written for a job, record by record: a program that writes `bad job` for a bad form, and else the line of each
--- record from the first on, writes what the definition says.
+-- What is written for a job, record by record: a program that writes `bad job` for a bad form, else the line of each record, writes what the definition says.
 use Prim.Native.Nat.{ℕ, _+_, _≤_}
 use mathlib.Core.Path.{_≡_, ap, _∙_}
 use mathlib.Core.List.{List, [], _++_}
@@ -22,7 +21,7 @@ module _ (j buffer : List ℕ) where
   pub good-written : (p : Places) → Forms j buffer (Good p) → job j ≡ flatMap (recordLine (jobAt j buffer p)) (linesAt j (p .records))
   good-written p f = job-written j ∙ ap written (f .job)
 
--- the lines of the records from a place on: the next one's, then those after it; or none
+-- the lines of the records from a place on: the next one, then those after it; or none
 module _ (f : List ℕ → List ℕ) (j : List ℕ) (at : ℕ) where
   pub next-written : (e : ℕ) → NextLine j at e → flatMap f (linesAt j at) ≡ f (slice at e j) ++ flatMap f (linesAt j (e + 1))
   next-written e l = ap (flatMap f) (l .lines)

@@ -44,7 +44,7 @@ pub line-lent : (j g : List ℕ) (from to end m e : ℕ) → from ≤ to → m �
     → lineUnder (take (to - from) (drop from j)) (take (end - 0) (drop 0 g)) (take (e - m) (drop m j)) ≡ lineUnder (slice from to j) (take end g) (slice m e j)
 line-lent j g from to end m e h k = let z : end - 0 ≡ end = omega arith in rw (lent j from to h, lent j m e k, z)
 
--- A turn that has come to the place m: the text written so far, in which no record takes more than the longest line.
+-- A turn has reached m: the text so far, of at most the longest line for each record, and the lines of the records from m on are what was to be written.
 pub record Reached (f : List ℕ → List ℕ) (j : List ℕ) (at : ℕ) (before now : List ℕ) (m n : ℕ) : Type 0 where
   pub text : List ℕ
   pub wrote : Wrote before now 0 n text
@@ -56,7 +56,7 @@ pub record Reached (f : List ℕ → List ℕ) (j : List ℕ) (at : ℕ) (before
 pub reached-none : (f : List ℕ → List ℕ) (j : List ℕ) (at : ℕ) (out : List ℕ) → Reached f j at out out at 0
 reached-none f j at out = record { text = []; wrote = wrote-none out 0; fits = omega arith; rest = refl; after = omega arith; few = omega arith }
 
--- one record more
+-- one more record
 module _ (stanza origin : List ℕ) {j : List ℕ} {at : ℕ} {before now : List ℕ} {m n : ℕ} (r : Reached (lineUnder stanza origin) j at before now m n) where
   pub reached-next : {e : ℕ} → NextLine j m e → 131074 ≤ length now - n → (after : List ℕ) (k : ℕ) → Wrote now after n k (lineUnder stanza origin (slice m e j))
       → Reached (lineUnder stanza origin) j at before after (e + 1) k
@@ -72,7 +72,7 @@ module _ (stanza origin : List ℕ) {j : List ℕ} {at : ℕ} {before now : List
         few = omega (arith, w .count, r .few, r .after, l .after);
       }
 
--- a job whose form is kept
+-- a job that keeps the form
 module _ (j : List ℕ) (b : Job) (g : b .good ≡ true) where
   pub formed : Begins j b → Formed j (b .origin) (b .places)
   formed h = let f : Forms j (b .origin) (formOf b) = h .form in rw g at f
@@ -111,7 +111,7 @@ turn-bad j b at before after n g w h = record {
   further = λ f. absurd (true≢false (sym f));
 }
 
--- a turn keeps the room, and each but the last goes on to a later record
+-- a turn keeps the buffer's length, and each but the last goes on to a later record
 pub turn-kept : {j : List ℕ} {b : Job} {at : ℕ} {before after : List ℕ} {r : Turn} → Turns j b at before after r → length after ≡ length before
 turn-kept t = wrote-length (t .wrote)
 
@@ -125,7 +125,7 @@ turn-less {j} {b} {at} {before} {after} {r} t more h = rw h (by (r .more) (t .fu
     by true f = omega (arith, f refl)
     by false f = omega arith
 
--- What all turns write, one after the other.
+-- What all turns write, one after another.
 pub left-first : (j : List ℕ) (b : Job) → Begins j b → leftAt j b (b .places .records) ≡ job j
 left-first j b h = by (b .good) refl
   where

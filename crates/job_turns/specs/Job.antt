@@ -20,16 +20,16 @@ use Rattle.job_turns.specs.declared.Turn.{Turn}
 abbrev pub formOf : Job → Form
 formOf b = cond (b .good) (Good (b .places)) Bad
 
--- the form is read, and the stanza judged
+-- the form is read, and the stanza is judged
 pub record Begins (j : List ℕ) (b : Job) : Type 0 where
   pub form : Forms j (b .origin) (formOf b)
   pub judged : Outlined (slice (b .places .from) (b .places .to) j) (b .codes) (b .outline)
 
--- what is to be written from a record on
+-- what is still to be written, from the record at `at` on
 abbrev pub leftAt : List ℕ → Job → ℕ → List ℕ
 leftAt j b at = cond (b .good) (flatMap (recordLine (jobAt j (b .origin) (b .places))) (linesAt j at)) (written none)
 
--- A turn wrote the first part of that, and told where the rest begins, if there is one.
+-- A turn wrote the first part of that, and answered where the rest begins, if there is one.
 pub record Turns (j : List ℕ) (b : Job) (at : ℕ) (before after : List ℕ) (r : Turn) : Type 0 where
   pub text : List ℕ
   pub wrote : Wrote before after 0 (r .taken) text
@@ -37,7 +37,7 @@ pub record Turns (j : List ℕ) (b : Job) (at : ℕ) (before after : List ℕ) (
   pub rest : text ++ cond (r .more) (leftAt j b (r .at)) [] ≡ leftAt j b at
   pub further : r .more ≡ true → (at < r .at) × (r .at < length j)
 
--- What turns write that follow one another, from a place on to the last.
+-- What each of several turns in a row writes, from the one at `at` to the last.
 pub data AllTurns (j : List ℕ) (b : Job) : ℕ → List (List ℕ) → Type 0 where
   last : {at : ℕ} {before after : List ℕ} {r : Turn} → Turns j b at before after r → r .more ≡ false → AllTurns j b at (take (r .taken) after ∷ [])
   before-others : {at : ℕ} {before after : List ℕ} {r : Turn} {ws : List (List ℕ)} → Turns j b at before after r → r .more ≡ true → AllTurns j b (r .at) ws

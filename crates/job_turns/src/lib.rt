@@ -1,4 +1,4 @@
-// A job, answered in turns: the stanza is judged once, and then each turn writes the lines of as many records as have room.
+// Answers a job in turns: the stanza is judged once, and each turn writes the lines of as many records as there is room for.
 ghost use Prim.Native.Nat.{_≤_};
 ghost use mathlib.Core.Path.{_≡_};
 ghost use mathlib.Core.Bool.{true};
@@ -12,10 +12,10 @@ use job_line::put_bad_job;
 use job_record::put_record;
 use stanza_judge::Outline;
 
-// The longest RDATA.
+// The most octets that RDATA may have.
 const RDATA: usize = 65535;
 
-// A job: whether it keeps the form, its places, its origin, and its judged stanza with the codes of its fields.
+// A job: whether it keeps the form, its places, its origin, its judged stanza, and the codes of its fields.
 pub struct Job {
     pub good: bool,
     pub places: Places,
@@ -31,7 +31,7 @@ pub struct Turn {
     pub at: usize,
 }
 
-// A job whose form is read.
+// Reads the form of a job, and judges its stanza.
 pub fn begin(j: &[u8]) -> Job
     ensures { λ r. ⌜ Begins (now (j .entry)) r ⌝ }
 {
@@ -69,7 +69,7 @@ pub fn begin(j: &[u8]) -> Job
     }
 }
 
-// The lines of the records from a place on, while there is room for the longest.
+// Writes the lines of the records from `at` on, while there is room for the longest line.
 fn put_lines(out: &mut [u8], j: &[u8], job: Job, at: usize, rdata: &mut [u8; RDATA]) -> Turn
     requires { ⌜ Begins (now j) job × (job .good ≡ true) × (131074 ≤ length (now out)) × (length (now out) ≤ 1048576) ⌝ }
     ensures { λ r. ⌜ Turns (now (j .entry)) job at (now (out .entry)) (now (out .exit)) r ⌝ }
@@ -111,7 +111,7 @@ fn put_lines(out: &mut [u8], j: &[u8], job: Job, at: usize, rdata: &mut [u8; RDA
     }
 }
 
-// The next turn, from a place on: the lines of records, or `bad job`.
+// Takes the next turn, from `at` on: writes the lines of records, or `bad job`.
 pub fn next(out: &mut [u8], j: &[u8], job: Job, at: usize) -> Turn
     requires { ⌜ Begins (now j) job × (131074 ≤ length (now out)) × (length (now out) ≤ 1048576) ⌝ }
     ensures { λ r. ⌜ Turns (now (j .entry)) job at (now (out .entry)) (now (out .exit)) r ⌝ }

@@ -17,7 +17,7 @@ use Rattle.format.proofs.Name.{name-some}
 use Rattle.octets.proofs.Slices.{next, none, rest}
 use Rattle.octets.proofs.Pieces.{pieces-at, pieces-some}
 
--- at most four octets for each octet
+-- the text has at most four octets for each octet of a label
 pub label-length : (p : List ℕ) (i e : ℕ) → e ≤ length p → length (flatMap nameEscape (slice i e p)) ≤ 4 * (e - i)
 label-length p i e l = omega (arith, escapes-bound nameEscape (escape-bound 0x21 (ascii ".\\\"';()@$")) (slice i e p), length-slice i e p l)
 
@@ -60,7 +60,7 @@ module _ (p : List ℕ) (i e : ℕ) (l : e ≤ length p) where
   pub named-first : (b : Bool) → taken (labelLength b 0) (slice i e p) ≡ took (e - i) → Named (slice i e p)
   named-first b h = (b, 0, h ∙ ap took (sym (length-slice i e p l)))
 
-  -- a label that is not the last piece
+  -- a label, and the rest of the name after it
   pub label-at : i + 1 < e → Named (slice i e p) → (i + 1 + getD p i 0 < e) × Named (slice (i + 1 + getD p i 0) e p)
   label-at h w =
       let (a, v) = label-or-end (getD p i 0) (slice (i + 1) e p) (omega (arith, length-slice (i + 1) e p l)) (subst Named (next p i e (omega arith) l) w) in
@@ -83,7 +83,7 @@ module _ (p : List ℕ) (i e : ℕ) (l : e ≤ length p) where
   pub dotted-none : i < e → e ≤ i + 1 → Named (slice i e p) → dotted (slice i e p) ≡ []
   dotted-none a h w = ap dotted (zero-alone a h w)
 
-  -- a name's text: none, the root's, and that of labels
+  -- a name's text: of no octets, of the root, of labels
   pub none-text : e ≤ i → [] ≡ nameText (slice i e p)
   none-text h = sym (ap nameText (none p i e h))
 

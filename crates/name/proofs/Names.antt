@@ -1,4 +1,4 @@
--- A name gone through label by label is what the definition, which works on all its pieces, gives.
+-- Reading a name label by label gives what the definition, which works on all its pieces, gives.
 use Prim.Native.Nat.{ℕ, _+_, _-_, _≤_, _<_}
 use mathlib.Core.Path.{_≡_, refl, sym, ap, subst, _∙_}
 use mathlib.Core.Bool.{Bool, true, false, cond, and-false, and-true}
@@ -40,7 +40,7 @@ dot-first i is h = rw h
 some-label : (is : List Item) → null (labelsOf is) ≡ false
 some-label is = map-some (map octetOf) (split isDot is) (split-some isDot is)
 
--- octets before those of the first piece
+-- the pieces, with octets put before those of the first
 abbrev before : List ℕ → List (List ℕ) → List (List ℕ)
 before p [] = []
 before p (l ∷ ls) = (p ++ l) ∷ ls
@@ -53,7 +53,7 @@ before-one : (p : List ℕ) (x : ℕ) (ps : List (List ℕ)) → before p (consF
 before-one p x [] = refl
 before-one p x (l ∷ ls) = ap (λ q. q ∷ ls) (sym (append-assoc p (x ∷ []) l))
 
--- a label of 1 to 63 octets, and one that is too long
+-- a label of 1 to 63 octets, one that is too long, and an empty one
 label-short : (l w : List ℕ) → 1 ≤ length l → length l ≤ 63 → labelBefore l w ≡ some (withCount l ++ w)
 label-short l w h k = rw (le-leb 1 (length l) h, le-leb (length l) 63 k)
 
@@ -72,7 +72,7 @@ empty-bind : (x : Option (List ℕ)) → (x >>= labelBefore []) ≡ none
 empty-bind none = refl
 empty-bind (some w) = refl
 
--- a label's octets p, then the items that are left
+-- the name whose first label begins with p and goes on with the items that are left
 abbrev named : List ℕ → List ℕ → Option (List Item) → Option (List ℕ)
 named o p x = x >>= λ is. wireName (some o) (before p (labelsOf is))
 
@@ -123,7 +123,7 @@ module _ (o : List ℕ) where
   unfolding wireName unescapedFrom
   spelled-none = refl
 
--- the octet at a place, plain or by an escape
+-- the octet at a place, plain or escaped
 module _ (t : List ℕ) (i e : ℕ) (h : i < e) (l : e ≤ length t) where
   plain-item : eqb (getD t i 0) 92 ≡ false → unescaped (slice i e t) ≡ consBoth (some (plain (getD t i 0))) (unescaped (slice (i + 1) e t))
   plain-item f = ap unescaped (next t i e h l) ∙ plain-unescaped (getD t i 0) (slice (i + 1) e t) (rw f)
@@ -138,7 +138,7 @@ module _ (t : List ℕ) (i e : ℕ) (h : i < e) (l : e ≤ length t) where
   one-escape NoOctet f q w = slash-items f ∙ q
   one-escape (Octet x j) f q w = (escape x, refl, rw f, omega arith, w .1, slash-items f ∙ q)
 
--- A label's octets that stand in the buffer from n + 1 up to m, those of the text from i to j.
+-- The octets of a label, from i to j in the text, stand in the buffer from n + 1 to m: with them, the text from j on spells what it does from i on.
 pub record Part (o₀ o : List ℕ) (n m : ℕ) (t : List ℕ) (i j e : ℕ) : Type 0 where
   pub octets : List ℕ
   pub wrote : Wrote o₀ o (n + 1) m octets
@@ -282,7 +282,7 @@ module _ (o s : List ℕ) (b : ℕ) (f : b ≡ sole s) where
   pub reads-labels : (o₀ o₁ : List ℕ) (n : ℕ) (r : Value) → (b ≡ 64 → ⊥) → (b ≡ 46 → ⊥) → Values o₀ o₁ n r (limited (spelled o s)) → Values o₀ o₁ n r (readName o s)
   reads-labels o₀ o₁ n r h k v = subst (λ x. Values o₀ o₁ n r x) (sym (reads-limited h k)) v
 
--- the octet of a part of one
+-- the octet of a part of one octet
 module _ (t : List ℕ) (a e : ℕ) (h : a ≤ e) (l : e ≤ length t) where
   pub sole-one : e - a ≡ 1 → getD t a 0 ≡ sole (slice a e t)
   sole-one q = sym (ap sole (next t a e (omega arith) l ∙ ap (λ s. getD t a 0 ∷ s) (no-octet t (a + 1) e (omega arith))))

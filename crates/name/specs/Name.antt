@@ -1,4 +1,4 @@
--- A name gone through label by label.
+-- A name that is read label by label.
 use Prim.Native.Nat.{ℕ, _+_, _-_, _≤_, _<_}
 use Prim.Native.Char.{code}
 use mathlib.Core.Path.{_≡_}
@@ -19,17 +19,17 @@ use Rattle.escape.specs.declared.read.Escape.the-variants.{Fault as NoOctet, Oc
 use Rattle.name.specs.declared.read.LabelEnd.{LabelEnd}
 use Rattle.name.specs.declared.read.LabelEnd.the-variants.{Fault as NoLabel, Dot, Last}
 
--- the octet of a text of one, else 0
+-- the octet of a text of one octet, else 0
 abbrev pub sole : List ℕ → ℕ
 sole [] = 0
 sole (x ∷ []) = x
 sole (x ∷ y ∷ xs) = 0
 
--- the pieces between the dots
+-- the texts between the dots
 abbrev pub labelsOf : List Item → List (List ℕ)
 labelsOf is = map (map octetOf) (split isDot is)
 
--- the octets of a name, however many
+-- the octets of the name that a text spells, however many
 abbrev pub spelled : List ℕ → List ℕ → Option (List ℕ)
 spelled origin t = unescaped t >>= λ is. wireName (some origin) (labelsOf is)
 
@@ -40,12 +40,12 @@ limited o = o >>= λ w. provided (leb (length w) 255) w
 abbrev pub limitedEnd : ℕ → ℕ → Value
 limitedEnd n m = cond (leb (m - n) 255) (Upto m) Fault
 
--- the next octet of a label, plain or by an escape
+-- the next octet of a label, plain or escaped
 abbrev pub OneItem : List ℕ → ℕ → ℕ → Escape → Type 0
 OneItem t i e NoOctet = unescaped (slice i e t) ≡ none
 OneItem t i e (Octet x j) = (it : Item) × (octetOf it ≡ x) × (isDot it ≡ eqb (getD t i 0) (code ".")) × (i < j) × (j ≤ e) × (unescaped (slice i e t) ≡ consBoth (some it) (unescaped (slice j e t)))
 
--- A label stands in the buffer after its count, from n up to m: the name goes on after the dot, at k; or the origin follows.
+-- The label stands in the buffer from n to m, after its count. The name goes on at k, after the dot; or the origin follows.
 pub record BeforeDot (before after : List ℕ) (n : ℕ) (t : List ℕ) (i e k m : ℕ) : Type 0 where
   pub label : List ℕ
   pub wrote : Wrote before after n m label
@@ -70,6 +70,6 @@ abbrev pub nameEnd : Bool → List ℕ → List ℕ
 nameEnd true origin = 0 ∷ []
 nameEnd false origin = origin
 
--- the end of a name stands in the buffer from m on, and at most 255 octets from n on
+-- the end of a name stands in the buffer from m on; the result is a fault if the name from n on has more than 255 octets
 abbrev pub Finished : List ℕ → List ℕ → ℕ → ℕ → List ℕ → Value → Type 0
 Finished before after n m end r = (z : ℕ) × Wrote before after m z end × (r ≡ limitedEnd n z)

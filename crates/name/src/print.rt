@@ -1,4 +1,4 @@
-// Names.
+// Prints names.
 ghost use Prim.Native.Nat.{_-_, _^_, _<_, _≤_};
 ghost use mathlib.Core.Path.{_≡_};
 ghost use mathlib.Core.Bool.{true};
@@ -14,7 +14,7 @@ ghost use Rattle.buffer.specs.Writing.{Wrote};
 use buffer::put_octet;
 use escape::print::put_escaped_name;
 
-// The octets of p from i to e, escaped.
+// Writes the octets of p from i to e, escaped.
 fn escaped(out: &mut [u8], n: usize, p: &[u8], i: usize, e: usize) -> usize
     requires { ⌜ (n ≤ 2 ^ 31) × (i ≤ e) × (e ≤ length (now p)) × (length (now p) ≤ 65535) ⌝ }
     ensures { λ r. ⌜ Wrote (now (out .entry)) (now (out .exit)) n r (flatMap nameEscape (slice i e (now (p .entry)))) ⌝ }
@@ -28,7 +28,7 @@ fn escaped(out: &mut [u8], n: usize, p: &[u8], i: usize, e: usize) -> usize
     m
 }
 
-// The labels of a name from i to e, a dot after each.
+// Writes the labels of the name from i to e, a dot after each.
 fn labels(out: &mut [u8], n: usize, p: &[u8], i: usize, e: usize) -> usize
     requires { ⌜ (n < 2 ^ 30) × (i < e) × (e ≤ length (now p)) × (length (now p) ≤ 65535) × (taken (labelLength true 0) (slice i e (now p)) ≡ took (e - i)) ⌝ }
     ensures { λ r. ⌜ Wrote (now (out .entry)) (now (out .exit)) n r (parted (ascii ".") (map (flatMap nameEscape) (pieces (slice i e (now (p .entry)))))) ⌝ }
@@ -44,7 +44,7 @@ fn labels(out: &mut [u8], n: usize, p: &[u8], i: usize, e: usize) -> usize
     m
 }
 
-// The name of p from i to e, or nothing where no octets are.
+// Writes the name in p from i to e, or nothing if there are no octets.
 pub fn name(out: &mut [u8], n: usize, p: &[u8], i: usize, e: usize) -> usize
     requires { ⌜ (n < 2 ^ 30) × (i ≤ e) × (e ≤ length (now p)) × (length (now p) ≤ 65535) × (taken (labelLength true 0) (slice i e (now p)) ≡ took (e - i)) ⌝ }
     ensures { λ r. ⌜ Wrote (now (out .entry)) (now (out .exit)) n r (nameText (slice i e (now (p .entry)))) ⌝ }

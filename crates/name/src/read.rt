@@ -1,4 +1,4 @@
-// Names.
+// Reads names.
 ghost use Prim.Native.Nat.{_^_, _<_, _≤_};
 ghost use mathlib.Core.Path.{_≡_};
 ghost use mathlib.Core.Bool.{true};
@@ -13,15 +13,15 @@ use buffer::put_all;
 use buffer::put_octet;
 use escape::read::Escape;
 
-// What stands after a label: a fault in it; a dot, with the places after it in the text and after the label in the buffer; or
-// the end of the text, with the latter.
+// How a label ends: with a fault; at a dot, with the places after the dot in the text and after the label in the buffer; or at
+// the end of the text, with the place after the label in the buffer.
 enum LabelEnd {
     Fault,
     Dot(usize, usize),
     Last(usize),
 }
 
-// The octet of a text of one, else 0.
+// The octet of a text of one octet, else 0.
 fn sole_octet(t: &[u8], a: usize, e: usize) -> u8
     requires { ⌜ (a ≤ e) × (e ≤ length (now t)) ⌝ }
     ensures { λ r. ⌜ r ≡ sole (slice a e (now (t .entry))) ⌝ }
@@ -32,7 +32,7 @@ fn sole_octet(t: &[u8], a: usize, e: usize) -> u8
     0
 }
 
-// The place m, where at most 255 octets stand from n up to it.
+// The place m, or a fault if there are more than 255 octets from n to m.
 fn limited_end(n: usize, m: usize) -> Value
     requires { ⌜ n ≤ m ⌝ }
     ensures { λ r. ⌜ r ≡ limitedEnd n m ⌝ }
@@ -43,7 +43,7 @@ fn limited_end(n: usize, m: usize) -> Value
     Value::Upto(m)
 }
 
-// The octet at i, or that of the escape that begins there.
+// The octet at i, or the octet of the escape that begins there.
 fn octet(t: &[u8], i: usize, e: usize) -> Escape
     requires { ⌜ (i < e) × (e ≤ length (now t)) ⌝ }
     ensures { λ r. ⌜ OneItem (now (t .entry)) i e r ⌝ }
@@ -55,7 +55,7 @@ fn octet(t: &[u8], i: usize, e: usize) -> Escape
     Escape::Octet(b, i + 1)
 }
 
-// The label that begins at i: its octets, then its count before them.
+// Reads the label that begins at i: stores its octets, and then its count before them.
 fn label(out: &mut [u8], n: usize, t: &[u8], i: usize, e: usize) -> LabelEnd
     requires { ⌜ (n < 2 ^ 31) × (i < e) × (e ≤ length (now t)) ⌝ }
     ensures { λ r. ⌜ Labelled (now (out .entry)) (now (out .exit)) n (now (t .entry)) i e r ⌝ }
@@ -89,7 +89,7 @@ fn label(out: &mut [u8], n: usize, t: &[u8], i: usize, e: usize) -> LabelEnd
     LabelEnd::Last(m)
 }
 
-// The end of a name whose labels stand from n up to m: a zero octet, or the origin.
+// Ends a name whose labels stand from n to m: stores a zero octet, or the origin.
 fn finish(out: &mut [u8], n: usize, m: usize, origin: &[u8], absolute: bool) -> Value
     requires { ⌜ (n ≤ m) × (m < 2 ^ 31) × (length (now origin) ≤ 255) ⌝ }
     ensures { λ r. ⌜ Finished (now (out .entry)) (now (out .exit)) n m (nameEnd absolute (now (origin .entry))) r ⌝ }
@@ -100,7 +100,7 @@ fn finish(out: &mut [u8], n: usize, m: usize, origin: &[u8], absolute: bool) -> 
     limited_end(n, put_all(out, m, origin))
 }
 
-// The labels from a on, then a zero octet after a final dot, else the origin.
+// Reads the labels from a on, and ends the name: a zero octet after a final dot, else the origin.
 fn labels(out: &mut [u8], n: usize, t: &[u8], a: usize, e: usize, origin: &[u8]) -> Value
     requires { ⌜ (n < 2 ^ 30) × (a ≤ e) × (e ≤ length (now t)) × (length (now origin) ≤ 255) ⌝ }
     ensures { λ r. ⌜ Values (now (out .entry)) (now (out .exit)) n r (limited (spelled (now (origin .entry)) (slice a e (now (t .entry))))) ⌝ }
@@ -128,8 +128,7 @@ fn labels(out: &mut [u8], n: usize, t: &[u8], a: usize, e: usize, origin: &[u8])
     finish(out, n, m, origin, true)
 }
 
-// The name that the octets of t from a to e spell: the root, the origin, an absolute name, or a relative one with the origin
-// after it.
+// Reads the name that t spells from a to e: the root, the origin, an absolute name, or a relative one with the origin after it.
 pub fn name(out: &mut [u8], n: usize, t: &[u8], a: usize, e: usize, origin: &[u8]) -> Value
     requires { ⌜ (n < 2 ^ 30) × (a ≤ e) × (e ≤ length (now t)) × (length (now t) ≤ 1048576) × (isWireName (now origin) ≡ true) ⌝ }
     ensures { λ r. ⌜ Values (now (out .entry)) (now (out .exit)) n r (readName (now (origin .entry)) (slice a e (now (t .entry)))) ⌝ }

@@ -15,12 +15,12 @@ use Rattle.octets.specs.declared.Number.the-variants.{Value, Fault}
 use Rattle.octets.specs.Octets.{numberOf}
 use Rattle.number.specs.Numbers.{octetsOf, integerOf}
 
--- a number's octets
+-- the octets of a number
 pub octets-of : (w : ℕ) (o : Option ℕ) → octetsOf w (numberOf o) ≡ (o >>= λ v. some (digits 256 w v))
 octets-of w none = refl
 octets-of w (some v) = refl
 
--- an integer's
+-- those of an integer
 pub integer-octets : (w m : ℕ) (l : List Symbol) (t : List ℕ) (v : Number) → m ≡ 256 ^ w → v ≡ numberOf (integerOf m l t) → octetsOf w v ≡ readInteger w l t
 integer-octets w m l t v p q = rw (q, p) (octets-of w (integerOf (256 ^ w) l t))
 
@@ -37,7 +37,7 @@ pub none-below : (m : ℕ) (o : Option ℕ) → Fault ≡ numberOf o → Fault �
 none-below m none e = refl
 none-below m (some x) e = let z : _≡_ {A = ℕ} 0 1 = cc in absurd (omega arith)
 
--- the first that is there
+-- the first of two that is there
 pub first-there : (v : ℕ) (o p : Option ℕ) → Value v ≡ numberOf o → Value v ≡ numberOf (orElse o p)
 first-there v none p e = let z : _≡_ {A = ℕ} 0 1 = cc in absurd (omega arith)
 first-there v (some x) p e = e

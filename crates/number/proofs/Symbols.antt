@@ -1,4 +1,4 @@
--- Laws of the first symbol that passes, among the pieces between commas.
+-- Laws of the first symbol that fits, among the pieces between commas.
 use Prim.Native.Nat.{ℕ, _+_, _^_, _≤_}
 use Prim.Native.Char.{code}
 use mathlib.Core.Path.{_≡_, refl, sym, ap, _∙_}
@@ -38,7 +38,7 @@ module _ {B : Type 0} (f : Symbol → Option B) (s : List ℕ) (i b z : ℕ) (h 
   pub first-next : (z ≡ b → ⊥) → none ≡ ifSymbol f (qualifier (partIn s i z)) → firstIn f s (z + 1) b ≡ firstIn f s i b
   first-next m e = rw (next-piece s i b z h l q m, ← e)
 
--- symbols are the qualifiers of their pieces
+-- the first symbol that fits, among the pieces and in the list of symbols
 module _ {B : Type 0} (f : Symbol → Option B) (w : ℕ) where
   first-symbol : (ps : List Part) (l : List Symbol) → (eachOf qualifier ps >>= eachOf (symbolOf w)) ≡ some l → firstOf (λ p. ifSymbol f (qualifier p)) ps ≡ firstOf f l
   first-symbol [] l e = let q : [] ≡ l = cc in rw (← q)
@@ -57,7 +57,7 @@ module _ {B : Type 0} (f : Symbol → Option B) (w : ℕ) where
       by (some (word t)) (some qs) e ih = let z : _≡_ {A = ℕ} 0 1 = cc in absurd (omega arith)
       by (some (symbol y)) (some qs) e ih = at y (ltb (y .value) (256 ^ w)) (eachOf (symbolOf w) qs) e ih
 
--- the qualifiers from a to b, which are symbols: none, or those of the pieces
+-- the symbols from a to b: none if a is b, else those of the pieces
 module _ (s : List ℕ) (a b w : ℕ) (l : List Symbol) (e : symbolsIn w s a b ≡ some l) where
   no-symbols : a ≡ b → [] ≡ l
   no-symbols q = let z : some [] ≡ some l = rw (eq-eqb a b q) at e in cc
@@ -79,7 +79,7 @@ first-or-decimal v (y ∷ l) = by (eqb (y .value) v) (first-or-decimal v l)
     by true ih = refl
     by false ih = ih
 
--- a symbol's name ends before its piece does
+-- a symbol's name ends within its piece
 module _ (a : ℕ) (w : Spanned) (y : Symbol) where
   of-digits : (o : Option ℕ) → (o >>= λ n. some (symbol (record { spelling = record { place = a; octets = w .front }; value = n }))) ≡ some (symbol y) → y .spelling .octets ≡ w .front
   of-digits none e = cc
@@ -116,7 +116,7 @@ name-ends s a z e v h l q = by (begins (slice a n s)) refl (sym (named s a z n h
     by true b m = at b (of-rest a (record { front = slice a n s; rest = slice n z s }) (record { spelling = partIn s a e; value = v }) (slice n z s) m)
     by false b m = let z : _≡_ {A = ℕ} 0 1 = cc in absurd (omega arith)
 
--- a number's text, by what was found
+-- a number's text, given the symbol found
 module _ (s : List ℕ) (a b v w : ℕ) (l : List Symbol) (e : symbolsIn w s a b ≡ some l) where
   pub bare-text : a ≡ b → decimal v ≡ symbolOrDecimal l v
   bare-text q = rw (← no-symbols s a b w l e q)
@@ -124,7 +124,7 @@ module _ (s : List ℕ) (a b v w : ℕ) (l : List Symbol) (e : symbolsIn w s a b
   pub found-text : (a ≡ b → ⊥) → (o : Option (List ℕ)) → o ≡ firstIn (nameFor v) s a b → orDecimal v o ≡ symbolOrDecimal l v
   found-text q o m = rw (m, among-symbols s a b w l e (nameFor v) q) (first-or-decimal v l)
 
--- a symbol's number, by what was found
+-- a symbol's number, given the symbol found
 first-value : (t : List ℕ) (l : List Symbol) → firstOf (valueFor t) l ≡ symbolValue l t
 first-value t [] = refl
 first-value t (y ∷ l) = by (sameWord (y .spelling .octets) t) (first-value t l)

@@ -1,3 +1,3 @@
-// I1, I2 and I4: integers of a fixed number of octets, in decimal or by a symbol of their line.
+// I1, I2 and I4: integers of a fixed number of octets, in decimal or as a symbol of the field line.
 pub mod print;
 pub mod read;

@@ -1,5 +1,5 @@
-// An integer as the first symbol of its number, else in decimal. The symbols are the qualifiers of the field's line that have
-// numbers.
+// Prints an integer as the first symbol with its number, else in decimal. The symbols are the qualifiers of the field line that
+// have numbers.
 ghost use Prim.Native.Nat.{ℕ, _^_, _<_, _≤_};
 ghost use mathlib.Core.Path.{_≡_};
 ghost use mathlib.Core.List.{List};
@@ -15,13 +15,13 @@ ghost use Rattle.number.specs.Symbols.{firstIn, ifSymbol, nameFor, spell
 use octets::Class;
 use stanza_words::Found;
 
-// Where a symbol's name stands, from its first octet to its end, or nowhere.
+// Where a symbol's name begins and ends, or nothing.
 pub enum Spelling {
     At(usize, usize),
     Nothing,
 }
 
-// The name of the qualifier from i to z, where that is a symbol with the number v.
+// The name of the qualifier from i to z, if it is a symbol with the number v.
 fn name_for(s: &[u8], i: usize, z: usize, v: u64) -> Spelling
     requires { ⌜ (i ≤ z) × (z ≤ length (now s)) ⌝ }
     ensures { λ r. ⌜ (spelled (now (s .entry)) r ≡ ifSymbol (nameFor v) (qualifier (partIn (now (s .entry)) i z))) × Before z r ⌝ }
@@ -39,7 +39,7 @@ fn name_for(s: &[u8], i: usize, z: usize, v: u64) -> Spelling
     }
 }
 
-// The name of the first symbol with the number v, between a and b.
+// The name of the first symbol between a and b with the number v.
 fn first_name(s: &[u8], a: usize, b: usize, v: u64) -> Spelling
     requires { ⌜ (a ≤ b) × (b ≤ length (now s)) ⌝ }
     ensures { λ r. ⌜ (spelled (now (s .entry)) r ≡ firstIn (nameFor v) (now (s .entry)) a b) × Before b r ⌝ }
@@ -61,7 +61,7 @@ fn first_name(s: &[u8], a: usize, b: usize, v: u64) -> Spelling
     }
 }
 
-// The number v of an integer field: the first listed symbol with that number, else decimal.
+// Writes the number v of an integer field: the first listed symbol with that number, else decimal.
 pub fn put_number(out: &mut [u8], n: usize, s: &[u8], a: usize, b: usize, v: u64) -> usize
     requires { ⌜ (n < 2 ^ 30) × (a ≤ b) × (b ≤ length (now s)) × (length (now s) ≤ 8192) × (v < 2 ^ 32) ⌝ }
     ensures { λ r. ⌜ ((w : ℕ) (l : List Symbol) → symbolsIn w (now (s .entry)) a b ≡ some l → Wrote (now (out .entry)) (now (out .exit)) n r (symbolOrDecimal l v)) ⌝ }

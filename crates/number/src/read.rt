@@ -1,4 +1,4 @@
-// An integer in decimal, or by a symbol.
+// Reads an integer in decimal or as a symbol.
 ghost use Prim.Native.Nat.{ℕ, _^_, _<_, _≤_};
 ghost use mathlib.Core.Path.{_≡_};
 ghost use mathlib.Core.List.{List};
@@ -19,7 +19,7 @@ use octets::Class;
 use octets::Number;
 use stanza_words::Found;
 
-// The number of the qualifier from a to z, where that is a symbol whose name is the text of t from i to e.
+// The number of the qualifier from a to z, if it is a symbol whose name is the text of t from i to e.
 fn value_for(s: &[u8], a: usize, z: usize, t: &[u8], i: usize, e: usize) -> Number
     requires { ⌜ (a ≤ z) × (z ≤ length (now s)) × (i ≤ e) × (e ≤ length (now t)) ⌝ }
     ensures { λ r. ⌜ r ≡ numberOf (ifSymbol (valueFor (slice i e (now (t .entry)))) (qualifier (partIn (now (s .entry)) a z))) ⌝ }
@@ -59,7 +59,7 @@ fn first_value(s: &[u8], a: usize, b: usize, t: &[u8], i: usize, e: usize) -> Nu
     }
 }
 
-// The number of the symbol whose name is the text of t from i to e, letters' case ignored: the first one that matches.
+// The number of the first symbol whose name is the text of t from i to e, letters' case ignored.
 pub fn value_of(s: &[u8], a: usize, b: usize, t: &[u8], i: usize, e: usize) -> Number
     requires { ⌜ (a ≤ b) × (b ≤ length (now s)) × (length (now s) ≤ 8192) × (i ≤ e) × (e ≤ length (now t)) ⌝ }
     ensures { λ r. ⌜ ((w : ℕ) (l : List Symbol) → symbolsIn w (now (s .entry)) a b ≡ some l → r ≡ numberOf (symbolValue l (slice i e (now (t .entry))))) ⌝ }
@@ -70,7 +70,7 @@ pub fn value_of(s: &[u8], a: usize, b: usize, t: &[u8], i: usize, e: usize) -> N
     first_value(s, a, b, t, i, e)
 }
 
-// A number that was read, in w octets.
+// Stores a number that was read, in w octets.
 pub fn value(out: &mut [u8], n: usize, w: usize, v: Number) -> Value
     requires { ⌜ (n < 2 ^ 31) × (w ≤ 8) ⌝ }
     ensures { λ r. ⌜ Values (now (out .entry)) (now (out .exit)) n r (octetsOf w v) ⌝ }
@@ -84,7 +84,7 @@ pub fn value(out: &mut [u8], n: usize, w: usize, v: Number) -> Value
     }
 }
 
-// A number that was read, where it is below m.
+// A number that was read, if it is below m.
 pub fn in_range(v: Number, m: u64) -> Number
     ensures { λ r. ⌜ ((o : Option ℕ) → v ≡ numberOf o → r ≡ numberOf (below m o)) ⌝ }
 {
@@ -99,7 +99,7 @@ pub fn in_range(v: Number, m: u64) -> Number
     }
 }
 
-// A decimal number below m.
+// The decimal number from i to e, if it is below m.
 pub fn decimal_below(m: u64, t: &[u8], i: usize, e: usize) -> Number
     requires { ⌜ (i ≤ e) × (e ≤ length (now t)) ⌝ }
     ensures { λ r. ⌜ r ≡ numberOf (below m (decimalOf (slice i e (now (t .entry))))) ⌝ }
@@ -108,7 +108,7 @@ pub fn decimal_below(m: u64, t: &[u8], i: usize, e: usize) -> Number
     in_range(v, m)
 }
 
-// A number below m, else the number of a symbol among the qualifiers of s from a to b.
+// The decimal number from i to e if it is below m, else that of the symbol so named among the qualifiers of s from a to b.
 fn number(m: u64, s: &[u8], a: usize, b: usize, t: &[u8], i: usize, e: usize) -> Number
     requires { ⌜ (a ≤ b) × (b ≤ length (now s)) × (length (now s) ≤ 8192) × (i ≤ e) × (e ≤ length (now t)) ⌝ }
     ensures { λ r. ⌜ ((w : ℕ) (l : List Symbol) → symbolsIn w (now (s .entry)) a b ≡ some l → r ≡ numberOf (integerOf m l (slice i e (now (t .entry))))) ⌝ }
@@ -120,7 +120,7 @@ fn number(m: u64, s: &[u8], a: usize, b: usize, t: &[u8], i: usize, e: usize) ->
     }
 }
 
-// An integer of w octets: a number in range or a symbol.
+// Reads an integer of w octets: a number in range or a symbol.
 pub fn field(
     out: &mut [u8],
     n: usize,

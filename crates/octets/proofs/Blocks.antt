@@ -1,4 +1,4 @@
--- Parts of a list gone through block by block: the end of the front that passes, and whether all pass.
+-- Parts of a list tested block by block: where the longest passing front ends, and whether all pass.
 use Prim.Native.Nat.{ℕ, suc, _+_, _-_, _≤_, _<_}
 use mathlib.Core.Path.{_≡_, refl, sym, ap, _∙_}
 use mathlib.Core.Bool.{Bool, true, false, _&&_, and-false}
@@ -13,7 +13,7 @@ use Rattle.format.proofs.Lists.{and-left, and-right}
 use Rattle.octets.specs.Octets.{frontEnd}
 use Rattle.octets.proofs.Slices.{next, none, lent}
 
--- one part after another
+-- a part is its first part and then the second
 pub slice-append : (t : List ℕ) (a i j : ℕ) → a ≤ i → i ≤ j → j ≤ length t → slice a j t ≡ slice a i t ++ slice i j t
 slice-append t a i j h k l =
     let e : i + (j - i) ≡ j = omega arith in
@@ -38,7 +38,7 @@ module _ (f : ℕ → Bool) where
   all-front t i m e h k l a =
       rw (slice-append t i m e h k l, span-all (slice i m t) (slice m e t) a) (omega (arith, length-slice i m t (omega arith)))
 
-  -- octet by octet
+  -- one octet more is tested
   pub all-next : (t : List ℕ) (i e : ℕ) (b : Bool) → i < e → e ≤ length t → (b && f (getD t i 0)) && allOf f (slice (i + 1) e t) ≡ b && allOf f (slice i e t)
   all-next t i e b h l = rw (next t i e h l) (by b)
     where
@@ -78,7 +78,7 @@ module _ (f : ℕ → Bool) where
       by true ih = rw (eqb·suc-suc) ih
       by false ih = rw (eqb·zero-suc)
 
-  -- all pass where the front ends with the part
+  -- all pass exactly if the front ends where the part does
   pub all-ended : (t : List ℕ) (i e : ℕ) → i ≤ e → e ≤ length t → eqb (frontEnd f t i e) e ≡ allOf f (slice i e t)
   all-ended t i e h l = by (eqb (frontEnd f t i e) e) refl
     where
@@ -86,7 +86,7 @@ module _ (f : ℕ → Bool) where
       by true q = sym (all-length (slice i e t) ∙ eq-eqb (length (span f (slice i e t) .front)) (length (slice i e t)) (omega (arith, eqb-true (frontEnd f t i e) e q, length-slice i e t l)))
       by false q = sym (all-length (slice i e t) ∙ ne-eqb (length (span f (slice i e t) .front)) (length (slice i e t)) (λ m. eqb-false (frontEnd f t i e) e q (omega (arith, length-slice i e t l))))
 
--- a block that is there and passes
+-- a block that fits into the part and passes
 module _ (n r : ℕ) (b : Bool) (h : leb n r && b ≡ true) where
   pub block-there : n ≤ r
   block-there = leb-true n r (and-left (leb n r) b h)

@@ -1,4 +1,4 @@
--- The numbers of a few octets of a list.
+-- The number that a few octets of a list make.
 use Prim.Native.Nat.{ℕ, suc, _+_, _*_, _-_, _^_, _≤_, _<_}
 use mathlib.Core.Path.{_≡_, ap, _∙_}
 use mathlib.Core.List.{List, _∷_}
@@ -10,7 +10,7 @@ use lib.Seq.{slice}
 use Rattle.format.specs.Digits.{number}
 use Rattle.octets.proofs.Slices.{next, none}
 
--- two octets at least: those, and the rest
+-- a part of at least two octets is those two and the rest
 pub next-two : (s : List ℕ) (i e : ℕ) → i + 1 < e → e ≤ length s → slice i e s ≡ getD s i 0 ∷ getD s (i + 1) 0 ∷ slice (i + 2) e s
 next-two s i e h l =
     let q : i + 1 + 1 ≡ i + 2 = omega arith in
@@ -21,7 +21,7 @@ two-octets s i e h l =
     ap (number 256) (next-two s i e (omega arith) l ∙ ap (λ (t : List ℕ). getD s i 0 ∷ getD s (i + 1) 0 ∷ t) (none s (i + 2) e (omega arith)))
     ∙ omega arith
 
--- one octet more, the number so far below 256 to the octets so far
+-- with one octet more the number stays below 256 to the power of the octets read
 pub octet-more : (v i j x : ℕ) → i ≤ j → v < 256 ^ (j - i) → x < 256 → v * 256 + x < 256 ^ (j + 1 - i)
 octet-more v i j x l h k = let e : j + 1 - i ≡ suc (j - i) = omega arith in rw (e, pow-suc 256 (j - i)) (omega arith)
 

@@ -15,7 +15,7 @@ use Rattle.octets.specs.Octets.{lineEnd, partIn}
 use Rattle.format.proofs.Lists.{to-end}
 use Rattle.octets.proofs.Slices.{span-rest, span-front, take-drop}
 
--- what follows the first separator, cut again
+-- the parts after the first separator
 abbrev pub cut-rest : ℕ → List ℕ → List (List ℕ)
 cut-rest c [] = []
 cut-rest c (x ∷ xs) = splitOn c xs

@@ -17,7 +17,7 @@ use Rattle.format.specs.Number.{decimalOf}
 use Rattle.octets.specs.Octets.{numberOf}
 use Rattle.octets.specs.declared.Number.the-variants.{Value, Fault}
 
--- the number in a base of the digits so far, which is v, and of those that follow
+-- the number, in a base, of digits that are v so far and go on with these
 unfoldable pub valueIn : ℕ → ℕ → List ℕ → Option ℕ
 valueIn base v [] = some v
 valueIn base v (x ∷ xs) = digitValue base x >>= λ d. valueIn base (v * base + d) xs
@@ -36,11 +36,11 @@ value-each base v (x ∷ xs) = by (digitValue base x) (λ w. value-each base w x
     by none ih = refl
     by (some d) ih = ih (v * base + d) ∙ on d (eachOf (digitValue base) xs)
 
--- in decimal
+-- the same in decimal
 abbrev pub valueFrom : ℕ → List ℕ → Option ℕ
 valueFrom v xs = valueIn 10 v xs
 
--- of a part with 1 to 10 octets, and with none or more
+-- a part of 1 to 10 octets has that value; one of none, or of more than 10, has none
 pub decimal-value : (s : List ℕ) (i e : ℕ) → e ≤ length s → 1 ≤ e - i → e - i ≤ 10 → decimalOf (slice i e s) ≡ valueFrom 0 (slice i e s)
 decimal-value s i e l h k =
     let n : length (slice i e s) ≡ e - i = length-slice i e s l in
@@ -54,7 +54,7 @@ long-decimal s i e l h =
     let n : length (slice i e s) ≡ e - i = length-slice i e s l in
     rw (le-leb 1 (length (slice i e s)) (omega arith), lt-leb (length (slice i e s)) 10 (omega arith))
 
--- one digit more, and an octet that is none
+-- the next octet is a digit; or it is not, and there is no value
 pub digit-on : (v x : ℕ) (xs : List ℕ) → 48 ≤ x → x ≤ 57 → valueFrom v (x ∷ xs) ≡ valueFrom (v * 10 + (x - 48)) xs
 unfolding valueIn
 digit-on v x xs h l = let k : x - 48 < 10 = omega arith in rw (le-leb 48 x h, le-leb x 57 l, lt-ltb (x - 48) 10 k)
@@ -73,7 +73,7 @@ digit-low v x xs h = not-digit v x xs (rw (lt-leb 48 x h))
 pub digit-high : (v x : ℕ) (xs : List ℕ) → 48 ≤ x → 57 < x → valueFrom v (x ∷ xs) ≡ none
 digit-high v x xs l h = not-digit v x xs (rw (le-leb 48 x l, lt-leb x 57 h))
 
--- the value so far fits
+-- the value so far fits into ten digits
 pub digit-more : (v i j d : ℕ) → i ≤ j → v < 10 ^ (j - i) → d < 10 → v * 10 + d < 10 ^ (j + 1 - i)
 digit-more v i j d l h k = let e : j + 1 - i ≡ suc (j - i) = omega arith in rw (e, pow-suc 10 (j - i)) (omega arith)
 
@@ -87,7 +87,7 @@ pub nothing-left : (v : ℕ) → valueFrom v [] ≡ some v
 unfolding valueIn
 nothing-left v = refl
 
--- the code's answer, as an option
+-- the code's answer tells whether there is a number, and which
 pub number-none : (o : Option ℕ) → numberOf o ≡ Fault → o ≡ none
 number-none none h = refl
 number-none (some v) h = cc

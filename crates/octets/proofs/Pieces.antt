@@ -1,4 +1,4 @@
--- Laws of a part of a list of octets that is counted pieces.
+-- Laws of a list of octets, or a part of one, that is made of counted pieces.
 use Prim.Native.Nat.{ℕ, zero, suc, _+_, _≤_}
 use mathlib.Core.Path.{_≡_, refl, sym, ap, _∙_}
 use mathlib.Core.List.{List, [], _∷_}

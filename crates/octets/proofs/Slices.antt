@@ -1,4 +1,4 @@
--- Laws of the part of a list from i to e, gone through by an index.
+-- Laws of the part of a list from i to e, walked by an index.
 use Prim.Native.Nat.{ℕ, zero, suc, _+_, _-_, _≤_, _<_}
 use mathlib.Core.Path.{_≡_, refl, sym, ap, _∙_}
 use mathlib.Core.Bool.{Bool, true, false}
@@ -10,7 +10,7 @@ use lib.Seq.{slice, slice-cons, drop-drop, length-slice, take-nil, take-take, dr
 use Rattle.format.specs.Lists.{spanning, span}
 use Rattle.octets.specs.Octets.{frontEnd}
 
--- the next element, and none
+-- a part is its next element and the rest; past its end it is empty
 pub next : (s : List ℕ) (i e : ℕ) → i < e → e ≤ length s → slice i e s ≡ getD s i 0 ∷ slice (i + 1) e s
 next s i e h l = rw (add-one) (slice-cons i e s 0 h l)
 
@@ -37,7 +37,7 @@ part s i k e h = take-drop k i (take e s) ∙ ap (drop i) (take-take (i + k) e s
 pub rest-parts : (s : List ℕ) (i j : ℕ) → i ≤ j → j ≤ length s → drop i s ≡ slice i j s ++ drop j s
 rest-parts s i j h k = ap (drop i) (sym (take-append-drop j s)) ∙ drop-append-le i (take j s) (drop j s) (omega (arith, length-take-le j s k))
 
--- the front that passes, and what is left
+-- the longest front that passes, and the rest
 module _ (f : ℕ → Bool) where
   span-on : (x : ℕ) (xs : List ℕ) → f x ≡ true → length (span f (x ∷ xs) .front) ≡ suc (length (span f xs .front))
   span-on x xs h = rw h
@@ -88,7 +88,7 @@ module _ (f : ℕ → Bool) where
   pub front-end : (s : List ℕ) (i e : ℕ) → e ≤ i → i ≡ frontEnd f s i e
   front-end s i e h = rw (none s i e h) (omega arith)
 
-  -- it lies in the part, which it cuts into the front and the rest
+  -- that end lies in the part, and the rest follows it
   pub front-within : (s : List ℕ) (i e : ℕ) → i ≤ e → e ≤ length s → frontEnd f s i e ≤ e
   front-within s i e h l = omega (arith, span-length (slice i e s), length-slice i e s l)
 

@@ -27,11 +27,11 @@ inClass NotBracket x = not (eqb x (code "]"))
 inClass NotComma x = not (eqb x (code ","))
 inClass FreeText x = inRange 0x20 0xFE x
 
--- the end of those octets from i on and before e that pass
+-- the end of the longest run of octets that pass the test, from i on and not past e
 abbrev pub frontEnd : (ℕ → Bool) → List ℕ → ℕ → ℕ → ℕ
 frontEnd f s i e = i + length (span f (slice i e s) .front)
 
--- the end of the line from i on
+-- the end of the line that i is in
 abbrev pub lineEnd : List ℕ → ℕ → ℕ
 lineEnd s i = frontEnd (inClass NotNewline) s i (length s)
 
@@ -39,7 +39,7 @@ lineEnd s i = frontEnd (inClass NotNewline) s i (length s)
 abbrev pub partIn : List ℕ → ℕ → ℕ → Part
 partIn s a e = record { place = a; octets = slice a e s }
 
--- the first octet, or 256 where there is none
+-- the first octet, or 256 if there is none
 abbrev pub firstOr : List ℕ → ℕ
 firstOr [] = 256
 firstOr (x ∷ xs) = x

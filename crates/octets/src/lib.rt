@@ -1,4 +1,4 @@
-// Octets in a slice: their classes, the longest run of one, and decimal numbers.
+// Octets in a slice: their classes, the longest run of a class, and decimal numbers.
 pub mod integer;
 
 ghost use Prim.Native.Nat.{_+_, _-_, _≤_};
@@ -32,7 +32,7 @@ pub enum Number {
     Fault,
 }
 
-// '0' to '9'
+// Whether an octet is a digit, 0 to 9.
 fn is_digit(b: u8) -> bool
     ensures { λ r. ⌜ r ≡ Rattle.format.specs.Octets.digit b ⌝ }
 {
@@ -42,7 +42,7 @@ fn is_digit(b: u8) -> bool
     b <= b'9'
 }
 
-// A capital differs from its small letter by one bit, so that one range is tested.
+// Whether an octet is a letter. A capital differs from its small letter by one bit, so one range is tested.
 fn is_letter(b: u8) -> bool
     ensures { λ r. ⌜ r ≡ Rattle.format.specs.Octets.letter b ⌝ }
 {
@@ -53,7 +53,7 @@ fn is_letter(b: u8) -> bool
     small <= b'z'
 }
 
-// An octet without the case of letters.
+// The octet, in lower case if it is a letter.
 pub fn lower(b: u8) -> u8
     ensures { λ r. ⌜ r ≡ lowered b ⌝ }
 {
@@ -66,7 +66,7 @@ pub fn lower(b: u8) -> u8
     b
 }
 
-// Whether an octet is of a class.
+// Whether an octet is in the class.
 pub fn is_in(c: Class, b: u8) -> bool
     ensures { λ r. ⌜ r ≡ inClass c b ⌝ }
 {
@@ -106,7 +106,7 @@ pub fn is_in(c: Class, b: u8) -> bool
     }
 }
 
-// The end of the longest run of a class's octets, from i on and before e.
+// The end of the longest run of octets in the class that starts at i, not past e.
 pub fn skip(s: &[u8], i: usize, e: usize, c: Class) -> usize
     requires { ⌜ (i ≤ e) × (e ≤ length (now s)) ⌝ }
     ensures { λ r. ⌜ r ≡ i + length (span (inClass c) (slice i e (now (s .entry))) .front) ⌝ }
@@ -122,7 +122,8 @@ pub fn skip(s: &[u8], i: usize, e: usize, c: Class) -> usize
     j
 }
 
-// Whether n octets from i on are of a class: no way out of the loop, and n is 8 or 16 at each call, so that they are tested at once.
+// Whether the n octets from i on are all in the class. The loop has no early exit, and n is 8 or 16 at each call, so that
+// they are tested at once.
 fn all_in(s: &[u8], i: usize, n: usize, c: Class) -> bool
     requires { ⌜ i + n ≤ length (now s) ⌝ }
     ensures { λ r. ⌜ r ≡ allOf (inClass c) (slice i (i + n) (now (s .entry))) ⌝ }
@@ -136,7 +137,7 @@ fn all_in(s: &[u8], i: usize, n: usize, c: Class) -> bool
     all
 }
 
-// Whether 16 octets are left from i to e, all of a class.
+// Whether at least 16 octets are left from i to e and the first 16 are all in the class.
 fn goes_on(s: &[u8], i: usize, e: usize, c: Class) -> bool
     requires { ⌜ (i ≤ e) × (e ≤ length (now s)) ⌝ }
     ensures { λ r. ⌜ r ≡ leb 16 (e - i) && allOf (inClass c) (slice i (i + 16) (now (s .entry))) ⌝ }
@@ -147,7 +148,7 @@ fn goes_on(s: &[u8], i: usize, e: usize, c: Class) -> bool
     all_in(s, i, 16, c)
 }
 
-// A place in the same line: 8 octets on, where no LF is among them.
+// A place in the same line as i: 8 octets on if none of them is LF, else i.
 fn eight_on(s: &[u8], i: usize) -> usize
     requires { ⌜ i ≤ length (now s) ⌝ }
     ensures { λ r. ⌜ (i ≤ r) × (r ≤ length (now (s .entry))) × (lineEnd (now (s .entry)) r ≡ lineEnd (now (s .entry)) i) ⌝ }
@@ -161,7 +162,7 @@ fn eight_on(s: &[u8], i: usize) -> usize
     i
 }
 
-// The end of the line from i on.
+// The end of the line that i is in: the place of its LF, or the end of the octets.
 pub fn line_end(s: &[u8], i: usize) -> usize
     requires { ⌜ i ≤ length (now s) ⌝ }
     ensures { λ r. ⌜ r ≡ lineEnd (now (s .entry)) i ⌝ }
@@ -174,7 +175,8 @@ pub fn line_end(s: &[u8], i: usize) -> usize
     skip(s, k, s.len(), Class::NotNewline)
 }
 
-// Whether 16 octets or more, from i to e, are of free text. The last 16 are tested at once, though some were before.
+// Whether the octets from i to e, at least 16, are all free text. The last 16 are tested at once, though some may have been
+// tested before.
 fn long_free(s: &[u8], i: usize, e: usize) -> bool
     requires { ⌜ (i + 16 ≤ e) × (e ≤ length (now s)) ⌝ }
     ensures { λ r. ⌜ r ≡ allOf (inClass FreeText) (slice i e (now (s .entry))) ⌝ }
@@ -189,7 +191,7 @@ fn long_free(s: &[u8], i: usize, e: usize) -> bool
     false
 }
 
-// Whether the octets from i to e are of free text.
+// Whether the octets from i to e are all free text.
 pub fn all_free(s: &[u8], i: usize, e: usize) -> bool
     requires { ⌜ (i ≤ e) × (e ≤ length (now s)) ⌝ }
     ensures { λ r. ⌜ r ≡ allOf (inClass FreeText) (slice i e (now (s .entry))) ⌝ }
@@ -206,7 +208,7 @@ pub fn all_free(s: &[u8], i: usize, e: usize) -> bool
     skip(s, i, e, Class::FreeText) == e
 }
 
-// The octet at i, or 256 where the part ends before it.
+// The octet at i, or 256 if the part ends before it.
 pub fn octet_at(s: &[u8], i: usize, e: usize) -> u16
     requires { ⌜ e ≤ length (now s) ⌝ }
     ensures { λ r. ⌜ r ≡ firstOr (slice i e (now (s .entry))) ⌝ }
@@ -214,7 +216,7 @@ pub fn octet_at(s: &[u8], i: usize, e: usize) -> u16
     if i < e { s[i] as u16 } else { 256 }
 }
 
-// The number of 1 to 10 digits from i to e.
+// The decimal number from i to e, of 1 to 10 digits, or a fault.
 pub fn decimal(s: &[u8], i: usize, e: usize) -> Number
     requires { ⌜ (i ≤ e) × (e ≤ length (now s)) ⌝ }
     ensures { λ r. ⌜ r ≡ numberOf (decimalOf (slice i e (now (s .entry)))) ⌝ }

@@ -16,13 +16,13 @@ use libc::STDIN_FILENO;
 use libc::STDOUT_FILENO;
 use probe_request::Request;
 
-// The most that one read takes.
+// The most octets that one read takes.
 const PIECE: usize = 65536;
 
-// One octet more than the longest request, so that one that is too long is seen, and a piece.
+// One octet more than the longest request, so that a longer one is noticed, and a piece.
 const SPACE: usize = 2265537;
 
-// Half of the longest request: its words' octets.
+// Half of the longest request: the octets that its words spell.
 const OCTETS: usize = 1100000;
 
 // The longest result.
@@ -34,13 +34,13 @@ const ROOM: usize = 2097176;
 // The room for a turn of a job.
 const LINES: usize = 262148;
 
-// Between two reads: how many octets are kept of a line that is not whole yet, and whether lines are answered still.
+// Between two reads: how many octets are kept of a line that is not whole yet, and whether answering goes on.
 struct State {
     kept: usize,
     going: bool,
 }
 
-// Writes the first n octets, and answers whether that went well.
+// Writes the first n octets, and returns whether that went well.
 fn write(out: &[u8], n: usize) -> bool
     requires { ⌜ n ≤ length (now out) ⌝ }
 {
@@ -87,7 +87,7 @@ fn write_job(octets: &[u8], q: Request, text: &mut [u8], out: &mut [u8; ROOM]) -
     false
 }
 
-// Writes the answer to a line, which is without its LF, and answers whether that went well.
+// Writes the answer to a line without its LF, and returns whether that went well.
 fn answer(
     line: &[u8],
     octets: &mut [u8; OCTETS],
@@ -102,7 +102,7 @@ fn answer(
     write(out, n)
 }
 
-// Answers the whole lines of buf, whose first kept octets have no LF, and keeps the start of the next.
+// Answers the whole lines in buf, whose first `kept` octets have no LF, and keeps the start of the next line.
 fn answer_lines(
     buf: &mut [u8],
     kept: usize,
@@ -132,7 +132,7 @@ fn answer_lines(
     }
 }
 
-// Answers the last line, where it has no LF.
+// Answers the last line, if it has no LF.
 fn finish(
     line: &[u8],
     octets: &mut [u8; OCTETS],
@@ -150,7 +150,7 @@ fn finish(
     }
 }
 
-// Reads once, after the octets that are kept, and answers how many came.
+// Reads once, after the octets that are kept, and returns how many came.
 fn read_on(buf: &mut [u8], kept: usize) -> usize
     requires { ⌜ (kept ≤ 2200001) × (2265537 ≤ length (now buf)) ⌝ }
     ensures { λ r. ⌜ kept + r ≤ length (now (buf .entry)) ⌝ }
@@ -179,8 +179,8 @@ fn turn(
     answer_lines(&mut buf[0..end], kept, octets, text, out)
 }
 
-// A proved loop has to end, and nothing says that the input does. So the loop counts its turns
-// down, from a number that no run uses up.
+// Answers all lines. A proved loop must end, and nothing says that the input does: so the loop counts its turns down, from a
+// number that no run uses up.
 fn run(
     buf: &mut [u8; SPACE],
     octets: &mut [u8; OCTETS],
@@ -202,6 +202,7 @@ fn run(
     }
 }
 
+// Lends the buffers to `run`.
 fn main() {
     let mut buf = [0u8; SPACE];
     let mut octets = [0u8; OCTETS];

@@ -1,4 +1,4 @@
--- How long the answers are.
+-- The lengths of the answers.
 use Prim.Native.Nat.{ℕ, _+_, _*_, _≤_}
 use mathlib.Core.Path.{_≡_, refl}
 use mathlib.Core.List.{List, [], _∷_, _++_}
@@ -11,7 +11,7 @@ use Rattle.format.proofs.Number.{decimal-10}
 use Rattle.format.proofs.Hex.{hex-length}
 use Rattle.probe_line.specs.Replies.{octetsText, numbersText, judgedLine, resultLine}
 
--- octets, and none
+-- no octets, and some
 pub no-octets : (xs : List ℕ) → length xs ≡ 0 → ascii "-" ≡ octetsText xs
 no-octets [] h = refl
 no-octets (x ∷ xs) h = absurd (omega arith)

@@ -1,4 +1,4 @@
-// The lines that answer requests. Each is put at the start of a buffer.
+// Writes the lines that answer requests, each at the start of a buffer.
 ghost use Prim.Native.Nat.{_^_, _<_, _≤_};
 ghost use lib.ListN.{length};
 ghost use Rattle.buffer.specs.Writing.{Wrote};
@@ -8,7 +8,7 @@ use buffer::put_all;
 use buffer::put_octet;
 use digits::put_decimal;
 
-// Octets in hex, '-' for none.
+// Writes octets in hex, '-' for none.
 pub fn put_octets(out: &mut [u8], n: usize, octets: &[u8]) -> usize
     requires { ⌜ (n < 2 ^ 31) × (length (now octets) < 2 ^ 31) ⌝ }
     ensures { λ r. ⌜ Wrote (now (out .entry)) (now (out .exit)) n r (octetsText (now (octets .entry))) ⌝ }
@@ -19,7 +19,7 @@ pub fn put_octets(out: &mut [u8], n: usize, octets: &[u8]) -> usize
     put_hex_upper(out, n, octets)
 }
 
-// An answer's number and its place.
+// Writes an answer's number and its place.
 fn put_numbers(out: &mut [u8], number: u32, place: u32) -> usize
     ensures { λ r. ⌜ Wrote (now (out .entry)) (now (out .exit)) 0 r (numbersText number place) ⌝ }
 {
@@ -28,7 +28,7 @@ fn put_numbers(out: &mut [u8], number: u32, place: u32) -> usize
     put_decimal(out, blank, place as u64)
 }
 
-// The answer to a request to judge.
+// Writes the answer to a request to judge.
 pub fn put_judged(out: &mut [u8], number: u32, place: u32) -> usize
     ensures { λ r. ⌜ Wrote (now (out .entry)) (now (out .exit)) 0 r (judgedLine number place) ⌝ }
 {
@@ -36,7 +36,7 @@ pub fn put_judged(out: &mut [u8], number: u32, place: u32) -> usize
     put_octet(out, end, b'\n')
 }
 
-// The answer to a request to print or to read, with the octets of its result.
+// Writes the answer to a request to print or to read, with the octets of the result.
 pub fn put_result(out: &mut [u8], number: u32, place: u32, octets: &[u8]) -> usize
     requires { ⌜ length (now octets) ≤ 2 ^ 30 ⌝ }
     ensures { λ r. ⌜ Wrote (now (out .entry)) (now (out .exit)) 0 r (resultLine number place (now (octets .entry))) ⌝ }
@@ -47,7 +47,7 @@ pub fn put_result(out: &mut [u8], number: u32, place: u32, octets: &[u8]) -> usi
     put_octet(out, last, b'\n')
 }
 
-// The answer to a line that is no request.
+// Writes the answer to a line that is no request.
 pub fn put_unknown(out: &mut [u8]) -> usize
     ensures { λ r. ⌜ Wrote (now (out .entry)) (now (out .exit)) 0 r unknownLine ⌝ }
 {

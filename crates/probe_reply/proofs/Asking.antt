@@ -1,4 +1,4 @@
--- The line that answers each kind of request, whose texts are lent as parts of a buffer.
+-- The line that answers each kind of request; the request's texts are lent as parts of a buffer.
 use Prim.Native.Nat.{ℕ, min, _-_, _≤_}
 use mathlib.Core.Path.{_≡_, refl}
 use mathlib.Core.Bool.{Bool, true, false, cond}
@@ -19,7 +19,7 @@ use Rattle.probe_line.specs.Replies.{unknownLine}
 use Rattle.probe_line.proofs.Replies.{judged-most, result-most}
 use Rattle.probe_reply.specs.Reply.{answerLine, outcomeLine, replyTo}
 
--- a part as it is lent to a call
+-- a part, as it is lent to a call
 abbrev lentAt : List ℕ → Span → List ℕ
 lentAt xs s = take (s .to - s .from) (drop (s .from) xs)
 

@@ -1,4 +1,4 @@
--- What an entry answered and left is its answer's line.
+-- The line of an answer, from what an entry answered and left.
 use Prim.Native.Nat.{ℕ, _+_, _-_, _≤_}
 use mathlib.Core.Path.{_≡_, refl, sym, ap, _∙_}
 use mathlib.Core.Bool.{Bool, true, false, cond, true≢false}
@@ -18,7 +18,7 @@ use Rattle.probe_reply.specs.Reply.{answerLine, outcomeLine, resultOf}
 pub judged-answered : (r : Reply) (o : Outcome) → Replies r o → judgedLine (r .number) (r .place) ≡ outcomeLine o
 judged-answered r o w = rw (w .numbers, w .places)
 
--- a result's octets, and a refusal's
+-- the octets of a result, and of a refusal
 pub some-result : (n i : ℕ) (xs : List ℕ) → n ≡ 0 → resultLine n i (take (i - 0) xs) ≡ resultLine n i (resultOf n i xs)
 some-result n i xs h = let e : i - 0 ≡ i = omega arith in rw (e, eq-eqb n 0 h)
 

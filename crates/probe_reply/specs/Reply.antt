@@ -1,4 +1,4 @@
--- What answers a request.
+-- The lines that answer requests.
 use Prim.Native.Nat.{ℕ, min}
 use Prim.Native.Char.{code}
 use mathlib.Core.Bool.{cond}
@@ -24,7 +24,7 @@ outcomeLine o = judgedLine (o .number) (o .place)
 abbrev pub jobLine : List ℕ → List ℕ
 jobLine j = octetsText (job j) ++ ascii "\n"
 
--- the room for a result is that of the longest text at most
+-- the room for a result, at most that of the longest text
 abbrev pub roomOf : ℕ → ℕ
 roomOf n = min n maxText
 

@@ -1,4 +1,4 @@
-// What answers a request.
+// Answers requests.
 ghost use Prim.Native.Nat.{_^_, _≤_};
 ghost use mathlib.Core.Path.{_≡_};
 ghost use lib.ListN.{length};
@@ -13,7 +13,7 @@ use probe_line::put_result;
 use probe_line::put_unknown;
 use probe_request::Request;
 
-// Judging.
+// Answers a request to judge.
 fn judge(stanza: &[u8], out: &mut [u8]) -> usize
     ensures { λ r. ⌜ Wrote (now (out .entry)) (now (out .exit)) 0 r (outcomeLine (Entries·judge (now (stanza .entry)))) ⌝ }
 {
@@ -21,7 +21,7 @@ fn judge(stanza: &[u8], out: &mut [u8]) -> usize
     put_judged(out, reply.number, reply.place)
 }
 
-// An answer, whose octets stand at the start of a buffer.
+// Writes an answer whose octets stand at the start of a buffer.
 fn put_reply(out: &mut [u8], number: u32, place: u32, text: &[u8]) -> usize
     requires { ⌜ (number ≡ 0 → place ≤ length (now text)) × (length (now text) ≤ 2 ^ 30) ⌝ }
     ensures { λ r. ⌜ Wrote (now (out .entry)) (now (out .exit)) 0 r (resultLine number place (resultOf number place (now (text .entry)))) ⌝ }
@@ -33,7 +33,7 @@ fn put_reply(out: &mut [u8], number: u32, place: u32, text: &[u8]) -> usize
     put_result(out, number, place, &text[0..0])
 }
 
-// Printing into a buffer that is as long as the room.
+// Answers a request to print; `text` is as long as the room.
 fn print(
     stanza: &[u8],
     first: usize,
@@ -49,7 +49,7 @@ fn print(
     put_reply(out, reply.number, reply.place, text)
 }
 
-// Reading into a buffer that is as long as the room.
+// Answers a request to read; `rdata` is as long as the room.
 fn read(
     stanza: &[u8],
     first: usize,
@@ -66,7 +66,7 @@ fn read(
     put_reply(out, reply.number, reply.place, rdata)
 }
 
-// The answer to a request but a job.
+// Answers any request except a job.
 pub fn put_answer(octets: &[u8], q: Request, text: &mut [u8], out: &mut [u8]) -> usize
     requires { ⌜ Within (length (now octets)) q × (q .letter ≡ 87 → ⊥) × (length (now text) ≡ 1048576) ⌝ }
     ensures { λ r. ⌜ Wrote (now (out .entry)) (now (out .exit)) 0 r (replyTo (asked q (now (octets .entry)))) × (r ≤ 2097176) ⌝ }

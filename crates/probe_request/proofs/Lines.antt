@@ -1,4 +1,4 @@
--- Laws of a line by its first octets: a letter and a space.
+-- Laws of a line, by its first octets: a letter and a space.
 use Prim.Native.Nat.{ℕ, _≤_, _<_}
 use mathlib.Core.Path.{_≡_, refl, _∙_}
 use mathlib.Core.Bool.{Bool, true, false, cond}
@@ -14,7 +14,7 @@ use Rattle.probe_request.specs.Request.{oneWord, runWords, byLetter, ofW
 use Rattle.probe_request.specs.declared.Request.{Request}
 use Rattle.probe_request.specs.Words.{Within, asked, wordsAt}
 
--- no request is answered where there is none
+-- a line that is no request is answered as none
 pub refused : (n : ℕ) (xs l : List ℕ) (r : Request) → Within 0 r × (r .letter ≡ 0) → requestOf l ≡ none → Within n r × (asked r xs ≡ requestOf l)
 refused n xs l r (w, z) e = (((omega arith, omega arith), (omega arith, omega arith), (omega arith, omega arith)), rw (z, e))
 

@@ -1,4 +1,4 @@
--- Octets moved to the front of their own buffer, one after another.
+-- Octets that are moved to the front of their own buffer, one after another.
 use Prim.Native.Nat.{ℕ, _+_, _<_}
 use mathlib.Core.Path.{_≡_, refl, sym, ap, _∙_}
 use mathlib.Core.List.{List}
@@ -7,7 +7,7 @@ use native.Mathlib.Numerals.{add-one}
 use lib.ListN.{length, take, drop, getD, set, length-set, length-drop}
 use lib.Seq.{take-suc, take-suc-set, drop-set-lt, drop-drop, getD-drop}
 
--- i octets of those that stood from `start` on are moved, and the octets from i on are as they were
+-- the first i octets from `start` on are moved to the front, and the octets from i on are as they were
 pub record Moved (b₀ : List ℕ) (start i : ℕ) (b : List ℕ) : Type 0 where
   pub front : take i b ≡ take i (drop start b₀)
   pub rest : drop i b ≡ drop i b₀

@@ -20,7 +20,7 @@ use Rattle.probe_request.specs.declared.Span.{Span}
 use Rattle.probe_request.specs.Words.{textAt, NextWord, Counts}
 use Rattle.probe_request.proofs.Words.{word-says}
 
--- a value that is too great stays so, whatever digits follow
+-- a value that is too large stays so, whatever digits follow
 too-great : (m v : ℕ) (xs : List ℕ) → m ≤ v → below m (valueFrom v xs) ≡ none
 unfolding valueIn
 too-great m v [] h = rw (le-ltb v m h)
@@ -30,7 +30,7 @@ too-great m v (x ∷ xs) h = by (digitValue 10 x) (λ d. too-great m (v * 10 + d
     by none ih = refl
     by (some d) ih = ih d
 
--- The digits from i on are still to be read, and those before it have the value v.
+-- The digits before i make v, and those from i on are still to be read.
 module _ (l : List ℕ) (from to i v : ℕ) (t : to ≤ length l) (h : valueFrom v (slice i to l) ≡ valueFrom 0 (slice from to l)) where
   number-left : from < to → numberOf (slice from to l) ≡ below (2 ^ 64) (valueFrom v (slice i to l))
   number-left f = rw (next l from to f t) (ap (below (2 ^ 64)) (sym (h ∙ ap (valueFrom 0) (next l from to f t) ∙ value-each 10 0 (getD l from 0 ∷ slice (from + 1) to l))))

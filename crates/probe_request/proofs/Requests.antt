@@ -22,7 +22,7 @@ use Rattle.probe_request.specs.declared.Span.{Span}
 use Rattle.probe_request.specs.Words.{textAt, asked, wordsAt, Spells, Counts, Front, frontOf, Runs}
 use Rattle.probe_request.proofs.Words.{words-left}
 
--- one word after another: all of them have to be good
+-- one word after another: all of them must be good
 and-then : {A B : Type 0} (o : Option A) (g h : Bool) (v : A) (f : A → Option B) (b : B) → o ≡ provided g v → f v ≡ provided h b → (o >>= f) ≡ provided (g && h) b
 and-then o true h v f b p q = rw p q
 and-then o false h v f b p q = rw p
@@ -42,7 +42,7 @@ module _ {o o′ : List ℕ} {n r : ℕ} {t : List ℕ} (w : Wrote o o′ n r t)
       before o n [] h = refl
       before o n (b ∷ t) h = before (set o n b) (suc n) t (omega arith) ∙ take-set-le m o n b h
 
--- a request whose texts stand in the buffer if it has its letter
+-- a request, whose texts stand in the buffer if it is good
 module _ (xs : List ℕ) (s o t : Span) (s′ o′ t′ : List ℕ) where
   abbrev Texts : Type 0
   Texts = (textAt xs s ≡ s′) × (textAt xs o ≡ o′) × (textAt xs t ≡ t′)

@@ -19,7 +19,7 @@ use Rattle.probe_request.specs.declared.Span.{Span}
 use Rattle.probe_request.specs.Words.{textAt, wordsAt, NextWord, Spells}
 use Rattle.probe_request.proofs.Words.{word-says}
 
--- of no octet, of one, and of more
+-- a word of no octet, of one, and of more
 module _ (t : List ℕ) (i e : ℕ) (l : e ≤ length t) where
   pub no-octets : e - i < 1 → octetsOf (slice i e t) ≡ none
   no-octets h = ap octetsOf (no-octet t i e (omega arith))
@@ -30,7 +30,7 @@ module _ (t : List ℕ) (i e : ℕ) (l : e ≤ length t) where
   pub more-octets : 2 ≤ e - i → octetsOf (slice i e t) ≡ fromHex (slice i e t)
   more-octets h = rw (next t i e (omega arith) l, next t (i + 1) e (omega arith) l)
 
--- a word has two digits at least for each octet
+-- a word has at least two digits for each octet
 hex-half : (s xs : List ℕ) → fromHex s ≡ some xs → 2 * length xs ≤ length s
 hex-half [] xs e = let q : [] ≡ xs = cc in rw (← q) (omega arith)
 hex-half (a ∷ []) xs e = let z : _≡_ {A = ℕ} 0 1 = cc in absurd (omega arith)

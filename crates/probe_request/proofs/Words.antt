@@ -1,4 +1,4 @@
--- Laws of a line's words, gone through by the place where the last one ends.
+-- Laws of the words of a line, by the place where the last one ends.
 use Prim.Native.Nat.{ℕ, _+_, _≤_, _<_}
 use mathlib.Core.Path.{_≡_, refl, sym, ap, _∙_}
 use mathlib.Core.Bool.{Bool, true, false}
@@ -26,7 +26,7 @@ free-more : (s : ℕ) (t : List ℕ) (x : ℕ) → Free s t → eqb x s ≡ fals
 free-more s [] x h e = (e, tt)
 free-more s (y ∷ t) x h e = (h .0, free-more s t x (h .1) e)
 
--- what a word said, before the words after it
+-- what a word says, with the words after it
 abbrev before : {A : Type 0} → List (List ℕ) → Option A → Option (Said A)
 before ws o = o >>= λ v. some (record { value = v; later = ws })
 
@@ -45,7 +45,7 @@ module _ (l : List ℕ) where
   no-words : (end : ℕ) → length l ≤ end → wordsAt l end ≡ []
   no-words end h = rw (le-leb (length l) end h)
 
-  -- the word ends at a space, or with the line, or there is none
+  -- the word ends at a space, or at the end of the line, or there is none
   pub at-space : (end to : ℕ) → end + 1 ≤ to → to < length l → getD l to 0 ≡ 32 → Free 32 (slice (end + 1) to l) → NextWord l end (record { from = end + 1; to = to })
   at-space end to h k e f = record {
     words = λ m. some-words end m ∙ ap (splitOn 32) (rest-parts l (end + 1) to h (omega arith) ∙ ap (λ t. slice (end + 1) to l ++ t) (drop-next l to k ∙ ap (λ x. x ∷ drop (to + 1) l) e))
@@ -67,7 +67,7 @@ module _ (l : List ℕ) where
   pub no-word : (end : ℕ) → end ≡ length l → NextWord l end (record { from = end; to = end })
   no-word end h = record { words = λ m. absurd (omega arith); after = omega arith; ordered = omega arith; within = omega arith }
 
-  -- what the next word says, where no octets say nothing
+  -- what the next word says, if an empty word says nothing
   pub word-says : {A : Type 0} (f : List ℕ → Option A) → f [] ≡ none → (end : ℕ) (w : Span) → NextWord l end w → (g : Bool) (v : A) → f (textAt l w) ≡ provided g v
       → said f (wordsAt l end) ≡ provided g (record { value = v; later = wordsAt l (w .to) })
   word-says f z end w n g v e = by (decLe (length l) end) ∙ ap (before (wordsAt l (w .to))) e ∙ given g
@@ -80,7 +80,7 @@ module _ (l : List ℕ) where
       given true = refl
       given false = refl
 
-  -- no words are left where the line ends
+  -- no words are left exactly at the end of the line
   pub words-left : (end : ℕ) → end ≤ length l → null (wordsAt l end) ≡ eqb end (length l)
   words-left end h = by (decLe (length l) end)
     where

@@ -1,4 +1,4 @@
--- The request lines of the program probe: a letter and its words, with one space between two.
+-- The request lines of the program probe: a letter and its words, with one space between them.
 --     J STANZA
 --     P STANZA FIRST LENGTH RDATA ROOM
 --     R STANZA FIRST LENGTH ORIGIN TEXT ROOM
@@ -32,12 +32,12 @@ pub record Said (A : Type 0) : Type 0 where
   pub value : A
   pub later : List (List ℕ)
 
--- the first word, which has to be there
+-- what the first word says; there must be one
 abbrev pub said : {A : Type 0} → (List ℕ → Option A) → List (List ℕ) → Option (Said A)
 said f [] = none
 said f (w ∷ ws) = f w >>= λ v. some (record { value = v; later = ws })
 
--- A request, by its letter. What it does not name has no octets, or is 0; a job stands in the place of a stanza.
+-- A request, by its letter. What it does not name is empty or 0; a job stands in the place of a stanza.
 pub record Asked : Type 0 where
   pub letter : ℕ
   pub stanza : List ℕ

@@ -21,14 +21,14 @@ use Rattle.probe_request.specs.declared.Request.{Request}
 abbrev pub Inside : ℕ → Span → Type 0
 Inside n s = (s .from ≤ s .to) × (s .to ≤ n)
 
--- every text of a request stands in a buffer of n octets
+-- every text of a request lies in a buffer of n octets
 abbrev pub Within : ℕ → Request → Type 0
 Within n r = Inside n (r .stanza) × Inside n (r .origin) × Inside n (r .octets)
 
 abbrev pub textAt : List ℕ → Span → List ℕ
 textAt xs s = slice (s .from) (s .to) xs
 
--- A request whose texts stand in a buffer; with the letter 0 it is none.
+-- A request whose texts stand in a buffer; with the letter 0 there is none.
 abbrev pub named : Request → List ℕ → Asked
 named r xs = record {
   letter = r .letter;
@@ -43,18 +43,18 @@ named r xs = record {
 abbrev pub asked : Request → List ℕ → Option Asked
 asked r xs = cond (eqb (r .letter) 0) none (some (named r xs))
 
--- the words after the one that ends at `end`, where the line ends or a space stands
+-- the words after the one that ends at `end`, at a space or the end of the line
 abbrev pub wordsAt : List ℕ → ℕ → List (List ℕ)
 wordsAt l end = cond (leb (length l) end) [] (splitOn (code " ") (drop (end + 1) l))
 
--- The first of them; where there is none, no octets at the line's end.
+-- The first of them; if there is none, an empty one at the end of the line.
 pub record NextWord (l : List ℕ) (end : ℕ) (w : Span) : Type 0 where
   pub words : end < length l → wordsAt l end ≡ textAt l w ∷ wordsAt l (w .to)
   pub after : end ≤ w .from
   pub ordered : w .from ≤ w .to
   pub within : w .to ≤ length l
 
--- Octets that words from `end` on say, up to the end of the last: they stand from n on.
+-- What is said from `end` on, up to the end of the last word: its octets stand from n on.
 pub record Spells (o : Option (Said (List ℕ))) (l : List ℕ) (end : ℕ) (before after : List ℕ) (n : ℕ) (r : Spelled) : Type 0 where
   pub octets : List ℕ
   pub reads : o ≡ provided (r .good) (record { value = octets; later = wordsAt l (r .end) })
@@ -83,7 +83,7 @@ frontOf ws = do
   m ← said numberOf (f .later)
   some (record { stanza = s .value; first = f .value; many = m .value; later = m .later })
 
--- the stanza stands at the start of the buffer
+-- these words are read, and the stanza stands at the start of the buffer
 pub record Runs (l before after : List ℕ) (r : Run) : Type 0 where
   pub octets : List ℕ
   pub reads : frontOf (wordsAt l 1) ≡ provided (r .good) (record { stanza = octets; first = r .first; many = r .many; later = wordsAt l (r .end) })

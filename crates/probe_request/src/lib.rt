@@ -14,13 +14,13 @@ use buffer::least;
 // The longest line that may be a request, without its LF.
 const LONGEST: usize = 2200000;
 
-// Where a word stands in its line, or in a buffer the octets that one spelled.
+// Where a word stands in its line, or where the octets that it spells stand in a buffer.
 pub struct Span {
     pub from: usize,
     pub to: usize,
 }
 
-// What a line asks for, by its letter, which is 0 where it is no request. A job stands in the place of a stanza.
+// What a line asks for, by its letter, which is 0 if it is no request. A job stands in the place of a stanza.
 pub struct Request {
     pub letter: u8,
     pub stanza: Span,
@@ -54,7 +54,7 @@ struct Run {
     end: usize,
 }
 
-// The word after the one that ends at `end`: none where the line ends there.
+// The word after the one that ends at `end`; an empty one if the line ends there.
 fn next_word(line: &[u8], end: usize) -> Span
     requires { ⌜ end ≤ length (now line) ⌝ }
     ensures { λ r. ⌜ NextWord (now (line .entry)) end r ⌝ }
@@ -73,7 +73,7 @@ fn next_word(line: &[u8], end: usize) -> Span
     Span { from: from, to: to }
 }
 
-// The octets that a word from i to e spells: '-' spells none.
+// Reads the octets that the word from i to e spells; '-' spells none.
 fn word_octets(out: &mut [u8], n: usize, t: &[u8], i: usize, e: usize) -> Value
     requires { ⌜ (n ≤ 2 ^ 30) × (i ≤ e) × (e ≤ length (now t)) × (length (now t) ≤ 2 ^ 24) ⌝ }
     ensures { λ r. ⌜ Values (now (out .entry)) (now (out .exit)) n r (octetsOf (slice i e (now (t .entry)))) ⌝ }
@@ -91,7 +91,7 @@ fn word_octets(out: &mut [u8], n: usize, t: &[u8], i: usize, e: usize) -> Value
     base_group::lettered(out, n, t, i, e, 100, 4, 16, 8, 4)
 }
 
-// The octets that the next word spells, stored from n on.
+// Reads the octets that the next word spells, and stores them from n on.
 fn next_octets(line: &[u8], end: usize, out: &mut [u8], n: usize) -> Spelled
     requires { ⌜ (end ≤ length (now line)) × (length (now line) ≤ 2 ^ 24) × (n ≤ 2 ^ 30) ⌝ }
     ensures { λ r. ⌜ Spells (said octetsOf (wordsAt (now (line .entry)) end)) (now (line .entry)) end (now (out .entry)) (now (out .exit)) n r ⌝ }
@@ -114,7 +114,7 @@ fn next_octets(line: &[u8], end: usize, out: &mut [u8], n: usize) -> Spelled
     }
 }
 
-// What a word that is no number comes to.
+// The answer for a word that is no number.
 fn no_number(end: usize) -> Count
     ensures { λ r. ⌜ r ≡ record { good = false; value = 0; end = end } ⌝ }
 {
@@ -125,7 +125,7 @@ fn no_number(end: usize) -> Count
     }
 }
 
-// The number that the next word's digits spell, of at most 64 bits.
+// Reads the number, of at most 64 bits, that the digits of the next word spell.
 fn next_number(line: &[u8], end: usize) -> Count
     requires { ⌜ end ≤ length (now line) ⌝ }
     ensures { λ r. ⌜ Counts (now (line .entry)) end r ⌝ }
@@ -157,7 +157,7 @@ fn next_number(line: &[u8], end: usize) -> Count
     }
 }
 
-// The origin's octets, which only a request to read has.
+// Reads the origin's octets, which only a request to read has.
 fn next_origin(line: &[u8], letter: u8, end: usize, out: &mut [u8], n: usize) -> Spelled
     requires { ⌜ (end ≤ length (now line)) × (length (now line) ≤ 2 ^ 24) × (n ≤ 2 ^ 30) ⌝ }
     ensures { λ r. ⌜ Spells (originWord letter (wordsAt (now (line .entry)) end)) (now (line .entry)) end (now (out .entry)) (now (out .exit)) n r ⌝ }
@@ -179,7 +179,7 @@ fn letter_if(good: bool, letter: u8) -> u8
     if good { letter } else { 0 }
 }
 
-// A request to judge, or a job.
+// Reads a request to judge, or a job.
 fn read_one(line: &[u8], octets: &mut [u8], letter: u8) -> Request
     requires { ⌜ (1 ≤ length (now line)) × (length (now line) ≤ 2200000) × (1100000 ≤ length (now octets)) × (0 < letter) ⌝ }
     ensures { λ r. ⌜ Within (length (now (octets .entry))) r × (asked r (now (octets .exit)) ≡ oneWord letter (wordsAt (now (line .entry)) 1)) ⌝ }
@@ -199,7 +199,7 @@ fn read_one(line: &[u8], octets: &mut [u8], letter: u8) -> Request
     }
 }
 
-// The stanza and the run of a request.
+// Reads the stanza and the run of a request.
 fn next_run(line: &[u8], octets: &mut [u8]) -> Run
     requires { ⌜ (1 ≤ length (now line)) × (length (now line) ≤ 2200000) ⌝ }
     ensures { λ r. ⌜ Runs (now (line .entry)) (now (octets .entry)) (now (octets .exit)) r ⌝ }
@@ -216,7 +216,7 @@ fn next_run(line: &[u8], octets: &mut [u8]) -> Run
     }
 }
 
-// A request to print, or to read.
+// Reads a request to print or to read.
 fn read_run(line: &[u8], octets: &mut [u8], letter: u8) -> Request
     requires { ⌜ (1 ≤ length (now line)) × (length (now line) ≤ 2200000) × (1100000 ≤ length (now octets)) × (0 < letter) ⌝ }
     ensures { λ r. ⌜ Within (length (now (octets .entry))) r × (asked r (now (octets .exit)) ≡ runWords letter (wordsAt (now (line .entry)) 1)) ⌝ }
@@ -246,7 +246,7 @@ fn read_run(line: &[u8], octets: &mut [u8], letter: u8) -> Request
     }
 }
 
-// What a line that is no request comes to.
+// The answer for a line that is no request.
 fn no_request() -> Request
     ensures { λ r. ⌜ Within 0 r × (r .letter ≡ 0) ⌝ }
 {
@@ -261,7 +261,7 @@ fn no_request() -> Request
     }
 }
 
-// What a line, which is without its LF, asks for. The octets of its words are stored one after another.
+// Reads what a line, without its LF, asks for. The octets of its words are stored one after another.
 pub fn read(line: &[u8], octets: &mut [u8]) -> Request
     requires { ⌜ 1100000 ≤ length (now octets) ⌝ }
     ensures { λ r. ⌜ Within (length (now (octets .entry))) r × (asked r (now (octets .exit)) ≡ requestOf (now (line .entry))) ⌝ }
@@ -291,7 +291,7 @@ pub fn read(line: &[u8], octets: &mut [u8]) -> Request
     no_request()
 }
 
-// The place of the first LF from i on, or the length where there is none.
+// The place of the first LF from i on, or the length if there is none.
 pub fn line_end(s: &[u8], i: usize) -> usize
     requires { ⌜ i ≤ length (now s) ⌝ }
     ensures { λ r. ⌜ (i ≤ r) × (r ≤ length (now (s .entry))) × (r ≡ lineEnd (now (s .entry)) i) ⌝ }
@@ -299,9 +299,9 @@ pub fn line_end(s: &[u8], i: usize) -> usize
     octets::line_end(s, i)
 }
 
-// Moves the octets from a place on, which are the start of a line, to the front, and answers how many are kept: of a line that
-// is too long to be a request, one octet more than one may have. Where they stand there already nothing is moved, so that a
-// long line, which comes in many pieces, is not copied again with each.
+// Moves the octets from `start` on, which begin a line, to the front, and returns how many are kept: of a line that is too long
+// to be a request, one octet more than a request may have. If they are at the front already, nothing is moved, so that a long
+// line, which comes in many pieces, is not copied again with each piece.
 pub fn keep(buf: &mut [u8], start: usize) -> usize
     requires { ⌜ start ≤ length (now buf) ⌝ }
     ensures { λ r. ⌜ (r ≡ min (length (now (buf .entry)) - start) 2200001) × (r ≤ length (now (buf .entry))) × (r ≤ 2200001) × (take r (now (buf .exit)) ≡ take r (drop start (now (buf .entry)))) ⌝ }

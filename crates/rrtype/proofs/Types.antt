@@ -20,7 +20,7 @@ use Rattle.stanza_words.proofs.Laws.{same-length as word-length}
 use Rattle.number.specs.Numbers.{octetsOf}
 use Rattle.number.proofs.Numbers.{octets-of}
 
--- a type's octets
+-- the octets of a type
 pub type-octets : (t : List ℕ) (v : Number) → v ≡ numberOf (typeNumber t) → octetsOf 2 v ≡ readType t
 type-octets t v q = rw q (octets-of 2 (typeNumber t))
 
@@ -49,7 +49,7 @@ module _ (s : List ℕ) (i : ℕ) where
       → sameWord (slice i (i + 4) s) (ascii "TYPE") ≡ sameLetter (getD s i 0) 84 && (sameLetter (getD s (i + 1) 0) 89 && (sameLetter (getD s (i + 2) 0) 80 && sameLetter (getD s (i + 3) 0) 69))
   type-word h = rw (four-octets h, and-true (sameLetter (getD s (i + 3) 0) 69))
 
-  -- the number after that word, or after another, or none
+  -- the number after that word; no number after another word or a shorter text
   pub type-named : (e : ℕ) → i + 4 ≤ e → sameWord (slice i (i + 4) s) (ascii "TYPE") ≡ true → below 65536 (decimalOf (slice (i + 4) e s)) ≡ typeNumber (slice i e s)
   type-named e h w = rw (part s i 4 e h, w, rest s i 4 e)
 
@@ -61,7 +61,7 @@ module _ (s : List ℕ) (i : ℕ) where
       let k : length (take 4 (slice i e s)) < 4 = omega (arith, length-take 4 (slice i e s), length-slice i e s l) in
       rw (word-length true (take 4 (slice i e s)) (ascii "TYPE") (λ q. omega arith))
 
--- digits that were read up to j
+-- the number of the digits from i to j, and the type that they end
 pub digits-ended : (t : List ℕ) (i j v : ℕ) → j ≤ length t → j - i ≤ 10 → ((e : ℕ) → j ≤ e → e ≤ length t → valueFrom v (slice j e t) ≡ valueFrom 0 (slice i e t)) → i < j → decimalOf (slice i j t) ≡ some v
 digits-ended t i j v l h q k =
     decimal-value t i j l (omega arith) h ∙ sym (q j (omega arith) l) ∙ ap (valueFrom v) (nothing t j j (omega arith)) ∙ nothing-left v

@@ -1,4 +1,4 @@
-// RR types, `TYPE` and a number.
+// Prints RR types: `TYPE` and a number.
 ghost use Prim.Native.Nat.{_+_, _^_, _<_, _≤_};
 ghost use mathlib.Core.Path.{_≡_};
 ghost use lib.ListN.{length};
@@ -10,7 +10,7 @@ use buffer::put_all;
 use digits::put_decimal;
 use octets::integer::two;
 
-// A type by its number.
+// Writes the type with the number v.
 pub fn number(out: &mut [u8], n: usize, v: u64) -> usize
     requires { ⌜ (n ≤ 2 ^ 31) × (v < 65536) ⌝ }
     ensures { λ r. ⌜ Wrote (now (out .entry)) (now (out .exit)) n r (typeText v) ⌝ }
@@ -19,7 +19,7 @@ pub fn number(out: &mut [u8], n: usize, v: u64) -> usize
     put_decimal(out, m, v)
 }
 
-// A type that is two octets.
+// Writes the type in the two octets from i to e.
 pub fn field(out: &mut [u8], n: usize, p: &[u8], i: usize, e: usize) -> usize
     requires { ⌜ (n < 2 ^ 30) × (e ≡ i + 2) × (e ≤ length (now p)) ⌝ }
     ensures { λ r. ⌜ Wrote (now (out .entry)) (now (out .exit)) n r (typeText (Digits.number 256 (slice i e (now (p .entry))))) ⌝ }

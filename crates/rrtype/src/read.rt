@@ -1,4 +1,4 @@
-// RR types, `TYPE` and a number.
+// Reads RR types: `TYPE` and a number.
 ghost use Prim.Native.Nat.{_+_, _^_, _<_, _≤_};
 ghost use mathlib.Core.Path.{_≡_};
 ghost use lib.Dec.{eqb};
@@ -44,13 +44,13 @@ fn named_type(t: &[u8], i: usize) -> bool
     same_letter(t[i + 3], b'E')
 }
 
-// Digits up to a place, and their number.
+// The end of some digits, and their number.
 struct Digits {
     end: usize,
     value: u64,
 }
 
-// At most five digits from i on.
+// The digits from i on, at most five.
 fn five_digits(t: &[u8], i: usize) -> Digits
     requires { ⌜ i + 5 ≤ length (now t) ⌝ }
     ensures { λ r. ⌜ (i ≤ r .end) × (r .end ≤ i + 5) × (i < r .end → decimalOf (slice i (r .end) (now (t .entry))) ≡ some (r .value)) ⌝ }
@@ -71,13 +71,13 @@ fn five_digits(t: &[u8], i: usize) -> Digits
     Digits { end: j, value: v }
 }
 
-// A type that octets begin with: none that is plain; or its number, and where its digits end.
+// A type at the front of some octets: its number and where its digits end; or `Other`, none that is recognized.
 pub enum Front {
     Other,
     Found(u64, usize),
 }
 
-// The type from i on, of at most five digits: they are read in one walk.
+// The type at i, if it has at most five digits: it is read in one pass.
 pub fn plain_front(t: &[u8], i: usize) -> Front
     requires { ⌜ i + 9 ≤ length (now t) ⌝ }
     ensures { λ r. ⌜ FrontAt (now (t .entry)) i r ⌝ }
@@ -97,7 +97,7 @@ pub fn plain_front(t: &[u8], i: usize) -> Front
     Front::Other
 }
 
-// The number of a type.
+// The number of the type from i to e.
 pub fn number(t: &[u8], i: usize, e: usize) -> Number
     requires { ⌜ (i ≤ e) × (e ≤ length (now t)) ⌝ }
     ensures { λ r. ⌜ r ≡ numberOf (typeNumber (slice i e (now (t .entry)))) ⌝ }
@@ -111,7 +111,7 @@ pub fn number(t: &[u8], i: usize, e: usize) -> Number
     Number::Fault
 }
 
-// A type in two octets.
+// Reads a type into two octets.
 pub fn field(out: &mut [u8], n: usize, t: &[u8], i: usize, e: usize) -> Value
     requires { ⌜ (n < 2 ^ 30) × (i ≤ e) × (e ≤ length (now t)) ⌝ }
     ensures { λ r. ⌜ Values (now (out .entry)) (now (out .exit)) n r (readType (slice i e (now (t .entry)))) ⌝ }

@@ -54,7 +54,7 @@ pub text-none : (xs : List ℕ) (ps : List (List ℕ)) → partsOf [] xs ≡ par
 unfolding textOf textOfParts
 text-none xs ps e = rw e
 
--- a field's text after others: nothing is written of an empty one, and a space before any other
+-- a field's text after others: nothing for an empty one, and a space before any other
 pub lead-none : {xs ys t : List ℕ} {at w : ℕ} → (at ≡ 0 → ⊥) → w ≡ 0 → Wrote xs ys (at + 1) (at + 1 + w) t → Wrote xs ys at at (lead at t)
 lead-none {xs} {ys} {t} {at} {w} h z v = by at t h v
   where
@@ -76,14 +76,14 @@ lead-length zero t = omega arith
 lead-length (suc n) [] = omega arith
 lead-length (suc n) (x ∷ t) = omega arith
 
--- a field's text is not long
+-- a field's text is not too long
 pub field-short : (s : List ℕ) (d : FieldDesc) → Usable s d → (p : List ℕ) (i e : ℕ) → ((j : ℕ) → getD p j 0 < 256) → e ≤ length p
     → taken (start (kindFor s d)) (slice i e p) ≡ took (e - i) → length (shown (kindFor s d) (slice i e p)) ≤ 4 * (e - i) + 655423
 field-short s d u p i e b l t =
     let n = length-slice i e p l in
     omega (arith, field-laws (kindFor s d) (u .sound) .bound (slice i e p) (below-drop 256 i (take e p) (below-take 256 e p (below-each 256 p b))) (t ∙ ap took (sym n)), n, cap-most (kindFor s d))
 
--- A turn of the loop over a run: k fields are gone, the octets from i on are left, and the next field, d, takes w of them.
+-- A turn of the loop over a run: k fields are written, the octets from i on are left, and the next field, d, takes w of them.
 pub record Turn (s : List ℕ) (fs : List FieldDesc) (first many : ℕ) (p : List ℕ) (k i w : ℕ) (d : FieldDesc) : Type 0 where
   pub within : i + w ≤ length p
   pub takes : taken (start (kindFor s d)) (slice i (i + w) p) ≡ took (i + w - i)
@@ -129,7 +129,7 @@ text-went {n = n} rest f t o′ r v e w =
 pub went-bound : {o o′ : List ℕ} {n r : ℕ} (f : List ℕ) (m : ℕ) → length f ≤ m → Wrote o o′ n r (lead n f) → r ≤ n + m + 1
 went-bound {n = n} {r} f m h w = omega (arith, w .count, lead-length n f)
 
--- no field is left, and so no text
+-- no field is left, and so no text is
 pub run-done : (s : List ℕ) (fs : List FieldDesc) (first many k : ℕ) (xs : List ℕ) (at : ℕ) → many ≤ k
     → (ps : List (List ℕ)) × (partsOf (kindsFrom s fs (first + k) (many - k)) xs ≡ parts ps) → lead at (textOf (kindsFrom s fs (first + k) (many - k)) xs) ≡ []
 run-done s fs first many k xs at h (ps, e) =

@@ -1,4 +1,4 @@
--- What printing asks of a run and its octets.
+-- What printing requires of a run and its octets.
 use Prim.Native.Nat.{ℕ, zero, suc, _≤_}
 use mathlib.Core.Path.{_≡_}
 use mathlib.Core.List.{List, [], _∷_}
@@ -13,7 +13,7 @@ pub record Accepted (s : List ℕ) (fs : List FieldDesc) (first many : ℕ) (xs 
   pub short : length xs ≤ 65535
   pub taken-all : (ps : List (List ℕ)) × (partsOf (kindsFrom s fs first many) xs ≡ parts ps)
 
--- what is written of a text after n octets: a space comes first, if neither is empty
+-- what is written for a text after n octets: a space comes first if neither is empty
 abbrev pub lead : ℕ → List ℕ → List ℕ
 lead zero t = t
 lead (suc n) [] = []

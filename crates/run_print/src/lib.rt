@@ -1,4 +1,4 @@
-// The text of a run of fields.
+// Prints a run of fields.
 ghost use Prim.Native.Nat.{_-_, _^_, _<_, _≤_};
 ghost use mathlib.Core.Path.{_≡_};
 ghost use lib.ListN.{length};
@@ -13,7 +13,7 @@ ghost use Rattle.stanza_types.specs.Fields.{kindFor, Usable};
 ghost use Rattle.run_print.specs.Printing.{Accepted, lead};
 use stanza_types::FieldDesc;
 
-// The text of a field after at octets of text: a space comes first, if neither is empty.
+// Writes the text of a field after `at` octets of text, with a space between them if neither is empty.
 fn put_next(
     out: &mut [u8],
     at: usize,
@@ -38,7 +38,7 @@ fn put_next(
     at + 1 + w
 }
 
-// The text of the fields from number first on, so many, of RDATA that they take.
+// Writes the text of `many` fields, starting at `first`, for RDATA that they take.
 pub fn put_run(
     out: &mut [u8],
     codes: &[u64; 64],

@@ -15,7 +15,7 @@ use Rattle.buffer.proofs.Laws.{wrote-none, wrote-append}
 use Rattle.run_read.specs.Reading.{Stands}
 
 module _ (read : Kind → List Token → Got) where
-  -- Of a run ks and its tokens ts k fields are gone, whose octets are xs: what the others, ls, make of the tokens that are left, us, comes to what the run makes.
+  -- After k fields of a run ks on tokens ts, with the octets xs: what the other fields, ls, make of the tokens left, us, tells what the run makes of ts.
   pub record Ahead (ks : List Kind) (ts : List Token) (ls : List Kind) (us : List Token) (k : ℕ) (xs : List ℕ) : Type 0 where
     pub refuses : (n i : ℕ) → readRun read ls us ≡ refused n i → readRun read ks ts ≡ refused n (k + i)
     pub accepts : (ps : List (List ℕ)) → readRun read ls us ≡ parts ps → (qs : List (List ℕ)) × (readRun read ks ts ≡ parts qs) × (flat qs ≡ xs ++ flat ps)
@@ -62,7 +62,7 @@ module _ (read : Kind → List Token → Got) where
         by [] h = refl
         by (v ∷ vs) h = absurd (true≢false (sym h))
 
--- the octets of the fields that are gone
+-- the octets of the fields that are read
 pub stands-none : (o : List ℕ) → Stands o o 0 []
 stands-none o = record { whole = λ h. wrote-none o 0; over = λ h. absurd (omega arith) }
 

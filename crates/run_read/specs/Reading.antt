@@ -9,12 +9,12 @@ use Rattle.buffer.specs.Writing.{Wrote}
 use Rattle.run_read.specs.declared.Run.{Run}
 use Rattle.run_read.specs.declared.Run.the-variants.{Refused, Done}
 
--- the octets of a run's fields stand in the buffer, and the count is theirs, up to 65,535; a higher one says that they are more
+-- a count of at most 65,535 is that of the run's octets, which stand in the buffer; a higher count says that there are more octets than that
 pub record Stands (before after : List ℕ) (count : ℕ) (xs : List ℕ) : Type 0 where
   pub whole : count ≤ maxRdata → Wrote before after 0 count xs
   pub over : maxRdata < count → maxRdata < length xs
 
--- they do; or a refusal's number and place
+-- the octets are the run's, as said; or the refusal's number and place
 abbrev pub Reads : List ℕ → List ℕ → Run → Parts → Type 0
 Reads before after (Refused n i) p = p ≡ refused n i
 Reads before after (Done m) p = (ps : List (List ℕ)) × (p ≡ parts ps) × Stands before after m (flat ps)

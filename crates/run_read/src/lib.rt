@@ -1,4 +1,4 @@
-// A run of fields, read from the tokens of a text.
+// Reads a run of fields from the tokens of a text.
 ghost use Prim.Native.Nat.{_≤_};
 ghost use mathlib.Core.Path.{_≡_};
 ghost use mathlib.Core.Bool.{true};
@@ -14,7 +14,7 @@ use field_read::Field;
 use tokens::Next;
 use tokens::next_token;
 
-// What a run makes of a text: a refusal's number and place; or the count of its octets, where 65,536 stands for any number over 65,535.
+// What a run makes of a text: a refusal's number and place; or the number of its octets, 65,536 standing for any over 65,535.
 pub enum Run {
     Refused(u32, u32),
     Done(usize),
@@ -34,7 +34,7 @@ fn none_from(t: &[u8], i: usize) -> bool
     }
 }
 
-// The fields from number first on, so many. 65,536 octets stand for any number of them over 65,535.
+// Reads `many` fields, starting at `first`. A count of 65,536 stands for any number of octets over 65,535.
 pub fn read_run(
     out: &mut [u8],
     codes: &[u64; 64],

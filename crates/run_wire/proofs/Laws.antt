@@ -1,4 +1,4 @@
--- Laws of runs: their kinds by number, and what the fields after the first few make of the octets that are left.
+-- Laws of runs: the kinds of their fields, and what the fields after the first few make of the octets that are left.
 use Prim.Native.Nat.{ℕ, zero, suc, _+_, _-_, _≤_, _<_}
 use mathlib.Core.Path.{_≡_, refl, sym, ap, _∙_, subst}
 use mathlib.Core.List.{List, [], _∷_}
@@ -47,7 +47,7 @@ module _ (s : List ℕ) (fs : List FieldDesc) where
       let q : 0 + j ≡ j = omega arith in
       rw p (ap (take n) (kinds-drop j 0 (n + (m - j - n)) ∙ ap (λ i. kindsFrom s fs i (n + (m - j - n))) q) ∙ kinds-take n j (m - j - n))
 
-  -- the next field, d, of a run of which k are gone
+  -- the next field, d, after the first k fields of a run
   pub next-kind : (first many k : ℕ) → k < many → (d : FieldDesc) → d ≡ getD fs (first + k) noField
       → kindsFrom s fs (first + k) (many - k) ≡ kindFor s d ∷ kindsFrom s fs (first + (k + 1)) (many - (k + 1))
   next-kind first many k h d e =
@@ -61,7 +61,7 @@ module _ (s : List ℕ) (fs : List FieldDesc) where
   pub all-kinds : (first many : ℕ) → kindsFrom s fs (first + 0) (many - 0) ≡ kindsFrom s fs first many
   all-kinds first many = let p : many - 0 ≡ many = omega arith in let q : first + 0 ≡ first = omega arith in rw (p, q)
 
--- Of a run ks and its octets xs k fields are gone: what the others, ls, make of the octets that are left, ys, comes to what the run makes.
+-- After k fields of a run ks on octets xs: what the other fields, ls, make of the octets that are left, ys, tells what the run makes of xs.
 pub record Ahead (ks : List Kind) (xs : List ℕ) (ls : List Kind) (ys : List ℕ) (k : ℕ) : Type 0 where
   pub refuses : (n i : ℕ) → partsOf ls ys ≡ refused n i → partsOf ks xs ≡ refused n (k + i)
   pub accepts : (ps : List (List ℕ)) → partsOf ls ys ≡ parts ps → (qs : List (List ℕ)) × (partsOf ks xs ≡ parts qs)
@@ -100,7 +100,7 @@ module _ {ks : List Kind} {xs : List ℕ} {ls : List Kind} {ys : List ℕ} {k : 
   unfolding partsOf
   ahead-done q = a .accepts [] (rw (e, q))
 
--- a turn of the loop over a run: k fields are gone and the octets from `at` on are left, of which the next field, d, takes t
+-- a turn of the loop over a run: k fields are taken, the octets from `at` on are left, and t is what the next field, d, takes of them
 module _ (fs : List FieldDesc) (first many : ℕ) (p : List ℕ) (k at : ℕ) (t : Take) (d : FieldDesc) (e : d ≡ getD fs (first + k) noField)
     (a : (s : List ℕ) → Ahead (kindsFrom s fs first many) p (kindsFrom s fs (first + k) (many - k)) (drop at p) k) (h : k < many)
     (g : (l : List Symbol) → takenIn t ≡ taken (start (kindOf l (d .form))) (slice at (length p) p)) where

@@ -1,4 +1,4 @@
-// A run of fields on the wire.
+// Takes a run of fields off the wire.
 ghost use Prim.Native.Nat.{ℕ, _+_, _≤_};
 ghost use mathlib.Core.List.{List};
 ghost use lib.ListN.{length};
@@ -6,13 +6,13 @@ ghost use Rattle.stanza_code.specs.Code.{fieldsOf};
 ghost use Rattle.run_wire.specs.Run.{kindsFrom, Checks};
 use field_wire::Take;
 
-// What a run makes of RDATA: its fields take it all, or a refusal's number and place.
+// What a run makes of RDATA: its fields take all of it; or a refusal's number and place.
 pub enum Checked {
     Good,
     Refused(u32, u32),
 }
 
-// The fields from number first on, so many, taken from the left.
+// Takes `many` fields, starting at `first`, from the left.
 pub fn check(codes: &[u64; 64], first: usize, many: usize, p: &[u8]) -> Checked
     requires { ⌜ (first + many ≤ 64) × (length (now p) ≤ 65535) ⌝ }
     ensures { λ r. ⌜ ((s : List ℕ) → Checks (kindsFrom s (fieldsOf (now (codes .entry))) first many) (now (p .entry)) r) ⌝ }

@@ -1,4 +1,4 @@
--- A code and its parts, and the fields of codes by their numbers.
+-- A code and its parts, and the fields in an array of codes.
 use Prim.Native.Nat.{ℕ, zero, suc, _+_, _*_, _/_, _%_, _<_}
 use mathlib.Core.Path.{_≡_, refl, sym, ap, _∙_}
 use mathlib.Core.List.{List, [], _∷_}
@@ -8,7 +8,7 @@ use Rattle.stanza_types.specs.declared.FieldDesc.{FieldDesc}
 use Rattle.stanza_types.specs.Fields.{noField}
 use Rattle.stanza_code.specs.Code.{formAt, fieldWith, fieldAt, fieldsOf}
 
--- a code that is put together comes apart again
+-- the parts of a code can be read back from it
 pub code-parts : (n p a e : ℕ) → n < 256 → p < 256 → a < 65536 → e < 65536 → fieldAt (n + p * 256 + a * 65536 + e * 4294967296) ≡ fieldWith (formAt n p) a e
 code-parts n p a e h i j k = rw (number, parameter, from, to)
   where
@@ -27,14 +27,14 @@ code-parts n p a e h i j k = rw (number, parameter, from, to)
     to : c / 4294967296 % 65536 ≡ e
     to = omega arith
 
--- the field at a number; the code 0 is the field of zeros
+-- the field at place k; the code 0 is a field of zeros
 field-at : (cs : List ℕ) (k : ℕ) → getD (fieldsOf cs) k noField ≡ fieldAt (getD cs k 0)
 unfolding formAt
 field-at [] k = refl
 field-at (c ∷ cs) zero = refl
 field-at (c ∷ cs) (suc k) = field-at cs k
 
--- the field that is read at a number
+-- the field that the code reads at place k
 pub read-at : (cs : List ℕ) (k : ℕ) {d : FieldDesc} → d ≡ fieldAt (getD cs k 0) → d ≡ getD (fieldsOf cs) k noField
 read-at cs k e = e ∙ sym (field-at cs k)
 
@@ -47,7 +47,7 @@ fields-set [] k c = refl
 fields-set (x ∷ cs) zero c = refl
 fields-set (x ∷ cs) (suc k) c = ap (λ l. fieldAt x ∷ l) (fields-set cs k c)
 
--- codes of fields: the same fields but for their texts
+-- the codes of fields give the same fields without their texts
 abbrev pub withoutText : FieldDesc → FieldDesc
 withoutText d = fieldWith (d .form) (d .«qualifiers_at») (d .«qualifiers_end»)
 

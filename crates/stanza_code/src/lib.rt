@@ -1,10 +1,10 @@
-// A field of a description in 64 bits, so that an array of them is one of numbers, which can be lent.
+// A field of a description in 64 bits, so that an array of fields is an array of numbers, which can be lent.
 ghost use mathlib.Core.Path.{_≡_};
 ghost use Rattle.stanza_code.specs.Code.{formAt, fieldWith, fieldAt};
 use stanza_types::FieldDesc;
 use stanza_types::Form;
 
-// The parts of a code, put together.
+// The code made of its parts.
 fn together(n: u8, p: u8, at: u16, end: u16) -> u64
     ensures { λ r. ⌜ fieldAt r ≡ fieldWith (formAt n p) at end ⌝ }
 {
@@ -14,7 +14,7 @@ fn together(n: u8, p: u8, at: u16, end: u16) -> u64
     form + from + to
 }
 
-// The code of a field of a form with the qualifiers from at to end.
+// The code of a field of the given form with the qualifiers from at to end.
 pub fn code(form: Form, at: u16, end: u16) -> u64
     ensures { λ r. ⌜ fieldAt r ≡ fieldWith form at end ⌝ }
 {
@@ -38,7 +38,7 @@ pub fn code(form: Form, at: u16, end: u16) -> u64
     }
 }
 
-// The form of a number and a parameter.
+// The form with the number n and the parameter p.
 fn form_at(n: u8, p: u8) -> Form
     ensures { λ r. ⌜ r ≡ formAt n p ⌝ }
 {
@@ -62,7 +62,7 @@ fn form_at(n: u8, p: u8) -> Form
     }
 }
 
-// The field of a code.
+// The field that a code stands for.
 pub fn field(c: u64) -> FieldDesc
     ensures { λ r. ⌜ r ≡ fieldAt c ⌝ }
 {

@@ -1,4 +1,4 @@
--- Names that are the same have the same number, so that names with numbers of their own are different.
+-- Names that are the same have the same number, so names with different numbers differ.
 use Prim.Native.Nat.{ℕ, zero, suc, _+_, _-_, _*_, _%_, _≤_, _<_}
 use mathlib.Core.Path.{_≡_, refl, sym, ap, _∙_}
 use mathlib.Core.Bool.{Bool, true, false}
@@ -20,7 +20,7 @@ use Rattle.stanza_distinct.specs.Distinct.{folded, bucketOf}
 use Rattle.stanza_words.proofs.Laws.{same-next, notComma, last-piece, next-piece, name-in, twice-on, twice-last}
 
 module _ (g : Bool) where
-  -- the same names have the same length, and the same octet at each place
+  -- names that are the same have the same length, and the same octet at each place
   same-size : (xs ys : List ℕ) → sameBy g xs ys ≡ true → length xs ≡ length ys
   same-size xs ys h = by g xs ys h
     where
@@ -79,7 +79,7 @@ module _ (g : Bool) where
   pub bucket-below : (x : List ℕ) → bucketOf g x < 256
   bucket-below x = mod-lt _ (omega arith)
 
-  -- none of these names has a number that was met
+  -- none of these names has a number that was met before
   abbrev pub Clear : List ℕ → List Part → Type 0
   Clear met [] = Unit {0}
   Clear met (p ∷ ps) = (getD met (bucketOf g (nameIn p)) 0 ≡ 0) × Clear met ps

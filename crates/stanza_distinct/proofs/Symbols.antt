@@ -1,4 +1,4 @@
--- Symbols found in one pass: a name, `=`, digits, and a comma or the end.
+-- Symbols recognized in one pass: a name, `=`, digits, and a comma or the end.
 use Prim.Native.Nat.{ℕ, _+_, _≤_, _<_}
 use Prim.Native.Char.{code}
 use mathlib.Core.Path.{_≡_, refl, sym, ap, _∙_}
@@ -25,7 +25,7 @@ use Rattle.stanza_distinct.specs.declared.Piece.the-variants.{Other, Sym
 use Rattle.stanza_words.specs.declared.Test.the-variants.{NotSymbol}
 use Rattle.stanza_words.proofs.Laws.{notComma, begins, all-passes, found-number}
 
--- octets of a class without the comma
+-- octets that pass a test that a comma fails
 module _ (f : ℕ → Bool) (k : f (code ",") ≡ false) where
   other-octet : (x : ℕ) → f x ≡ true → notComma x ≡ true
   other-octet x h = by (eqb x (code ",")) refl
@@ -38,7 +38,7 @@ module _ (f : ℕ → Bool) (k : f (code ",") ≡ false) where
   no-commas [] h = refl
   no-commas (x ∷ xs) h = rw (other-octet x (and-left (f x) (allOf f xs) h), no-commas xs (and-right (f x) (allOf f xs) h))
 
--- an octet is there
+-- an octet stands at n
 pub octet-there : (s : List ℕ) (n b : ℕ) → b ≤ length s → firstOr (slice n b s) ≡ 61 → n < b
 octet-there s n b l o = by (ltb n b) refl
   where
@@ -86,6 +86,6 @@ module _ (s : List ℕ) (i b n z : ℕ) (h : i ≤ b) (l : b ≤ length s) (q : 
       rw (e .0, e .1)
       (ended, name-end, sym (found-number s i z n (omega (arith, upto, from)) (omega (arith, upto)) name-end g v (omega (arith, upto)) (octet-is s n b l o) (e .2)))
 
--- a symbol's number is small enough
+-- a symbol whose number is below the limit
 pub below-limit : (limit : ℕ) (p w : Part) (v : ℕ) → qualifier p ≡ some (symbol (record { spelling = w; value = v })) → v < limit → holdsOf (NotSymbol limit) (qualifier p) ≡ false
 below-limit limit p w v q h = rw (q, lt-ltb v limit h)

@@ -1,4 +1,4 @@
--- Symbols, and names that are told apart by a number of each.
+-- Symbols, and names that are told apart by their numbers.
 use Prim.Native.Nat.{ℕ, _+_, _-_, _*_, _%_}
 use Prim.Native.Char.{code}
 use mathlib.Core.Path.{_≡_}
@@ -15,24 +15,24 @@ use Rattle.octets.specs.Octets.{partIn, frontEnd}
 use Rattle.stanza_distinct.specs.declared.Piece.{Piece}
 use Rattle.stanza_distinct.specs.declared.Piece.the-variants.{Other, Symbol as SymbolPiece}
 
--- an octet without the case of letters, or as it is
+-- the octet, in lower case if `ignoring`
 abbrev pub folded : Bool → ℕ → ℕ
 folded ignoring x = cond ignoring (lowered x) x
 
--- a number that names which are the same share: of their length, and of their first and last octets
+-- a number made of a name's length and its first and last octets: names that are the same have the same number
 abbrev pub bucketOf : Bool → List ℕ → ℕ
 bucketOf ignoring t = ((length t % 32 + folded ignoring (getD t 0 0)) * 8 + folded ignoring (getD t (length t - 1) 0)) % 256
 
--- the end of what stands from i on, before the next comma or b
+-- the place of the next comma from i on, or b
 abbrev pub commaAt : List ℕ → ℕ → ℕ → ℕ
 commaAt s i b = frontEnd (λ x. not (eqb x (code ","))) s i b
 
--- a number from n + 1 to z
+-- a symbol whose name ends at n, with the number from n + 1 to z
 abbrev pub NumberAt : List ℕ → ℕ → ℕ → Piece → Type 0
 NumberAt s n z Other = Unit {0}
 NumberAt s n z (SymbolPiece m y v) = (m ≡ n) × (y ≡ z) × (decimalOf (slice (n + 1) z s) ≡ some v)
 
--- a symbol from i on, which ends before the next comma or b
+-- a symbol that starts at i and ends at the next comma or at b
 abbrev pub SymbolAt : List ℕ → ℕ → ℕ → Piece → Type 0
 SymbolAt s i b Other = Unit {0}
 SymbolAt s i b (SymbolPiece n z v) =

@@ -1,4 +1,4 @@
-// Names that stand twice among qualifiers, and symbols that are told in one pass.
+// Whether a name occurs twice among qualifiers, and symbols that are recognized in one pass.
 ghost use Prim.Native.Nat.{_≤_, _<_};
 ghost use lib.ListN.{length};
 ghost use lib.Seq.{slice};
@@ -11,13 +11,13 @@ ghost use Rattle.stanza_distinct.specs.Distinct.{bucketOf, commaAt, Numb
 ghost use Rattle.stanza_words.specs.declared.Test.the-variants.{NotSymbol};
 use stanza_words::begins_name;
 
-// What stands between commas: a symbol, with the end of its name, its own end, and its number; or what is told otherwise.
+// What stands between commas: a symbol, with the end of its name, its own end and its number; or anything else.
 pub enum Piece {
     Other,
     Symbol(usize, usize, u64),
 }
 
-// Whether the name from a to n and the qualifier from i to z start with other octets.
+// Whether the name from a to n and the qualifier from i to z surely differ, in their first octets.
 fn starts_other(ignoring: bool, s: &[u8], a: usize, n: usize, i: usize, z: usize) -> bool
     requires { ⌜ (n ≤ length (now s)) × (z ≤ length (now s)) ⌝ }
     ensures { λ r. ⌜ (r ≡ true → sameBy ignoring (slice a n (now (s .entry))) (nameIn (partIn (now (s .entry)) i z)) ≡ false) ⌝ }
@@ -31,7 +31,7 @@ fn starts_other(ignoring: bool, s: &[u8], a: usize, n: usize, i: usize, z: usize
     stanza_words::fold(ignoring, s[a]) != stanza_words::fold(ignoring, s[i])
 }
 
-// Whether the name from a to n is the name of the qualifier from i to z. Most start otherwise, and are not gone through.
+// Whether the name from a to n is the name of the qualifier from i to z. Most differ in the first octet and are skipped.
 fn names(ignoring: bool, s: &[u8], a: usize, n: usize, i: usize, z: usize) -> bool
     requires { ⌜ (a ≤ n) × (n ≤ length (now s)) × (i ≤ z) × (z ≤ length (now s)) ⌝ }
     ensures { λ r. ⌜ r ≡ sameBy ignoring (slice a n (now (s .entry))) (nameIn (partIn (now (s .entry)) i z)) ⌝ }
@@ -61,7 +61,7 @@ fn later(ignoring: bool, s: &[u8], a: usize, n: usize, h: usize, b: usize) -> bo
     }
 }
 
-// A number of the name from a to n, which names that are the same share.
+// A number from 0 to 255 for the name from a to n. Names that are the same have the same number.
 fn bucket(ignoring: bool, s: &[u8], a: usize, n: usize) -> usize
     requires { ⌜ (a ≤ n) × (n ≤ length (now s)) ⌝ }
     ensures { λ r. ⌜ r ≡ bucketOf ignoring (slice a n (now (s .entry))) ⌝ }
@@ -74,7 +74,7 @@ fn bucket(ignoring: bool, s: &[u8], a: usize, n: usize) -> usize
     0
 }
 
-// Whether the names between a and b have numbers of their own, so that none is there twice.
+// Whether no two names between a and b have the same number, so that no name occurs twice.
 fn apart(ignoring: bool, s: &[u8], a: usize, b: usize) -> bool
     requires { ⌜ (a ≤ b) × (b ≤ length (now s)) ⌝ }
     ensures { λ r. ⌜ (r ≡ true → twiceIn ignoring (now (s .entry)) a b ≡ false) ⌝ }
@@ -96,7 +96,7 @@ fn apart(ignoring: bool, s: &[u8], a: usize, b: usize) -> bool
     }
 }
 
-// Whether a qualifier between others ends at z: there is a comma, or the end b.
+// Whether a qualifier ends at z: at a comma, or at the end b.
 fn ends_at(s: &[u8], z: usize, b: usize) -> bool
     requires { ⌜ (z ≤ b) × (b ≤ length (now s)) ⌝ }
     ensures { λ r. ⌜ (r ≡ true → z ≡ commaAt (now (s .entry)) z b) ⌝ }
@@ -107,7 +107,7 @@ fn ends_at(s: &[u8], z: usize, b: usize) -> bool
     s[z] == b','
 }
 
-// The symbol from i on and before b, found in one pass.
+// The symbol that starts at i, recognized in one pass; it ends at a comma or at b.
 fn symbol_at(s: &[u8], i: usize, b: usize) -> Piece
     requires { ⌜ (i ≤ b) × (b ≤ length (now s)) ⌝ }
     ensures { λ r. ⌜ SymbolAt (now (s .entry)) i b r ⌝ }
@@ -136,7 +136,7 @@ fn numbered(s: &[u8], n: usize, z: usize) -> Piece
     }
 }
 
-// Whether what is between a and b is surely symbols with numbers below a limit, none of them twice.
+// Whether between a and b there are surely only symbols with numbers below the limit, none of them twice.
 pub fn plain_symbols(limit: u64, s: &[u8], a: usize, b: usize) -> bool
     requires { ⌜ (a ≤ b) × (b ≤ length (now s)) ⌝ }
     ensures { λ r. ⌜ (r ≡ true → (anyIn (NotSymbol limit) (now (s .entry)) a b ≡ false) × (twiceIn true (now (s .entry)) a b ≡ false)) ⌝ }
@@ -167,7 +167,7 @@ pub fn plain_symbols(limit: u64, s: &[u8], a: usize, b: usize) -> bool
     }
 }
 
-// Whether some two qualifiers between a and b have the same name. Each is compared with all after it only where that may be.
+// Whether two qualifiers between a and b have the same name. Each is compared with all after it only if two numbers are equal.
 pub fn twice(ignoring: bool, s: &[u8], a: usize, b: usize) -> bool
     requires { ⌜ (a ≤ b) × (b ≤ length (now s)) ⌝ }
     ensures { λ r. ⌜ r ≡ twiceIn ignoring (now (s .entry)) a b ⌝ }
@@ -178,7 +178,7 @@ pub fn twice(ignoring: bool, s: &[u8], a: usize, b: usize) -> bool
     each_later(ignoring, s, a, b)
 }
 
-// Whether some qualifier between a and b has the name of a later one.
+// Whether some qualifier between a and b has the same name as a later one.
 fn each_later(ignoring: bool, s: &[u8], a: usize, b: usize) -> bool
     requires { ⌜ (a ≤ b) × (b ≤ length (now s)) ⌝ }
     ensures { λ r. ⌜ r ≡ twiceIn ignoring (now (s .entry)) a b ⌝ }

@@ -1,4 +1,4 @@
--- Laws of the parts of a line: each definition of the grammar at a part of a stanza, by what the code tests there.
+-- Laws of the parts of a line: the definitions of the grammar, by what the code tests at places of a stanza.
 use Prim.Native.Nat.{ℕ, _+_, _-_, _≤_, _<_}
 use mathlib.Core.Path.{_≡_, refl, sym, ap, _∙_}
 use mathlib.Core.Bool.{Bool, true, false, not, _&&_}
@@ -50,7 +50,7 @@ first-cons s i e c l b h =
 place : (s : List ℕ) (i e : ℕ) → i ≤ e → e ≤ length s → e - length (slice i e s) ≡ i
 place s i e h l = omega (arith, length-slice i e s l)
 
--- the front that passes
+-- the longest front that passes
 module _ (f : ℕ → Bool) where
   span-starts : ((x : ℕ) → letter x ≡ true → f x ≡ true) → (t : List ℕ) → startsWithLetter (span f t .front) ≡ startsWithLetter t
   span-starts h [] = refl
@@ -67,7 +67,7 @@ module _ (f : ℕ → Bool) where
 pub cut-within : (f : ℕ → Bool) (s : List ℕ) (i e z : ℕ) → i ≤ e → e ≤ length s → z ≡ frontEnd f s i e → (i ≤ z) × (z ≤ e)
 cut-within f s i e z h l q = (omega arith, omega (arith, front-within f s i e h l))
 
--- the front after a first octet
+-- the longest such front after a first octet
 pub later-within : (f : ℕ → Bool) (s : List ℕ) (i e z c : ℕ) → e ≤ length s → c < 256 → firstOr (slice i e s) ≡ c → z ≡ frontEnd f s (i + 1) e → (i + 1 ≤ z) × (z ≤ e)
 later-within f s i e z c l b a q = let h : i < e = first-in s i e c b a in cut-within f s (i + 1) e z (omega arith) l q
 
@@ -137,7 +137,7 @@ module _ (s : List ℕ) (i e z : ℕ) (l : e ≤ length s) (c : firstOr (slice i
   pub number-off : decimalOf (slice (i + 1) z s) ≡ none → none ≡ numberAfter (slice i e s)
   number-off d = rw (first-cons s i e 58 l (omega arith) c, ← digits-at, d)
 
--- options
+-- the optional `:` and letters
 pub no-options : (t : List ℕ) → (firstOr t ≡ 58 → ⊥) → some t ≡ afterOptions t
 no-options [] h = refl
 no-options (x ∷ t) h = rw (ne-eqb x 58 h)
@@ -166,7 +166,7 @@ text-not s i e g h = let o : none ≡ afterOptions (slice i e s) = rw g at h in 
 pub text-by : (s : List ℕ) (i e : ℕ) {p : Place} {j : ℕ} → p ≡ At j → restIn s e p ≡ afterOptions (slice i e s) → freeTextAt e (slice j e s) ≡ textAfter e (slice i e s)
 text-by s i e {j = j} g h = let o : some (slice j e s) ≡ afterOptions (slice i e s) = rw g at h in rw (← o)
 
--- with the name a and the number n
+-- the header with the name a, the number n and the text x
 abbrev headerOf : Part → Numbered → Part → Option Header
 headerOf a n x = some (record { typeName = a; typeNo = n .value; headerText = x })
 
@@ -268,7 +268,7 @@ unnamed s i e h = rw (slice-empty i s) (by (slice i e s) h)
 parts-place : (s : List ℕ) (a z e : ℕ) → a ≤ z → z ≤ e → e ≤ length s → e - length (slice a z s ++ slice z e s) ≡ a
 parts-place s a z e h k l = let m : z ≤ length s = omega arith in omega (arith, length-append (slice a z s) (slice z e s), length-slice a z s m, length-slice z e s l)
 
--- with the qualifiers that there will be
+-- the line with the type k and qualifiers that were found
 abbrev lineOf : ℕ → List ℕ → Qualified → Option FieldLine
 lineOf e k q = do
   n ← fieldNameAt (q .rest)
@@ -327,7 +327,7 @@ typed s i e z h l a q =
 pub untyped : (s : List ℕ) (i e : ℕ) → startsWithLetter (slice i e s) ≡ false → none ≡ fieldLine e (slice i e s)
 untyped s i e a = rw (typed-by (slice i e s) ∙ a)
 
--- a place from j on is one from i on, where i is not after j
+-- a place from j on is one from i on, if i is not after j
 pub from-earlier : {i j e : ℕ} → (i ≤ j) × (j ≤ e) → (p : Place) → Within j e p → Within i e p
 from-earlier h NoPlace k = tt
 from-earlier h (At x) k = (omega (arith, h .0, k .0), k .1)

@@ -18,7 +18,7 @@ abbrev pub headerIn : List ℕ → ℕ → ℕ → HeaderLine → Option Header
 headerIn s at end NoHeader = none
 headerIn s at end (IsHeader h) = some (record { typeName = partIn s at (h .«name_end»); typeNo = h .number; headerText = partIn s (h .«text_at») end })
 
--- a field line whose type begins at `at` and which ends at `end`, its qualifiers being judged yet
+-- a field line whose type begins at `at` and which ends at `end`; its qualifiers are not judged yet
 abbrev pub shapeIn : List ℕ → ℕ → ℕ → Shape → Option FieldLine
 shapeIn s at end NoField = none
 shapeIn s at end (IsField f) =

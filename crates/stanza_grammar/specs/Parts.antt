@@ -1,4 +1,4 @@
--- What the parts of a header and of a field line are, as the code finds them one after another.
+-- The parts of a header and of a field line, as the code finds them one after another.
 use Prim.Native.Nat.{ℕ, _≤_}
 use Prim.Native.Char.{code}
 use mathlib.Core.List.{List, _++_}
@@ -24,7 +24,7 @@ abbrev pub Within : ℕ → ℕ → Place → Type 0
 Within a e NoPlace = Unit {0}
 Within a e (At j) = (a ≤ j) × (j ≤ e)
 
--- what begins at `at` up to a place, and the rest up to `end`
+-- the part from `at` to a place, and the rest up to `end`
 abbrev pub cutIn : List ℕ → ℕ → ℕ → Place → Option Spanned
 cutIn s at end NoPlace = none
 cutIn s at end (At e) = some (record { front = slice at e s; rest = slice e end s })
@@ -53,7 +53,7 @@ abbrev pub DigitsWithin : ℕ → Digits → Type 0
 DigitsWithin end NoDigits = Unit {0}
 DigitsWithin end (UpTo e v) = e ≤ end
 
--- the qualifiers, being judged yet, and the rest after them
+-- the qualifiers, not judged yet, and the rest after them
 abbrev pub bracketsIn : List ℕ → ℕ → Brackets → Option Qualified
 bracketsIn s end Unclosed = none
 bracketsIn s end (Between a e j) = qualifiersIn s a e >>= λ qs. some (record { qualifiers = qs; rest = slice j end s })

@@ -1,4 +1,4 @@
-// The grammar of a header and of a field line, its qualifiers apart.
+// The grammar of a header and of a field line, without that of its qualifiers.
 ghost use Prim.Native.Nat.{_≤_};
 ghost use lib.ListN.{length};
 ghost use lib.Seq.{slice};
@@ -30,13 +30,13 @@ pub struct HeaderShape {
     pub text_at: usize,
 }
 
-// A header's line: no header, or one.
+// A line by the grammar of headers: no header, or one.
 pub enum HeaderLine {
     NoHeader,
     IsHeader(HeaderShape),
 }
 
-// A field line: the end of its type, its qualifiers (none where the two places are equal), its name, and where its free text begins.
+// A field line: the end of its type, its qualifiers (none if both places are equal), its name, and where its free text begins.
 pub struct FieldShape {
     pub type_end: usize,
     pub qualifiers_at: usize,
@@ -46,7 +46,7 @@ pub struct FieldShape {
     pub text_at: usize,
 }
 
-// A field's line: no field, or one.
+// A line by the grammar of field lines: no field, or one.
 pub enum Shape {
     NoField,
     IsField(FieldShape),
@@ -58,25 +58,25 @@ enum Place {
     At(usize),
 }
 
-// The end of digits, and their number.
+// The end of the digits and their number, or none.
 enum Digits {
     NoDigits,
     UpTo(usize, u64),
 }
 
-// The qualifiers' two places, which are equal where there are none, and where the rest begins.
+// Where the qualifiers begin and end (equal if there are none), and where the rest begins.
 enum Brackets {
     Unclosed,
     Between(usize, usize, usize),
 }
 
-// A field's name, of no octets where it has none.
+// A field's name: broken, or from one place to another (equal if there is none).
 enum Named {
     Broken,
     From(usize, usize),
 }
 
-// Whether a letter stands first from at to end.
+// Whether the part from at to end starts with a letter.
 fn starts_with_letter(s: &[u8], at: usize, end: usize) -> bool
     requires { ⌜ (at ≤ end) × (end ≤ length (now s)) ⌝ }
     ensures { λ r. ⌜ r ≡ startsWithLetter (slice at end (now (s .entry))) ⌝ }
@@ -87,7 +87,7 @@ fn starts_with_letter(s: &[u8], at: usize, end: usize) -> bool
     false
 }
 
-// The end of the name at the front.
+// The end of the name that starts at `at`, or none.
 fn name_end(s: &[u8], at: usize, end: usize) -> Place
     requires { ⌜ (at ≤ end) × (end ≤ length (now s)) ⌝ }
     ensures { λ r. ⌜ (cutIn (now (s .entry)) at end r ≡ nameAt (slice at end (now (s .entry)))) × Within at end r ⌝ }
@@ -101,7 +101,7 @@ fn name_end(s: &[u8], at: usize, end: usize) -> Place
     Place::NoPlace
 }
 
-// Where the free text begins: after one blank, or at the end of the line where there is none.
+// Where the free text begins: after one blank, or at the end of the line if there is none.
 fn free_text(s: &[u8], i: usize, end: usize) -> Place
     requires { ⌜ (i ≤ end) × (end ≤ length (now s)) ⌝ }
     ensures { λ r. ⌜ (textIn (now (s .entry)) end r ≡ freeTextAt end (slice i end (now (s .entry)))) × Within i end r ⌝ }
@@ -117,7 +117,7 @@ fn free_text(s: &[u8], i: usize, end: usize) -> Place
     Place::At(end)
 }
 
-// Where the rest begins after `:` and digits, and their number.
+// The number after `:`, and where the rest begins.
 fn number_after(s: &[u8], i: usize, end: usize) -> Digits
     requires { ⌜ (i ≤ end) × (end ≤ length (now s)) ⌝ }
     ensures { λ r. ⌜ (numberIn (now (s .entry)) end r ≡ numberAfter (slice i end (now (s .entry)))) × DigitsWithin end r ⌝ }
@@ -137,7 +137,7 @@ fn number_after(s: &[u8], i: usize, end: usize) -> Digits
     Digits::NoDigits
 }
 
-// Where the rest begins after optional `:` and letters.
+// Where the rest begins, after `:` and letters if there are any.
 fn after_options(s: &[u8], i: usize, end: usize) -> Place
     requires { ⌜ (i ≤ end) × (end ≤ length (now s)) ⌝ }
     ensures { λ r. ⌜ (restIn (now (s .entry)) end r ≡ afterOptions (slice i end (now (s .entry)))) × Within i end r ⌝ }
@@ -152,7 +152,7 @@ fn after_options(s: &[u8], i: usize, end: usize) -> Place
     Place::At(i)
 }
 
-// Where a header's free text begins, after its options.
+// Where a header's free text begins, after the optional `:` and letters.
 fn text_after(s: &[u8], i: usize, end: usize) -> Place
     requires { ⌜ (i ≤ end) × (end ≤ length (now s)) ⌝ }
     ensures { λ r. ⌜ (textIn (now (s .entry)) end r ≡ textAfter end (slice i end (now (s .entry)))) × Within i end r ⌝ }
@@ -192,7 +192,7 @@ pub fn header_line(s: &[u8], at: usize, end: usize) -> HeaderLine
     }
 }
 
-// The places of the qualifiers, and where the rest begins. Nothing between brackets is no qualifier.
+// Where the qualifiers begin and end, and where the rest begins. Empty brackets are refused.
 fn bracketed(s: &[u8], i: usize, end: usize) -> Brackets
     requires { ⌜ (i ≤ end) × (end ≤ length (now s)) ⌝ }
     ensures { λ r. ⌜ (bracketsIn (now (s .entry)) end r ≡ qualifiersAt end (slice i end (now (s .entry)))) × BracketsWithin end r ⌝ }
@@ -209,7 +209,7 @@ fn bracketed(s: &[u8], i: usize, end: usize) -> Brackets
     Brackets::Between(i, i, i)
 }
 
-// The name after `:`, or none where the rest begins otherwise.
+// The name after `:`, or no name if there is no `:`.
 fn field_name(s: &[u8], i: usize, end: usize) -> Named
     requires { ⌜ (i ≤ end) × (end ≤ length (now s)) ⌝ }
     ensures { λ r. ⌜ (namedIn (now (s .entry)) end r ≡ fieldNameAt (slice i end (now (s .entry)))) × NamedWithin end r ⌝ }
@@ -228,7 +228,7 @@ fn field_name(s: &[u8], i: usize, end: usize) -> Named
     Named::From(i, i)
 }
 
-// The field line whose type ends at e.
+// The field line from at to end whose type ends at e.
 fn after_type(s: &[u8], at: usize, e: usize, end: usize) -> Shape
     requires { ⌜ (e ≤ end) × (end ≤ length (now s)) × (at ≤ e) ⌝ }
     ensures { λ r. ⌜ (shapeIn (now (s .entry)) at end r ≡ afterType end (slice at e (now (s .entry))) (slice e end (now (s .entry)))) × ShapeWithin at end r ⌝ }
@@ -259,7 +259,7 @@ fn after_type(s: &[u8], at: usize, e: usize, end: usize) -> Shape
     }
 }
 
-// The field line from at, after its leading blanks, to end.
+// The field line from at to end; its leading blanks stand before at.
 pub fn field_shape(s: &[u8], at: usize, end: usize) -> Shape
     requires { ⌜ (at ≤ end) × (end ≤ length (now s)) ⌝ }
     ensures { λ r. ⌜ (shapeIn (now (s .entry)) at end r ≡ fieldLine end (slice at end (now (s .entry)))) × ShapeWithin at end r ⌝ }

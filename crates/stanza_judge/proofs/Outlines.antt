@@ -1,4 +1,4 @@
--- The fields that the judge has kept, and the lines that are left.
+-- The fields that the judge has found so far, and the lines that are left.
 use Prim.Native.Nat.{ℕ, zero, suc, _+_, _-_, _≤_, _<_}
 use mathlib.Core.Path.{_≡_, refl, sym, ap, _∙_, subst}
 use mathlib.Core.Bool.{Bool, true, false, not, cond, _||_, true≢false}
@@ -34,7 +34,7 @@ use Rattle.stanza_line.specs.declared.Step.the-variants.{Skip, Refuse, Head, Ad
 use Rattle.stanza_line.specs.Verdict.{headerOf, namedFrom, progressOf, Stands, stepOf, Due}
 use Rattle.stanza_judge.specs.Stanza.{outlineOf, AllPlaced, Outlined}
 
--- m fields from number k on
+-- `m` fields, starting at number k
 module _ (s : List ℕ) (fs : List FieldDesc) (names ends : List ℕ) where
   fields-many : (k m : ℕ) → length (fieldsFrom s fs names ends k m) ≡ m
   fields-many k zero = refl
@@ -59,7 +59,7 @@ module _ (s : List ℕ) (fs : List FieldDesc) (names ends : List ℕ) (n : ℕ) 
   one-field-more : fieldsFrom s (set fs n f) (set names n x) (set ends n y) 0 (n + 1) ≡ fieldsFrom s fs names ends 0 n ++ fieldOf s f x y ∷ []
   one-field-more = fields-more 0 n (omega arith)
 
--- and its qualifiers are placed as theirs are
+-- its qualifiers lie in the stanza, as those of the others do
 more-placed : (s : List ℕ) (fs : List FieldDesc) (n : ℕ) (f : FieldDesc) → n < length fs → AllPlaced s fs n → Placed s f → AllPlaced s (set fs n f) (n + 1)
 more-placed s fs n f h p q k l = by (decLt k n)
   where
@@ -79,7 +79,7 @@ tail-snoc (g ∷ fs) f = by (tail (g .kind)) (tail-snoc fs f)
     by true e = refl
     by false e = e
 
--- How things stand after some lines: the description so far, and the lines from a place on come to what all of them do.
+-- After some lines: judging the lines from `at` on, from the description so far, gives what judging all the lines gives.
 abbrev soFar : List ℕ → HeaderDesc → List FieldDesc → List ℕ → List ℕ → ℕ → Description
 soFar s h fs names ends n = record { header = headerOf s h; fields = fieldsFrom s fs names ends 0 n }
 
@@ -150,7 +150,7 @@ fault-number n p l e = by (lineVerdict p l) (line-numbered p l) e
     by (faulty m) h q = let z : n ≡ m = cc in omega arith
     by (goesOn t) h q = let z : _≡_ {A = ℕ} 0 1 = cc in absurd (omega arith)
 
--- from one line to the next
+-- before the first line, and from one line to the next
 kept-start : (s : List ℕ) (h : HeaderDesc) (fs : List FieldDesc) (names ends : List ℕ) → Kept s h fs names ends 0 false false 0 1
 kept-start s h fs names ends = record { none-yet = λ q. refl; tails = refl; placed = λ k q. absurd (omega arith); left = refl }
 
@@ -198,7 +198,7 @@ module _ {s : List ℕ} {h : HeaderDesc} {fs : List FieldDesc} {names ends : Lis
   kept-refused : (m : ℕ) → faulty m ≡ lineVerdict (progressOf have (soFar s h fs names ends n)) (partIn s at (lineEnd s at)) → rejected m line ≡ judgedFrom 1 beforeHeader (lines s)
   kept-refused m e = sym (after-refusal s (progressOf have (soFar s h fs names ends n)) at line l m e) ∙ k .left
 
--- at the end
+-- after the last line
 module _ {s : List ℕ} {h : HeaderDesc} {fs : List FieldDesc} {names ends : List ℕ} {n : ℕ} {have last : Bool} {at line : ℕ} (k : Kept s h fs names ends n have last at line) (l : length s ≤ at) where
   at-the-end : atEnd (progressOf have (soFar s h fs names ends n)) ≡ judgedFrom 1 beforeHeader (lines s)
   unfolding judgedFrom
@@ -219,7 +219,7 @@ module _ {s : List ℕ} {h : HeaderDesc} {fs : List FieldDesc} {names ends : Lis
       by true e zero z = absurd (q z)
       by true e (suc m) z = rw z (rw (e, z) at at-the-end)
 
--- the whole stanza
+-- the whole stanza, short enough or too long
 judged-lines : (s : List ℕ) → length s ≤ 8192 → judged s ≡ judgedFrom 1 beforeHeader (lines s)
 unfolding judged
 judged-lines s h = rw (le-leb (length s) 8192 h)
@@ -228,7 +228,7 @@ judged-long : (s : List ℕ) → 8192 < length s → judged s ≡ rejected 1 0
 unfolding judged
 judged-long s h = rw (lt-leb (length s) 8192 h)
 
--- the kinds of the codes' fields, and their places
+-- the fields of the codes: their kinds, and the places of their qualifiers
 module _ (s codes : List ℕ) (fs : List FieldDesc) (e : fieldsOf codes ≡ withoutTexts fs) where
   coded-field : (k : ℕ) → getD (fieldsOf codes) k noField ≡ withoutText (getD fs k noField)
   coded-field k = ap (λ ds. getD ds k noField) e ∙ coded-at fs k
@@ -240,7 +240,7 @@ module _ (s codes : List ℕ) (fs : List FieldDesc) (e : fieldsOf codes ≡ with
   coded-placed : (n : ℕ) → AllPlaced s fs n → AllPlaced s (fieldsOf codes) n
   coded-placed n p k l = subst (Placed s) (sym (coded-field k)) (record { from = p k l .from; to = p k l .to; listed = p k l .listed })
 
--- What is told after `line` lines: nothing so far, and how things stand; or a refusal's number and place, and no line is left.
+-- After `line` lines: there is no refusal so far and `Kept` holds; or the definition's refusal was found, and no line is left to judge.
 pub record Judging (s : List ℕ) (h : HeaderDesc) (fs : List FieldDesc) (names ends : List ℕ) (n : ℕ) (have last : Bool) (number place at line : ℕ) : Type 0 where
   pub within : at ≤ length s + 1
   pub few : n ≤ 64
@@ -312,7 +312,7 @@ module _ {s : List ℕ} {h : HeaderDesc} {fs : List FieldDesc} {names ends : Lis
     pub turn-less : length s + 1 - (e + 1) < length s + 1 - at
     turn-less = omega (arith, line-within .0)
 
-    -- what it does
+    -- what that line does
     module _ (r : Step) (u : Due s have n r)
         (g : (d : Description) → Stands s d last names ends n → stepOf s (progressOf have d) r ≡ lineVerdict (progressOf have d) (partIn s at e)) where
       here : stepOf s (progressOf have (soFar s h fs names ends n)) r ≡ lineVerdict (progressOf have (soFar s h fs names ends n)) (partIn s at (lineEnd s at))
@@ -366,7 +366,7 @@ module _ {s : List ℕ} {h : HeaderDesc} {fs : List FieldDesc} {names ends : Lis
             told = λ z. (kept-refused so m k v ∙ sym (judged-lines s (j .short nothing)), omega arith);
           }
 
--- after the last turn: the outline
+-- after the last turn: what the outline says
 module _ {s codes : List ℕ} {h : HeaderDesc} {fs : List FieldDesc} {names ends : List ℕ} {n : ℕ} {have last : Bool} {number place at line : ℕ}
     (j : Judging s h fs names ends n have last number place at line) (c : fieldsOf codes ≡ withoutTexts fs) (m : length s ≤ at) (r : ℕ) where
   outlined : outlineOf (soFar s h fs names ends n) (record { number = r; line = place; count = n }) ≡ judged s → (r ≡ 0 → AllPlaced s fs n)

@@ -1,4 +1,4 @@
--- The judged stanza in code, and what it means.
+-- The judged stanza as the code has it, and what it means.
 use Prim.Native.Nat.{ℕ, _<_}
 use mathlib.Core.Path.{_≡_}
 use mathlib.Core.Bool.{cond}
@@ -12,16 +12,16 @@ use Rattle.stanza_types.specs.Fields.{Placed, noField, fieldsFrom}
 use Rattle.stanza_code.specs.Code.{fieldsOf}
 use Rattle.stanza_judge.specs.declared.Outline.{Outline}
 
--- the description, or the refusal
+-- the description d, or the refusal
 abbrev pub outlineOf : Description → Outline → Judged
 outlineOf d o = cond (eqb (o .number) 0) (described d) (rejected (o .number) (o .line))
 
--- what is known of the fields of an accepted one
+-- the qualifiers of all n fields lie in the stanza
 abbrev pub AllPlaced : List ℕ → List FieldDesc → ℕ → Type 0
 AllPlaced s fs n = (k : ℕ) → k < n → Placed s (getD fs k noField)
 
--- a judged stanza: the description, which no code keeps, or the refusal is the definition's; the codes' fields are as many as the
--- described ones and of their kinds, and their qualifiers lie in the stanza
+-- a judged stanza: the description (which the code does not keep) or the refusal is the definition's; the codes give as many fields as
+-- are described, of the same kinds, and if it is accepted their qualifiers lie in the stanza
 pub record Outlined (s codes : List ℕ) (o : Outline) : Type 0 where
   pub found : Description
   pub judges : outlineOf found o ≡ judged s

@@ -5,28 +5,28 @@ ghost use lib.ListN.{length};
 ghost use Rattle.stanza_judge.specs.Stanza.{Outlined};
 use stanza_line::Step;
 
-// A judged stanza: 0, or a refusal's number and line; and how many fields it describes.
+// A judged stanza: 0, or a refusal's number and line; and how many fields were described.
 pub struct Outline {
     pub number: u8,
     pub line: u16,
     pub count: usize,
 }
 
-// What is told of a stanza of n octets before its lines: 1, or 0.
+// Before the lines of a stanza of n octets: refusal 1 if it is too long, else 0.
 fn at_start(n: usize) -> u8
     ensures { λ r. ⌜ (n ≤ 8192 → r ≡ 0) × (8192 < n → r ≡ 1) ⌝ }
 {
     if 8192 < n { 1 } else { 0 }
 }
 
-// Where the first line of n octets is; the end, if they are refused already.
+// Where to start in a stanza of n octets: at its first line, or at the end if it is refused already.
 fn first_line(number: u8, n: usize) -> usize
     ensures { λ r. ⌜ (number ≡ 0 → r ≡ 0) × (1 ≤ number → r ≡ n) ⌝ }
 {
     if number == 0 { 0 } else { n }
 }
 
-// What is told after the lines, of which n were fields: a stanza without any is refused.
+// After the lines, n of which were fields: the refusal so far; else 2 if there was no field, else 0.
 fn at_end(number: u8, n: usize) -> u8
     ensures { λ r. ⌜ (1 ≤ number → r ≡ number) × (number ≡ 0 → 1 ≤ n → r ≡ 0) × (number ≡ 0 → n ≡ 0 → r ≡ 2) ⌝ }
 {
@@ -38,7 +38,7 @@ fn at_end(number: u8, n: usize) -> u8
     number
 }
 
-// The judged stanza, and the codes of its fields in an array of the caller's.
+// Judges a stanza, and stores the codes of its fields in the caller's array.
 pub fn judged_outline(s: &[u8], codes: &mut [u64; 64]) -> Outline
     requires { ⌜ length (now codes) ≡ 64 ⌝ }
     ensures { λ r. ⌜ Outlined (now (s .entry)) (now (codes .exit)) r ⌝ }

@@ -24,7 +24,7 @@ cut s x y f e = by (leb y (length s)) refl
         let q : f ≡ length s = omega arith in
         rw (q) (ap (drop x) (take-all y s (omega arith) ∙ sym (take-length s)))
 
--- two names
+-- whether two names are the same
 pub same-there : (s : List ℕ) (x y f a e : ℕ) (r : Bool) → f ≡ min y (length s) → x < f → r ≡ sameWord (slice x f s) (slice a e s) → r ≡ sameText (slice x y s) (slice a e s)
 same-there s x y f a e r q h k = rw (cut s x y f q) (k ∙ by (slice x f s) (omega (arith, length-slice x f s (omega arith))))
   where
@@ -35,7 +35,7 @@ same-there s x y f a e r q h k = rw (cut s x y f q) (k ∙ by (slice x f s) (ome
 pub same-not : (s : List ℕ) (x y f a e : ℕ) → f ≡ min y (length s) → f ≤ x → false ≡ sameText (slice x y s) (slice a e s)
 same-not s x y f a e q h = rw (cut s x y f q, none s x f h)
 
--- names so far
+-- the names so far, one by one
 module _ (s names ends : List ℕ) (a e : ℕ) where
   pub name-found : (k n : ℕ) → k < n → sameText (slice (getD names k 0) (getD ends k 0) s) (slice a e s) ≡ true → namedFrom s names ends a e k (n - k) ≡ true
   name-found k n h t = let q : n - k ≡ suc (n - (k + 1)) = omega arith in rw (q, t)
@@ -49,7 +49,7 @@ module _ (s names ends : List ℕ) (a e : ℕ) where
   pub from-first : (n : ℕ) → namedFrom s names ends a e 0 (n - 0) ≡ namedFrom s names ends a e 0 n
   from-first n = let q : n - 0 ≡ n = omega arith in rw q
 
--- a line that only counts
+-- lines that are ignored
 pub first-octet : (s : List ℕ) (t e : ℕ) → t < e → e ≤ length s → eqb (getD s t 0) 35 ≡ ignored (slice t e s)
 first-octet s t e h l = rw (next s t e h l)
 

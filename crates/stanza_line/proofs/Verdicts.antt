@@ -1,4 +1,4 @@
--- What a header's line and a field's line come to.
+-- The verdicts on header lines and field lines.
 use Prim.Native.Nat.{ℕ, _+_, _≤_, _<_}
 use mathlib.Core.Path.{_≡_, refl, sym, ap, _∙_}
 use mathlib.Core.Bool.{Bool, true, false, not, cond}
@@ -37,7 +37,7 @@ use Rattle.stanza_line.specs.declared.Step.{Step}
 use Rattle.stanza_line.specs.declared.Step.the-variants.{Skip, Refuse, Head, Add}
 use Rattle.stanza_line.specs.Verdict.{namedFrom, Stands, Fits, Due}
 
--- headers
+-- header lines
 module _ (s : List ℕ) (at t e : ℕ) where
   pub indented : at < t → (v w : Verdict) → v ≡ cond (not (eqb t at)) v w
   indented h v w = rw (ne-eqb t at (λ q. omega arith))
@@ -59,11 +59,11 @@ module _ (s : List ℕ) (t e : ℕ) (h : HeaderLine) (g : headerIn s t e h ≡ h
       → goesOn (afterHeader (record { header = record { typeName = partIn s t (x .«name_end»); typeNo = x .number; headerText = partIn s (x .«text_at») e }; fields = [] })) ≡ ofHeader (headerLine e (slice t e s))
   good-header {x} q k l = rw (← g, q, le-leb 1 (x .number) k, le-leb (x .number) 65535 l)
 
--- fields: what a line of the given shape comes to, by what its type and qualifiers mean
+-- field lines: the verdict on a line of a given shape, by what its type and qualifiers mean
 abbrev lineOf : List ℕ → ℕ → ℕ → FieldShape → List Qualifier → FieldLine
 lineOf s t e x qs = record { keyword = slice t (x .«type_end») s; qualifiers = qs; fieldName = partIn s (x .«name_at») (x .«name_end»); freeText = partIn s (x .«text_at») e }
 
--- a line is its meaning's verdict
+-- the verdict by that meaning; 2 if there is none
 abbrev byMeaning : Description → FieldLine → Option Meaning → Verdict
 byMeaning d l none = faulty 2
 byMeaning d l (some n) = ofMeaning d l n
@@ -96,7 +96,7 @@ module _ (s : List ℕ) (t e : ℕ) (x : FieldShape) (m : Meant)
       → withField d (record { kind = kindIn s (x .«qualifiers_at») (x .«qualifiers_end») f; fieldName = partIn s (x .«name_at») (x .«name_end»); freeText = partIn s (x .«text_at») e }) ≡ ofFieldLine d (shapeIn s t e (IsField x))
   line-means q = sym (line-verdict ∙ rw q)
 
--- a field's qualifiers and symbols
+-- where a field's qualifiers lie, and its symbols
 pub line-placed : (s : List ℕ) (t e : ℕ) (x : FieldShape) (d : FieldDesc) → Places t e x → e ≤ length s
     → meantIn s (x .«qualifiers_at») (x .«qualifiers_end») (Means (d .form)) ≡ meaningIn (slice t (x .«type_end») s) s (x .«qualifiers_at») (x .«qualifiers_end»)
     → d .«qualifiers_at» ≡ x .«qualifiers_at» → d .«qualifiers_end» ≡ x .«qualifiers_end» → Placed s d
@@ -106,7 +106,7 @@ line-placed s t e x d p l g a b = record {
   listed = λ w m q. symbols-listed (slice t (x .«type_end») s) s (d .«qualifiers_at») (d .«qualifiers_end») (kindIn s (d .«qualifiers_at») (d .«qualifiers_end») (d .form)) (rw (a, b) g) w m q;
 }
 
--- after the fields before it
+-- a field after the fields before it
 module _ (s : List ℕ) (d : Description) (last : Bool) (names ends : List ℕ) (n : ℕ) (st : Stands s d last names ends n) (f : Field) (a e : ℕ) (p : f .fieldName ≡ partIn s a e) where
   pub after-tail : last ≡ true → faulty 4 ≡ withField d f
   after-tail h = rw (st .tails, h)
@@ -135,7 +135,7 @@ module _ (s : List ℕ) (at e t : ℕ) (l : at ≤ e) (k : e ≤ length s) (q : 
   rest-line : span blank (slice at e s) .rest ≡ slice t e s
   rest-line = sym (front-rest (inClass Blank) s at e) ∙ ap (λ j. slice j e s) (sym q)
 
-  -- what it is by the definition
+  -- the definition's verdict on it
   line-is : (p : Progress) → lineVerdict p (partIn s at e) ≡ cond (ignored (slice t e s)) (goesOn p) (contentLine p (not (eqb t at)) e (slice t e s))
   line-is p = rw (line-end, rest-line, no-front)
 
@@ -145,7 +145,7 @@ module _ (s : List ℕ) (at e t : ℕ) (l : at ≤ e) (k : e ≤ length s) (q : 
   pub line-read : (p : Progress) (v : Verdict) → ignored (slice t e s) ≡ false → v ≡ contentLine p (not (eqb t at)) e (slice t e s) → v ≡ lineVerdict p (partIn s at e)
   line-read p v h r = r ∙ sym (line-is p ∙ rw h)
 
--- the shape of a field's line
+-- the shape of a field line
 module _ (s : List ℕ) (t e : ℕ) (f : Shape) (g : shapeIn s t e f ≡ fieldLine e (slice t e s)) (d : Description) where
   pub no-field : f ≡ NoField → faulty 2 ≡ ofFieldLine d (fieldLine e (slice t e s))
   no-field q = rw (← g, q)
@@ -153,11 +153,11 @@ module _ (s : List ℕ) (t e : ℕ) (f : Shape) (g : shapeIn s t e f ≡ fieldLi
   pub is-field : {x : FieldShape} → f ≡ IsField x → ofFieldLine d (shapeIn s t e (IsField x)) ≡ ofFieldLine d (fieldLine e (slice t e s))
   is-field q = rw (← g, q)
 
--- where the first nonblank is
+-- the first nonblank lies in the line
 pub nonblank : (s : List ℕ) (at e t : ℕ) → at ≤ e → e ≤ length s → t ≡ frontEnd (inClass Blank) s at e → (at ≤ t) × (t ≤ e)
 nonblank s at e t l k q = (omega arith, rw q (front-within (inClass Blank) s at e l k))
 
--- a field's line, after the header
+-- a field line comes after the header
 pub due : (s : List ℕ) (n : ℕ) (r : Step) (have : Bool) → have ≡ true → Fits s n r → Due s have n r
 due s n Skip have h k = tt
 due s n (Refuse m) have h k = tt

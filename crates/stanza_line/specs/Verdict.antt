@@ -1,4 +1,4 @@
--- What a line's verdict and its step in code mean, in the stanza that the line stands in.
+-- What the code's verdict and step for a line mean in its stanza.
 use Prim.Native.Nat.{ℕ, zero, suc, _+_, _≤_, _<_}
 use mathlib.Core.Path.{_≡_}
 use mathlib.Core.Bool.{Bool, true, false, not, cond, _&&_, _||_}
@@ -23,31 +23,31 @@ use Rattle.stanza_line.specs.declared.Step.the-variants.{Skip, Refuse, H
 abbrev pub headerOf : List ℕ → HeaderDesc → Header
 headerOf s h = record { typeName = partIn s (h .«name_at») (h .«name_end»); typeNo = h .number; headerText = partIn s (h .«text_at») (h .«text_end») }
 
--- a header's line
+-- the verdict on a header line
 abbrev pub headerVerdict : List ℕ → HeaderVerdict → Verdict
 headerVerdict s (BadHeader n) = faulty n
 headerVerdict s (GoodHeader h) = goesOn (afterHeader (record { header = headerOf s h; fields = [] }))
 
--- a field's line, the other fields apart
+-- the verdict on a field line after the fields of d
 abbrev pub fieldVerdict : List ℕ → Description → FieldVerdict → Verdict
 fieldVerdict s d (BadField n) = faulty n
 fieldVerdict s d (GoodField f) = withField d (fieldOf s (f .field) (f .«name_at») (f .«name_end»))
 
--- a new field's name lies in the stanza, and so do its qualifiers
+-- the name and the qualifiers of a new field lie in the stanza
 abbrev pub VerdictWithin : List ℕ → FieldVerdict → Type 0
 VerdictWithin s (BadField n) = Unit {0}
 VerdictWithin s (GoodField f) = (f .«name_at» ≤ f .«name_end») × (f .«name_end» ≤ length s) × Placed s (f .field)
 
--- a name that is there and is another's too
+-- two names are the same, letters' case ignored, and not empty
 abbrev pub sameText : List ℕ → List ℕ → Bool
 sameText x y = not (null x) && sameWord x y
 
--- one of m names from number k on is that from a to e
+-- one of `m` names, starting at number k, is the name from a to e
 abbrev pub namedFrom : List ℕ → List ℕ → List ℕ → ℕ → ℕ → ℕ → ℕ → Bool
 namedFrom s names ends a e k zero = false
 namedFrom s names ends a e k (suc m) = sameText (slice (getD names k 0) (getD ends k 0) s) (slice a e s) || namedFrom s names ends a e (k + 1) m
 
--- how things stand: before the header, or after it with a description
+-- the state of the judge: before the header, or after it with a description
 abbrev pub progressOf : Bool → Description → Progress
 progressOf have d = cond have (afterHeader d) beforeHeader
 
@@ -55,7 +55,7 @@ abbrev pub withMore : Progress → Field → Verdict
 withMore beforeHeader f = faulty 0
 withMore (afterHeader d) f = goesOn (afterHeader (record { header = d .header; fields = d .fields ++ f ∷ [] }))
 
--- a description whose fields are n, with a tail among them or not, and with the names from `names` to `ends`
+-- a description of n fields; `last` says whether one is a tail, and their names stand from `names` to `ends`
 pub record Stands (s : List ℕ) (d : Description) (last : Bool) (names ends : List ℕ) (n : ℕ) : Type 0 where
   pub many : length (d .fields) ≡ n
   pub tails : afterTail (d .fields) ≡ last
@@ -68,14 +68,14 @@ stepOf s p (Refuse n) = faulty n
 stepOf s p (Head h) = goesOn (afterHeader (record { header = headerOf s h; fields = [] }))
 stepOf s p (Add f) = withMore p (fieldOf s (f .field) (f .«name_at») (f .«name_end»))
 
--- a field's line adds a field, and only below the 64th
+-- a field line adds at most a field, and only if there are fewer than 64
 abbrev pub Fits : List ℕ → ℕ → Step → Type 0
 Fits s n Skip = Unit {0}
 Fits s n (Refuse k) = Unit {0}
 Fits s n (Head h) = ⊥
 Fits s n (Add f) = (n < 64) × Placed s (f .field)
 
--- so a header is found only before it, and a field only after it
+-- a header is found only if there was none, and a field only after it
 abbrev pub Due : List ℕ → Bool → ℕ → Step → Type 0
 Due s have n Skip = Unit {0}
 Due s have n (Refuse k) = Unit {0}

@@ -1,4 +1,4 @@
-// A line of a stanza, and what it does after the lines before it.
+// A line of a stanza: what it does, given the lines before it.
 ghost use Prim.Native.Nat.{_≤_};
 ghost use lib.ListN.{length};
 ghost use lib.Seq.{slice};
@@ -31,7 +31,7 @@ pub struct HeaderDesc {
     pub text_end: u16,
 }
 
-// What a header's line comes to: a refusal's number, or the header.
+// The verdict on a header line: a refusal's number, or the header.
 pub enum HeaderVerdict {
     BadHeader(u8),
     GoodHeader(HeaderDesc),
@@ -44,7 +44,7 @@ pub struct NewField {
     pub name_end: u16,
 }
 
-// What a field's line comes to: a refusal's number, or the field.
+// The verdict on a field line: a refusal's number, or the field.
 pub enum FieldVerdict {
     BadField(u8),
     GoodField(NewField),
@@ -58,7 +58,7 @@ pub enum Step {
     Add(NewField),
 }
 
-// A header's line from at to e, whose first nonblank is at t.
+// The verdict on the header line from at to e, whose first nonblank is at t.
 fn header_verdict(s: &[u8], at: usize, t: usize, e: usize) -> HeaderVerdict
     requires { ⌜ (at ≤ t) × (t ≤ e) × (e ≤ length (now s)) × (length (now s) ≤ 8192) ⌝ }
     ensures { λ r. ⌜ headerVerdict (now (s .entry)) r ≡ cond (not (eqb t at)) (faulty 2) (ofHeader (headerLine e (slice t e (now (s .entry))))) ⌝ }
@@ -88,7 +88,7 @@ fn header_verdict(s: &[u8], at: usize, t: usize, e: usize) -> HeaderVerdict
     }
 }
 
-// A field line that the grammar lets pass, from t to e.
+// The verdict on the field line from t to e, which has the shape x by the grammar.
 fn field_meant(s: &[u8], t: usize, e: usize, x: FieldShape) -> FieldVerdict
     requires { ⌜ Places t e x × (e ≤ length (now s)) × (length (now s) ≤ 8192) ⌝ }
     ensures { λ r. ⌜ VerdictWithin (now (s .entry)) r × ((d : Description) → fieldVerdict (now (s .entry)) d r ≡ ofFieldLine d (shapeIn (now (s .entry)) t e (IsField x))) ⌝ }
@@ -118,7 +118,7 @@ fn field_meant(s: &[u8], t: usize, e: usize, x: FieldShape) -> FieldVerdict
     }
 }
 
-// A field line from at to e, whose first nonblank is at t.
+// The verdict on the field line from at to e, whose first nonblank is at t.
 fn field_verdict(s: &[u8], at: usize, t: usize, e: usize) -> FieldVerdict
     requires { ⌜ (at ≤ t) × (t ≤ e) × (e ≤ length (now s)) × (length (now s) ≤ 8192) ⌝ }
     ensures { λ r. ⌜ VerdictWithin (now (s .entry)) r × ((d : Description) → fieldVerdict (now (s .entry)) d r ≡ cond (not (eqb t at)) (ofFieldLine d (fieldLine e (slice t e (now (s .entry))))) (faulty 2)) ⌝ }
@@ -133,7 +133,7 @@ fn field_verdict(s: &[u8], at: usize, t: usize, e: usize) -> FieldVerdict
     }
 }
 
-// S[M], S[X], B64, X without C, R[L], N[O]
+// Whether a form is a tail: S[M], S[X], B64, X without C, R[L], N[O].
 fn is_tail(f: Form) -> bool
     ensures { λ r. ⌜ ((l : List Symbol) → r ≡ tail (kindOf l f)) ⌝ }
 {
@@ -157,7 +157,7 @@ fn is_tail(f: Form) -> bool
     }
 }
 
-// Whether a tail is among the fields, with one of the form f after them.
+// Whether there is a tail among the fields, of which the last has the form f; `last` says it of those before it.
 pub fn tail_after(last: bool, f: Form) -> bool
     ensures { λ r. ⌜ ((l : List Symbol) → r ≡ last || tail (kindOf l f)) ⌝ }
 {
@@ -167,7 +167,7 @@ pub fn tail_after(last: bool, f: Form) -> bool
     is_tail(f)
 }
 
-// Whether the name from a to e is one of the first n.
+// Whether the name from a to e is one of the first n names.
 fn name_again(s: &[u8], names: &[u16], ends: &[u16], n: usize, a: usize, e: usize) -> bool
     requires { ⌜ (a ≤ e) × (e ≤ length (now s)) × (n ≤ length (now names)) × (n ≤ length (now ends)) ⌝ }
     ensures { λ r. ⌜ r ≡ namedFrom (now (s .entry)) (now (names .entry)) (now (ends .entry)) a e 0 n ⌝ }
@@ -182,7 +182,7 @@ fn name_again(s: &[u8], names: &[u16], ends: &[u16], n: usize, a: usize, e: usiz
     false
 }
 
-// Whether the text from x to y is not empty, and the name from a to e.
+// Whether the text from x to y is not empty and is the same as the name from a to e, letters' case ignored.
 fn same_name(s: &[u8], x: u16, y: u16, a: usize, e: usize) -> bool
     requires { ⌜ (a ≤ e) × (e ≤ length (now s)) ⌝ }
     ensures { λ r. ⌜ r ≡ sameText (slice x y (now (s .entry))) (slice a e (now (s .entry))) ⌝ }
@@ -195,7 +195,7 @@ fn same_name(s: &[u8], x: u16, y: u16, a: usize, e: usize) -> bool
     false
 }
 
-// What the line from at to e does, after a header or before it, after a tail or not, with n fields so far.
+// What the line from at to e does after n fields. `have` says whether there was a header, `last` whether there was a tail.
 pub fn line_step(
     s: &[u8],
     at: usize,
@@ -225,7 +225,7 @@ pub fn line_step(
     }
 }
 
-// A blank line, or one whose first nonblank, at t, is `#`.
+// Whether a line is ignored: it is blank, or its first nonblank, at t, is `#`.
 fn ignored(s: &[u8], t: usize, e: usize) -> bool
     requires { ⌜ (t ≤ e) × (e ≤ length (now s)) ⌝ }
     ensures { λ r. ⌜ r ≡ Rattle.format.specs.Judge.ignored (slice t e (now (s .entry))) ⌝ }
@@ -236,7 +236,7 @@ fn ignored(s: &[u8], t: usize, e: usize) -> bool
     true
 }
 
-// A field's line after the n fields before it.
+// What a field line does after the n fields before it.
 fn field_step(s: &[u8], f: FieldVerdict, last: bool, names: &[u16], ends: &[u16], n: usize) -> Step
     requires { ⌜ VerdictWithin (now s) f × (n ≤ length (now names)) × (n ≤ length (now ends)) ⌝ }
     ensures { λ r. ⌜ Fits (now (s .entry)) n r × ((d : Description) → Stands (now (s .entry)) d last (now (names .entry)) (now (ends .entry)) n

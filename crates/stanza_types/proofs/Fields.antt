@@ -1,4 +1,4 @@
--- What a usable field of an integer has: its symbols and its width.
+-- A usable integer field: its symbols and its width.
 use Prim.Native.Nat.{ℕ, _≤_}
 use mathlib.Core.Path.{_≡_, refl, sym}
 use mathlib.Core.Bool.{Bool, true, false, _||_, true≢false}

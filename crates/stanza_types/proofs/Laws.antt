@@ -21,14 +21,14 @@ same-length [] (y ∷ ys) h = refl
 same-length (x ∷ xs) [] h = refl
 same-length (x ∷ xs) (y ∷ ys) h = rw (same-length xs ys (λ e. h (ap suc e)), and-false)
 
--- row by row
+-- the table of types, row by row
 pub no-row : (r : TypeRow) (rs : List TypeRow) (t : List ℕ) {o : Option Takes} {b : Bool} → b ≡ sameOctets t (r .typeWord) → b ≡ false → o ≡ takesOf rs t → o ≡ takesOf (r ∷ rs) t
 no-row r rs t e h q = rw (← e, h) q
 
 pub is-row : (r : TypeRow) (rs : List TypeRow) (t : List ℕ) {b : Bool} → b ≡ sameOctets t (r .typeWord) → b ≡ true → some (r .takes) ≡ takesOf (r ∷ rs) t
 is-row r rs t e h = rw (← e, h)
 
--- a text of other than one letter is none of the types of one
+-- a text that is not one letter is no type of one letter
 pub longer-only : (rs : List TypeRow) (t : List ℕ) → (length t ≡ 1 → ⊥) → takesOf rs t ≡ takesOf (longer rs) t
 longer-only [] t h = refl
 longer-only (r ∷ rs) t h = by (eqb (length (r .typeWord)) 1) refl (longer-only rs t h)
@@ -39,7 +39,7 @@ longer-only (r ∷ rs) t h = by (eqb (length (r .typeWord)) 1) refl (longer-only
     by false e ih = rw ih
 
 module _ (s w : List ℕ) (a e : ℕ) (l : e ≤ length s) where
-  -- the two from j on
+  -- whether the two texts are the same from j on
   unfoldable pub sameFrom : ℕ → Bool
   sameFrom j = sameOctets (slice (a + j) e s) (drop j w)
 

@@ -1,4 +1,4 @@
--- What a type with its qualifiers means, by what is asked of the qualifiers.
+-- What a type with its qualifiers means, by the tests of the qualifiers.
 use Prim.Native.Nat.{ℕ, _<_, _^_}
 use mathlib.Core.Path.{_≡_, refl, sym, ap, _∙_}
 use mathlib.Core.Bool.{Bool, true, false, not, cond, _&&_, true≢false}
@@ -25,7 +25,7 @@ use Rattle.stanza_types.specs.declared.Meant.{Meant}
 use Rattle.stanza_types.specs.declared.Meant.the-variants.{Forbidden, Means}
 use Rattle.stanza_types.specs.Types.{kindOf, kindIn, meantIn, meaningBy, qualifiedIn, meaningIn, listed, marksOf, madeOf}
 
--- qualifiers that break the grammar, that are not known, and that are known and not allowed
+-- qualifiers that break the grammar; that are unknown; that are known but not allowed
 module _ (f : List Qualifier → Option Kind) (s : List ℕ) (a b : ℕ) where
   pub malformed : anyIn Malformed s a b ≡ true → none ≡ meaningBy f s a b
   malformed h = rw (ill-formed s a b h)
@@ -36,7 +36,7 @@ module _ (f : List Qualifier → Option Kind) (s : List ℕ) (a b : ℕ) where
   pub not-allowed : anyIn Malformed s a b ≡ false → anyIn Unknown s a b ≡ false → ((qs : List Qualifier) → eachOf qualifier (piecesIn s a b) ≡ some qs → f qs ≡ none) → some forbidden ≡ meaningBy f s a b
   not-allowed h k n = let (qs, e) = well-formed s a b h in rw (e, ← (not-known s a b qs e), k, n qs e)
 
-  -- where nothing is allowed, it does not matter what would be
+  -- if these qualifiers are not allowed, it does not matter what others would make
   pub as-refused : ((qs : List Qualifier) → eachOf qualifier (piecesIn s a b) ≡ some qs → f qs ≡ none) → meaningBy (λ qs. none) s a b ≡ meaningBy f s a b
   as-refused n = by (eachOf qualifier (piecesIn s a b)) refl
     where
@@ -48,7 +48,7 @@ module _ (f : List Qualifier → Option Kind) (s : List ℕ) (a b : ℕ) where
 given-in : (s : List ℕ) (a b : ℕ) → a < b → qualifiersIn s a b ≡ eachOf qualifier (piecesIn s a b)
 given-in s a b h = rw (ne-eqb a b (λ e. omega arith))
 
--- integers
+-- symbols of integers
 module _ (w : ℕ) (s : List ℕ) (a b : ℕ) where
   pub no-symbols : anyIn (NotSymbol (256 ^ w)) s a b ≡ true → meaningBy (λ qs. none) s a b ≡ meaningBy (allowed (symbols w)) s a b
   no-symbols h = as-refused (allowed (symbols w)) s a b (λ qs e. symbols-refused s a b qs e w h)
@@ -59,7 +59,7 @@ module _ (w : ℕ) (s : List ℕ) (a b : ℕ) where
   pub symbols-once : a < b → anyIn (NotSymbol (256 ^ w)) s a b ≡ false → twiceIn true s a b ≡ false → some (means (kindIn s a b (Int w))) ≡ meaningBy (allowed (symbols w)) s a b
   symbols-once l h t = let g = symbols-given w s a b h in rw (given-in s a b l, g .found, g .known, g .all, g .once, t)
 
--- words
+-- words of the other types
 listed-words : (t : Words) → (f : List (List ℕ) → Option Kind) × (listed t ≡ words (wordsFor t) f)
 listed-words Nothing = ((λ given. none), refl)
 listed-words OnR = ((λ given. some (cond (null given) rrtype bitmap)), refl)
@@ -74,7 +74,7 @@ module _ (t : Words) (s : List ℕ) (a b : ℕ) where
   pub words-twice : anyIn (NotWord t) s a b ≡ false → twiceIn false s a b ≡ true → some forbidden ≡ meaningBy (allowed (listed t)) s a b
   words-twice h k = let (f, e) = listed-words t in let g = words-given t s a b h in rw (e, g .found, g .known, g .all, g .taken, g .once, k)
 
--- no word is taken where none is listed
+-- a type that lists no word takes none
 no-word : (given : List (List ℕ)) → allOf (hasWord []) given ≡ true → null given ≡ false → ⊥
 no-word [] h n = true≢false n
 no-word (w ∷ ws) h n = true≢false (sym h)
@@ -112,7 +112,7 @@ words-once OnS s a b h k = let g = words-given OnS s a b h in rw (g .found, g .k
     by false false = refl
 words-once OnX s a b h k = let g = words-given OnX s a b h in rw (g .found, g .known, g .all, g .taken, g .once, k, g .some-given)
 
--- a part has one qualifier at least
+-- a part has at least one qualifier
 some-each : (ps : List Part) (qs : List Qualifier) → null ps ≡ false → eachOf qualifier ps ≡ some qs → null qs ≡ false
 some-each [] qs h e = absurd (true≢false h)
 some-each (p ∷ ps) qs h e = by (qualifier p) (eachOf qualifier ps) e
@@ -131,11 +131,11 @@ none-allowed k (q ∷ qs) h = by (wordOf q) (eachOf wordOf qs)
     by (some w) none = refl
     by (some w) (some ws) = refl
 
--- a type that takes nothing, with some qualifier
+-- a type that takes no qualifier, given some
 pub nothing-taken : (k : Kind) (s : List ℕ) (a b : ℕ) → meaningBy (λ qs. none) s a b ≡ qualifiedIn (some (noWords k)) s a b
 nothing-taken k s a b = as-refused (allowed (noWords k)) s a b (λ qs e. none-allowed k qs (some-each (piecesIn s a b) qs (placed-some a (splitOn 44 (slice a b s)) (split-some (λ x. eqb x 44) (slice a b s))) e))
 
--- a kind without symbols is the same with none of them
+-- a form without qualifiers has the kind without symbols
 pub plain-kind : (s : List ℕ) (a : ℕ) (f : Form) → some (means (kindIn s a a f)) ≡ some (means (kindOf [] f))
 plain-kind s a (Int w) = rw (eq-eqb a a refl)
 plain-kind s a Rrtype = refl
@@ -154,7 +154,7 @@ plain-kind s a Hexc = refl
 plain-kind s a (Eui w) = refl
 plain-kind s a Time = refl
 
--- a type that is not known
+-- an unknown type
 pub no-type-malformed : (s : List ℕ) (a b : ℕ) → anyIn Malformed s a b ≡ true → none ≡ qualifiedIn none s a b
 no-type-malformed s a b h = rw (ill-formed s a b h)
 

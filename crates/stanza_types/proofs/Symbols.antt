@@ -32,7 +32,7 @@ isInteger hexc = false
 isInteger (eui w) = false
 isInteger time = false
 
--- words make no integer
+-- words never make an integer
 abbrev Wordy : Takes → Type 0
 Wordy (symbols w) = Unit {0}
 Wordy (words ws f) = (given : List (List ℕ)) (k : Kind) → f given ≡ some k → isInteger k ≡ false
@@ -102,7 +102,7 @@ meaning-symbols k qs w l e = by (takesOf typeRows k) refl e
     by none a e = cc
     by (some t) a e = known t (row-of typeRows rows-wordy k t a) (anyOf unknownWord qs) e
 
--- of a field whose type and qualifiers, from a to b, are an integer's
+-- the symbols of an integer field are those listed from a to b
 pub symbols-listed : (k s : List ℕ) (a b : ℕ) (j : Kind) → some (means j) ≡ meaningIn k s a b → (w : ℕ) (l : List Symbol) → j ≡ int w l → symbolsIn w s a b ≡ some l
 symbols-listed k s a b j e w l q = by (qualifiersIn s a b) (sym e)
   where

@@ -1,4 +1,4 @@
--- The kinds of fields and the types in code, and what they mean by the definitions of document 01.
+-- The kinds of fields and the types as the code has them, and what they mean by the definitions of document 01.
 use Prim.Native.Nat.{ℕ, _/_, _%_}
 use mathlib.Core.Path.{_≡_}
 use mathlib.Core.Bool.{Bool, cond}
@@ -70,7 +70,7 @@ abbrev pub longer : List TypeRow → List TypeRow
 longer [] = []
 longer (r ∷ rs) = cond (eqb (length (r .typeWord)) 1) (longer rs) (r ∷ longer rs)
 
--- the octets of an integer
+-- the number of octets of an integer
 abbrev pub intWidth : Form → ℕ
 intWidth (Int w) = w
 intWidth Rrtype = 0
@@ -100,22 +100,22 @@ orNone (some l) = l
 abbrev pub kindIn : List ℕ → ℕ → ℕ → Form → Kind
 kindIn s a b f = kindOf (orNone (symbolsIn (intWidth f) s a b)) f
 
--- what a type and its qualifiers, from a to b, are; none: they break the grammar
+-- what a type and its qualifiers from a to b mean; `none`: they break the grammar
 abbrev pub meantIn : List ℕ → ℕ → ℕ → Meant → Option Meaning
 meantIn s a b Malformed = none
 meantIn s a b Unknown = some unknown
 meantIn s a b Forbidden = some forbidden
 meantIn s a b (Means f) = some (means (kindIn s a b f))
 
--- what known qualifiers that a type allows come to, from a to b
+-- what the qualifiers from a to b mean, if f gives the kind that they make where they are allowed
 abbrev pub meaningBy : (List Qualifier → Option Kind) → List ℕ → ℕ → ℕ → Option Meaning
 meaningBy f s a b = eachOf qualifier (piecesIn s a b) >>= λ qs. some (cond (anyOf unknownWord qs) unknown (orForbidden (f qs)))
 
--- what a type is with the qualifiers from a to b, which are not none
+-- what a type means with the qualifiers from a to b, of which there is at least one
 abbrev pub qualifiedIn : Option Takes → List ℕ → ℕ → ℕ → Option Meaning
 qualifiedIn t s a b = eachOf qualifier (piecesIn s a b) >>= λ qs. some (meaningOf t qs)
 
--- what the type k is with the qualifiers from a to b
+-- what the type k means with the qualifiers from a to b
 abbrev pub meaningIn : List ℕ → List ℕ → ℕ → ℕ → Option Meaning
 meaningIn k s a b = qualifiersIn s a b >>= λ qs. some (meaning k qs)
 
@@ -126,7 +126,7 @@ markOf given k = cond given k 0
 abbrev pub marksOf : Bool → Bool → Bool → Bool → ℕ
 marksOf c a i o = bitOr (bitOr (markOf c 1) (markOf a 2)) (bitOr (markOf i 4) (markOf o 8))
 
--- what their words make, each given once, and one at least
+-- what the words of a type make: at least one is given, and none twice
 abbrev pub nameForm : List ℕ → ℕ → ℕ → Form
 nameForm s a b = Name (marksOf (anyIn (IsWord 67) s a b) (anyIn (IsWord 65) s a b) (anyIn (IsWord 76) s a b) (anyIn (IsWord 79) s a b))
 
@@ -137,7 +137,7 @@ madeOf s a b OnN = Means (nameForm s a b)
 madeOf s a b OnS = cond (anyIn (IsWord 77) s a b) (cond (anyIn (IsWord 88) s a b) Forbidden (Means Strs)) (cond (anyIn (IsWord 88) s a b) (Means Raw) (Means Str))
 madeOf s a b OnX = Means Hexc
 
--- what one letter x makes: a kind of field is what it means wherever it stands alone
+-- what the letter x makes: if a kind of field, then x as the only qualifier means that kind
 abbrev pub MadeBy : Words → ℕ → ByLetter → Type 0
 MadeBy w x Other = Unit {0}
 MadeBy w x (Makes f) = (s : List ℕ) (a b : ℕ) → slice a b s ≡ x ∷ [] → meantIn s a b (Means f) ≡ meaningBy (allowed (listed w)) s a b

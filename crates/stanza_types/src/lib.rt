@@ -12,8 +12,8 @@ ghost use Rattle.stanza_words.specs.declared.Words.the-variants.{OnN, OnS};
 use stanza_words::Test;
 use stanza_words::Words;
 
-// A kind of field: the octets of an integer or an EUI; the marks C, A, L, O of a name, as 1, 2, 4, 8 in one octet, so that a form
-// is a number and one octet (`field_code`).
+// A kind of field. An integer and an EUI have their number of octets; a name has its marks C, A, L, O as 1, 2, 4, 8 in one
+// octet, so that a form is a number and one octet (`stanza_code`).
 pub enum Form {
     Int(u8),
     Rrtype,
@@ -33,7 +33,7 @@ pub enum Form {
     Time,
 }
 
-// A field of a description: its form, and where its qualifiers and, as the judge finds it, its free text lie.
+// A field of a description: its form, where its qualifiers lie, and, while the stanza is judged, where its free text lies.
 pub struct FieldDesc {
     pub form: Form,
     pub qualifiers_at: u16,
@@ -42,7 +42,7 @@ pub struct FieldDesc {
     pub text_end: u16,
 }
 
-// A type: unknown; an integer, which takes symbols; one that takes no qualifier; or R, N, S, X.
+// A field type: unknown; an integer, which takes symbols; one that takes no qualifier; or R, N, S, X.
 pub enum FieldType {
     NoType,
     Int1,
@@ -55,7 +55,7 @@ pub enum FieldType {
     TypeX,
 }
 
-// What a type and its qualifiers are: against the grammar, not known, not allowed, or a kind of field.
+// What a type and its qualifiers mean: they break the grammar, are unknown or not allowed, or make a kind of field.
 pub enum Meant {
     Malformed,
     Unknown,
@@ -63,7 +63,7 @@ pub enum Meant {
     Means(Form),
 }
 
-// What one letter makes of a type: a kind of field, or what is told otherwise.
+// What one letter makes of a type: a kind of field; or `Other`, which the exact tests judge.
 enum ByLetter {
     Other,
     Makes(Form),
@@ -88,7 +88,7 @@ fn is_word(s: &[u8], a: usize, e: usize, w: &[u8]) -> bool
     false
 }
 
-// The type from a to e. Those of one letter are told at once.
+// The type from a to e. Types of one letter are recognized directly.
 fn type_of(s: &[u8], a: usize, e: usize) -> FieldType
     requires { ⌜ (a ≤ e) × (e ≤ length (now s)) ⌝ }
     ensures { λ r. ⌜ takenBy r ≡ takesOf typeRows (slice a e (now (s .entry))) ⌝ }
@@ -124,7 +124,7 @@ fn letter_type(x: u8) -> FieldType
     FieldType::NoType
 }
 
-// The type from a to e among those of more than one letter.
+// The type from a to e, among the types of more than one letter.
 fn word_type(s: &[u8], a: usize, e: usize) -> FieldType
     requires { ⌜ (a ≤ e) × (e ≤ length (now s)) ⌝ }
     ensures { λ r. ⌜ takenBy r ≡ takesOf (longer typeRows) (slice a e (now (s .entry))) ⌝ }
@@ -165,7 +165,7 @@ fn word_type(s: &[u8], a: usize, e: usize) -> FieldType
     FieldType::NoType
 }
 
-// What qualifiers from a to b are that their type does not take.
+// Why the qualifiers from a to b, which their type does not take, are refused.
 fn refused(s: &[u8], a: usize, b: usize) -> Meant
     requires { ⌜ (a ≤ b) × (b ≤ length (now s)) ⌝ }
     ensures { λ r. ⌜ meantIn (now (s .entry)) a b r ≡ meaningBy (λ qs. none) (now (s .entry)) a b ⌝ }
@@ -199,7 +199,7 @@ pub fn limit(w: u8) -> u64
     1
 }
 
-// An integer of w octets with the qualifiers from a to b.
+// What an integer of w octets means with the qualifiers from a to b.
 fn symbols_meant(s: &[u8], a: usize, b: usize, w: u8) -> Meant
     requires { ⌜ (a < b) × (b ≤ length (now s)) × (w ≤ 4) ⌝ }
     ensures { λ r. ⌜ meantIn (now (s .entry)) a b r ≡ meaningBy (allowed (symbols w)) (now (s .entry)) a b ⌝ }
@@ -217,7 +217,7 @@ fn symbols_meant(s: &[u8], a: usize, b: usize, w: u8) -> Meant
     Meant::Means(Form::Int(w))
 }
 
-// A mark's number, where it is given.
+// A mark's number if the mark is given, else 0.
 fn mark(given: bool, k: u8) -> u8
     ensures { λ r. ⌜ r ≡ markOf given k ⌝ }
 {
@@ -245,7 +245,7 @@ fn name_form(s: &[u8], a: usize, b: usize) -> Form
     Form::Name(marks(c, m, l, o))
 }
 
-// What the words of a type make, each given once, and one at least.
+// What the words of a type make: at least one is given, and none twice.
 fn made(s: &[u8], a: usize, b: usize, w: Words) -> Meant
     requires { ⌜ (a ≤ b) × (b ≤ length (now s)) ⌝ }
     ensures { λ r. ⌜ r ≡ madeOf (now (s .entry)) a b w ⌝ }
@@ -271,7 +271,7 @@ fn made(s: &[u8], a: usize, b: usize, w: Words) -> Meant
     }
 }
 
-// What one letter makes of a name.
+// What one letter as qualifier makes of a name.
 fn name_by_letter(x: u8) -> ByLetter
     ensures { λ r. ⌜ MadeBy OnN x r ⌝ }
 {
@@ -290,7 +290,7 @@ fn name_by_letter(x: u8) -> ByLetter
     ByLetter::Other
 }
 
-// What one letter makes of a string.
+// What one letter as qualifier makes of a string.
 fn string_by_letter(x: u8) -> ByLetter
     ensures { λ r. ⌜ MadeBy OnS x r ⌝ }
 {
@@ -303,7 +303,7 @@ fn string_by_letter(x: u8) -> ByLetter
     ByLetter::Other
 }
 
-// What one letter makes of a type that takes words.
+// What one letter as qualifier makes of a type that takes words.
 fn kind_by_letter(w: Words, x: u8) -> ByLetter
     ensures { λ r. ⌜ MadeBy w x r ⌝ }
 {
@@ -326,7 +326,7 @@ fn kind_by_letter(w: Words, x: u8) -> ByLetter
     }
 }
 
-// A type that takes words, with the qualifiers from a to b. Most often there is one, of one letter.
+// A type that takes words, with the qualifiers from a to b. Most often there is just one, of one letter.
 fn words_meant(s: &[u8], a: usize, b: usize, w: Words) -> Meant
     requires { ⌜ (a < b) × (b ≤ length (now s)) ⌝ }
     ensures { λ r. ⌜ meantIn (now (s .entry)) a b r ≡ meaningBy (allowed (listed w)) (now (s .entry)) a b ⌝ }
@@ -345,7 +345,7 @@ fn words_meant(s: &[u8], a: usize, b: usize, w: Words) -> Meant
     listed_meant(s, a, b, w)
 }
 
-// The same, by a test of all its qualifiers.
+// The same, by testing all the qualifiers.
 fn listed_meant(s: &[u8], a: usize, b: usize, w: Words) -> Meant
     requires { ⌜ (a < b) × (b ≤ length (now s)) ⌝ }
     ensures { λ r. ⌜ meantIn (now (s .entry)) a b r ≡ meaningBy (allowed (listed w)) (now (s .entry)) a b ⌝ }
@@ -359,7 +359,7 @@ fn listed_meant(s: &[u8], a: usize, b: usize, w: Words) -> Meant
     made(s, a, b, w)
 }
 
-// A type without qualifiers.
+// What a type means without qualifiers.
 fn plain_meant(t: FieldType) -> Meant
     ensures { λ r. ⌜ ((s : List ℕ) (a : ℕ) → meantIn s a a r ≡ some (meaningOf (takenBy t) [])) ⌝ }
 {
@@ -376,7 +376,7 @@ fn plain_meant(t: FieldType) -> Meant
     }
 }
 
-// The type from k to e with the qualifiers from a to b.
+// What the type from k to e means with the qualifiers from a to b.
 pub fn meaning_of(s: &[u8], k: usize, e: usize, a: usize, b: usize) -> Meant
     requires { ⌜ (k ≤ e) × (e ≤ length (now s)) × (a ≤ b) × (b ≤ length (now s)) ⌝ }
     ensures { λ r. ⌜ meantIn (now (s .entry)) a b r ≡ meaningIn (slice k e (now (s .entry))) (now (s .entry)) a b ⌝ }
@@ -388,7 +388,7 @@ pub fn meaning_of(s: &[u8], k: usize, e: usize, a: usize, b: usize) -> Meant
     qualified(t, s, a, b)
 }
 
-// A type with the qualifiers from a to b.
+// What a type means with the qualifiers from a to b, of which there is at least one.
 fn qualified(t: FieldType, s: &[u8], a: usize, b: usize) -> Meant
     requires { ⌜ (a < b) × (b ≤ length (now s)) ⌝ }
     ensures { λ r. ⌜ meantIn (now (s .entry)) a b r ≡ qualifiedIn (takenBy t) (now (s .entry)) a b ⌝ }

@@ -1,4 +1,4 @@
--- What the tests of the pieces between commas say of the qualifiers given.
+-- What the tests of the pieces between commas say of the qualifiers that are given.
 use Prim.Native.Nat.{ℕ, _^_}
 use Prim.Native.Char.{code}
 use mathlib.Core.Path.{_≡_, refl, sym, ap, _∙_}
@@ -26,7 +26,7 @@ use Rattle.stanza_words.specs.declared.Words.the-variants.{Nothing, OnR,
 abbrev among : Test → List Part → Bool
 among t ps = anyOf (λ p. holdsOf t (qualifier p)) ps
 
--- pieces and their qualifiers, one by one
+-- pieces and their qualifiers, pairwise
 data Each : List Part → List Qualifier → Type 0 where
   each-none : Each [] []
   each-more : {p : Part} {q : Qualifier} {ps : List Part} {qs : List Qualifier} → qualifier p ≡ some q → Each ps qs → Each (p ∷ ps) (q ∷ qs)
@@ -41,7 +41,7 @@ each (p ∷ ps) qs e = by (qualifier p) refl (eachOf qualifier ps) e (λ rs. eac
     by (some q) a none e ih = let z : _≡_ {A = ℕ} 0 1 = cc in absurd (omega arith)
     by (some q) a (some rs) e ih = let m : q ∷ rs ≡ qs = cc in rw (← m) (each-more a (ih rs refl))
 
--- the grammar
+-- every piece is a qualifier exactly if none is malformed
 all-qualifiers : (ps : List Part) → among Malformed ps ≡ false → (qs : List Qualifier) × (eachOf qualifier ps ≡ some qs)
 all-qualifiers [] h = ([], refl)
 all-qualifiers (p ∷ ps) h = by (qualifier p) h (λ k. all-qualifiers ps k)
@@ -59,7 +59,7 @@ no-qualifiers (p ∷ ps) h = by (qualifier p) h (λ k. no-qualifiers ps k)
     by none h ih = refl
     by (some q) h ih = rw (ih h)
 
--- words that are not known
+-- some piece is an unknown word exactly if some qualifier is
 unknowns : {ps : List Part} {qs : List Qualifier} → Each ps qs → among Unknown ps ≡ anyOf unknownWord qs
 unknowns each-none = refl
 unknowns (each-more {q = q} e r) = rw (e, unknowns r)
@@ -72,7 +72,7 @@ taken-known OnN w h = rw (h, or-true)
 taken-known OnS w h = rw (h, or-true, or-true)
 taken-known OnX w h = rw (h, or-true, or-true, or-true)
 
--- a test of one qualifier that follows from another
+-- a test that fails whenever another does: if that one holds of no piece, neither does this one
 weaker : (t u : Test) → ((o : Option Qualifier) → holdsOf t o ≡ false → holdsOf u o ≡ false) → (ps : List Part) → among t ps ≡ false → among u ps ≡ false
 weaker t u k [] h = refl
 weaker t u k (p ∷ ps) h =
@@ -121,7 +121,7 @@ module _ (a : ℕ) (w : Spanned) (q : Qualifier) where
 begins-with : (p : Part) (q : Qualifier) → qualifier p ≡ some q → nameOf q ≡ nameIn p
 begins-with p q e = front-name (p .place) (span nameOctet (p .octets)) q (isName (span nameOctet (p .octets) .front)) e
 
--- the same two by a test of their images
+-- two elements have the same image exactly if the list of images has one twice
 twice-map : {A B : Type 0} (g : B → B → Bool) (f : A → B) (xs : List A) → twice (λ x y. g (f x) (f y)) xs ≡ twice g (map f xs)
 twice-map g f [] = refl
 twice-map g f (x ∷ xs) = rw (any-map xs, twice-map g f xs)
@@ -201,7 +201,7 @@ module _ (t : Words) where
       by (word v) h (some vs) f ih = let m : v ∷ vs ≡ given = cc in rw (← m) (after-one (hasWord (wordsFor t) v) vs h (λ k. ih k vs refl))
       by (symbol y) h o f ih = cc
 
--- What the crates above use. A qualifier that breaks the grammar, and none that does.
+-- What the crates above use. First: some qualifier breaks the grammar, or none does.
 pub ill-formed : (s : List ℕ) (a b : ℕ) → anyIn Malformed s a b ≡ true → eachOf qualifier (piecesIn s a b) ≡ none
 ill-formed s a b h = no-qualifiers (piecesIn s a b) h
 

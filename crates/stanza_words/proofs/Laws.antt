@@ -1,4 +1,4 @@
--- Laws of names, of texts that are the same, and of the pieces between commas.
+-- Laws of names, of equal texts, and of the pieces between commas.
 use Prim.Native.Nat.{ℕ, suc, _+_, _-_, _≤_, _<_}
 use Prim.Native.Char.{code}
 use mathlib.Core.Path.{_≡_, refl, sym, ap, _∙_}
@@ -26,7 +26,7 @@ use Rattle.stanza_words.specs.declared.Test.the-variants.{Malformed, Unk
 use Rattle.stanza_words.specs.declared.Words.{Words}
 use Rattle.stanza_words.specs.declared.Words.the-variants.{Nothing, OnR, OnN, OnS, OnX}
 
--- the front that passes is the part up to its end
+-- the longest front that passes is the part up to its end
 module _ (f : ℕ → Bool) where
   pub front : (s : List ℕ) (i e : ℕ) → i ≤ e → e ≤ length s → span f (slice i e s) .front ≡ slice i (frontEnd f s i e) s
   front s i e h l = sym (span-front f (slice i e s)) ∙ part s i (length (span f (slice i e s) .front)) e (front-within f s i e h l)
@@ -42,7 +42,7 @@ module _ (f : ℕ → Bool) where
   pub all-passes : (s : List ℕ) (i e : ℕ) → i ≤ e → e ≤ length s → allOf f (slice i (frontEnd f s i e) s) ≡ true
   all-passes s i e h l = rw (← front s i e h l) (all-front (slice i e s))
 
--- texts that are the same
+-- equal texts, octet by octet
 pub same-next : (g : Bool) (x y : ℕ) (xs ys : List ℕ) → sameBy g (x ∷ xs) (y ∷ ys) ≡ eqb (cond g (lowered x) x) (cond g (lowered y) y) && sameBy g xs ys
 same-next true x y xs ys = refl
 same-next false x y xs ys = refl
@@ -64,7 +64,7 @@ same-length g (x ∷ xs) (y ∷ ys) h =
     by true e = e
     by false e = refl
 
--- one octet of each, and the rest
+-- the first octets of two texts, and their rests
 module _ (g : Bool) (s t : List ℕ) (i e j f x y : ℕ) (h : i < e) (l : e ≤ length s) (k : j < f) (m : f ≤ length t)
     (p : x ≡ cond g (lowered (getD s i 0)) (getD s i 0)) (q : y ≡ cond g (lowered (getD t j 0)) (getD t j 0)) where
   same-one : sameBy g (slice i e s) (slice j f t) ≡ eqb x y && sameBy g (slice (i + 1) e s) (slice (j + 1) f t)
@@ -76,7 +76,7 @@ module _ (g : Bool) (s t : List ℕ) (i e j f x y : ℕ) (h : i < e) (l : e ≤ 
   pub same-off : (x ≡ y → ⊥) → false ≡ sameBy g (slice i e s) (slice j f t)
   same-off r = rw (same-one, ne-eqb x y r)
 
--- a name and a qualifier that start with other octets
+-- a name and a qualifier that differ in the first octet
 pub first-other : (g : Bool) (s : List ℕ) (a n i z x y : ℕ) → a < n → n ≤ length s → i < z → z ≤ length s
     → x ≡ cond g (lowered (getD s a 0)) (getD s a 0) → y ≡ cond g (lowered (getD s i 0)) (getD s i 0) → (x ≡ y → ⊥) → sameBy g (slice a n s) (nameIn (partIn s i z)) ≡ false
 first-other g s a n i z x y h l k m p q r = rw (next s a n h l, next s i z k m) (by (nameOctet (getD s i 0)))
@@ -96,7 +96,7 @@ pub same-lengths : (g : Bool) (s t : List ℕ) (a e b f : ℕ) → e ≤ length 
 same-lengths g s t a e b f l m h =
     sym (same-length g (slice a e s) (slice b f t) (λ q. h (omega (arith, length-slice a e s l, length-slice b f t m))))
 
--- the qualifier of a part that begins with a name, and of one that does not
+-- the qualifier of a part that begins with a name, and of a part that does not
 abbrev pub begins : List ℕ → Bool
 begins t = startsWithLetter t && leb (length t) 63
 
@@ -143,11 +143,11 @@ module _ (s : List ℕ) (a z n : ℕ) (h : a ≤ z) (l : z ≤ length s) (q : n 
     pub found-number : (v : ℕ) → n < z → getD s n 0 ≡ 61 → decimalOf (slice (n + 1) z s) ≡ some v → some (symbol (record { spelling = partIn s a n; value = v })) ≡ qualifier (partIn s a z)
     found-number v e o d = rw (after-name e, eq-eqb (getD s n 0) 61 o, d)
 
--- names
+-- whether a part begins like a name, by its first octet and its length
 pub begins-next : (s : List ℕ) (a e : ℕ) → a < e → e ≤ length s → begins (slice a e s) ≡ letter (getD s a 0) && leb (e - a) 63
 begins-next s a e h l = ap (λ n. startsWithLetter (slice a e s) && leb n 63) (length-slice a e s l) ∙ rw (next s a e h l)
 
--- tests
+-- tests, as the code computes them
 pub last-word : (b : Bool) → b ≡ b && true || false
 last-word true = refl
 last-word false = refl
@@ -159,7 +159,7 @@ leb-ltb a b = by (ltb b a) refl
     by true e = lt-leb a b (ltb-true b a e)
     by false e = le-leb a b (ltb-false b a e)
 
--- words: no type takes one that is not one letter
+-- words: no type takes a word that is not one letter
 pub letter-word : (s : List ℕ) (a z : ℕ) → a ≤ z → z ≤ length s → z - a ≡ 1 → slice a z s ≡ getD s a 0 ∷ []
 letter-word s a z h l q = rw (next s a z (omega arith) l, nothing s (a + 1) z (omega arith))
 
@@ -190,7 +190,7 @@ long-word (IsWord x) [] h = refl
 long-word (IsWord x) (y ∷ []) h = absurd (h refl)
 long-word (IsWord x) (y ∷ z ∷ w) h = simp and-false
 
--- a test looks at a symbol's number only
+-- of a symbol, a test looks at the number only
 pub any-symbol : (t : Test) (p q : Part) (v : ℕ) → holdsOf t (some (symbol (record { spelling = p; value = v }))) ≡ holdsOf t (some (symbol (record { spelling = q; value = v })))
 any-symbol Malformed p q v = refl
 any-symbol Unknown p q v = refl
@@ -255,11 +255,11 @@ module _ (s : List ℕ) (i b z : ℕ) (h : i ≤ b) (l : b ≤ length s) (q : z 
   pub twice-last : (g : Bool) → z ≡ b → false ≡ twiceIn g s i b
   twice-last g m = rw (last-piece m)
 
--- the name of a qualifier from i to z ends where the octets of names do
+-- the name of a qualifier from i to z is its longest front of name octets
 pub named-in : (g : Bool) (s : List ℕ) (i z m : ℕ) → i ≤ z → z ≤ length s → m ≡ frontEnd nameOctet s i z → (t : List ℕ) (r : Bool) → r ≡ sameBy g t (slice i m s) → r ≡ sameBy g t (nameIn (partIn s i z))
 named-in g s i z m h l q t r e = e ∙ ap (sameBy g t) (ap (λ k. slice i k s) q ∙ sym (front nameOctet s i z h l))
 
--- one letter between a and b is one word
+-- one letter between a and b is one qualifier, a word
 no-comma : (x : ℕ) → letter x ≡ true → eqb x (code ",") ≡ false
 no-comma x h = by (eqb x (code ",")) refl
   where

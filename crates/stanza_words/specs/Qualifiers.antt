@@ -1,4 +1,4 @@
--- The qualifiers between a and b in a stanza, and what is asked of them.
+-- The qualifiers between a and b in a stanza, and the tests made of them.
 use Prim.Native.Nat.{ℕ}
 use Prim.Native.Char.{code}
 use mathlib.Core.Bool.{Bool, true, false, not, cond}
@@ -20,7 +20,7 @@ use Rattle.stanza_words.specs.declared.Test.the-variants.{Malformed, Unk
 use Rattle.stanza_words.specs.declared.Words.{Words}
 use Rattle.stanza_words.specs.declared.Words.the-variants.{Nothing, OnR, OnN, OnS, OnX}
 
--- what was found from a to z
+-- the qualifier that the code found from a to z
 abbrev pub foundIn : List ℕ → ℕ → ℕ → Found → Option Qualifier
 foundIn s a z Bad = none
 foundIn s a z Word = some (word (slice a z s))
@@ -30,7 +30,7 @@ foundIn s a z (Numbered e v) = some (symbol (record { spelling = partIn s a e; v
 abbrev pub piecesIn : List ℕ → ℕ → ℕ → List Part
 piecesIn s a b = placed a (splitOn (code ",") (slice a b s))
 
--- the qualifiers; none where a and b are equal
+-- the qualifiers; none if a and b are equal
 abbrev pub qualifiersIn : List ℕ → ℕ → ℕ → Option (List Qualifier)
 qualifiersIn s a b = cond (eqb a b) (some []) (eachOf qualifier (piecesIn s a b))
 
@@ -42,7 +42,7 @@ wordsFor OnN = ascii "C" ∷ ascii "A" ∷ ascii "L" ∷ ascii "O" ∷ []
 wordsFor OnS = ascii "M" ∷ ascii "X" ∷ []
 wordsFor OnX = ascii "C" ∷ []
 
--- what a test says of a qualifier; none: it breaks the grammar
+-- whether a test holds of a qualifier; `none` is one that breaks the grammar
 abbrev pub holdsOf : Test → Option Qualifier → Bool
 holdsOf Malformed none = true
 holdsOf Malformed (some q) = false
@@ -66,7 +66,7 @@ anyIn t s a b = anyOf (λ p. holdsOf t (qualifier p)) (piecesIn s a b)
 abbrev pub nameIn : Part → List ℕ
 nameIn p = span nameOctet (p .octets) .front
 
--- names are the same, with the case of letters or without it
+-- names are the same, ignoring the case of letters or not
 abbrev pub sameBy : Bool → List ℕ → List ℕ → Bool
 sameBy true x y = sameWord x y
 sameBy false x y = sameOctets x y

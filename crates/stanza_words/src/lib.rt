@@ -1,4 +1,4 @@
-// The qualifiers of a field line: their grammar, and what is asked of them.
+// The qualifiers of a field line: their grammar, and the tests made of them.
 ghost use Prim.Native.Nat.{_≤_};
 ghost use lib.ListN.{length};
 ghost use lib.Dec.{leb};
@@ -13,7 +13,7 @@ ghost use Rattle.format.specs.Types.{knownWord, hasWord};
 ghost use Rattle.octets.specs.Octets.{partIn};
 ghost use Rattle.stanza_words.specs.Qualifiers.{foundIn, wordsFor, holdsOf, anyIn, sameBy};
 
-// A qualifier: none by the grammar; a word; or a symbol, with the end of its name and its number.
+// What a qualifier is by the grammar: none; a word; or a symbol, with the end of its name and its number.
 pub enum Found {
     Bad,
     Word,
@@ -29,7 +29,7 @@ pub enum Words {
     OnX,
 }
 
-// What is asked of a qualifier; see specs/Qualifiers.antt.
+// A test of a qualifier; see specs/Qualifiers.antt.
 pub enum Test {
     Malformed,
     Unknown,
@@ -38,7 +38,7 @@ pub enum Test {
     IsWord(u8),
 }
 
-// An octet without the case of letters, or as it is.
+// The octet, in lower case if `ignoring`.
 pub fn fold(ignoring: bool, b: u8) -> u8
     ensures { λ r. ⌜ r ≡ cond ignoring (lowered b) b ⌝ }
 {
@@ -48,7 +48,7 @@ pub fn fold(ignoring: bool, b: u8) -> u8
     b
 }
 
-// Whether the text of s from a to e and that of t from b to f are the same, ignoring the case of letters or not.
+// Whether the text of s from a to e is the text of t from b to f; if `ignoring`, the case of letters does not count.
 pub fn same(ignoring: bool, s: &[u8], a: usize, e: usize, t: &[u8], b: usize, f: usize) -> bool
     requires { ⌜ (a ≤ e) × (e ≤ length (now s)) × (b ≤ f) × (f ≤ length (now t)) ⌝ }
     ensures { λ r. ⌜ r ≡ sameBy ignoring (slice a e (now (s .entry))) (slice b f (now (t .entry))) ⌝ }
@@ -68,7 +68,7 @@ pub fn same(ignoring: bool, s: &[u8], a: usize, e: usize, t: &[u8], b: usize, f:
     true
 }
 
-// A letter first, and 63 octets at most.
+// Whether the part from a to e starts with a letter and has at most 63 octets.
 pub fn begins_name(s: &[u8], a: usize, e: usize) -> bool
     requires { ⌜ (a ≤ e) × (e ≤ length (now s)) ⌝ }
     ensures { λ r. ⌜ r ≡ startsWithLetter (slice a e (now (s .entry))) && leb (length (slice a e (now (s .entry)))) 63 ⌝ }
@@ -108,7 +108,7 @@ pub fn find(s: &[u8], a: usize, z: usize) -> Found
     Found::Bad
 }
 
-// A letter that is a word of some type.
+// Whether a letter is a word that some type takes.
 fn known_letter(x: u8) -> bool
     ensures { λ r. ⌜ r ≡ knownWord (x ∷ []) ⌝ }
 {
@@ -130,7 +130,7 @@ fn known_letter(x: u8) -> bool
     x == b'X'
 }
 
-// A letter that is a word of a type.
+// Whether a letter is a word that the type takes.
 fn takes_letter(t: Words, x: u8) -> bool
     ensures { λ r. ⌜ r ≡ hasWord (wordsFor t) (x ∷ []) ⌝ }
 {
@@ -172,7 +172,7 @@ fn holds_bad(t: Test) -> bool
     }
 }
 
-// Whether a test holds of a symbol with a number.
+// Whether a test holds of a symbol with the number v.
 fn holds_symbol(t: Test, v: u64) -> bool
     ensures { λ r. ⌜ r ≡ holdsOf t (some (symbol (record { spelling = partIn [] 0 0; value = v }))) ⌝ }
 {
@@ -208,7 +208,7 @@ fn holds_letter(t: Test, x: u8) -> bool
     }
 }
 
-// Whether a test holds of a word of more letters, which no type takes.
+// Whether a test holds of a word that is not one letter, which no type takes.
 fn holds_long(t: Test) -> bool
     ensures { λ r. ⌜ r ≡ holdsOf t (some (word [])) ⌝ }
 {
@@ -239,7 +239,7 @@ fn holds(t: Test, s: &[u8], a: usize, z: usize) -> bool
     }
 }
 
-// Whether a test holds of some qualifier between a and b. Most often there is one, of one letter, which is tested at once.
+// Whether a test holds of some qualifier between a and b. Most often there is one, of one letter, which is tested directly.
 pub fn any(t: Test, s: &[u8], a: usize, b: usize) -> bool
     requires { ⌜ (a ≤ b) × (b ≤ length (now s)) ⌝ }
     ensures { λ r. ⌜ r ≡ anyIn t (now (s .entry)) a b ⌝ }

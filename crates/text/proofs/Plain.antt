@@ -14,7 +14,7 @@ use Rattle.format.proofs.Lists.{and-left, and-right, not-true}
 use Rattle.octets.proofs.Slices.{next, front-within, front-rest, span-front, part}
 use Rattle.text.specs.Plain.{plainText, plainEnd}
 
--- their text is themselves
+-- their text is the octets themselves
 plain-escape : (x : ℕ) → plainText x ≡ true → stringEscape x ≡ x ∷ []
 plain-escape x h =
     rw (not-true (among x (ascii "\"\\")) (and-right (inRange 0x20 0x7E x) (not (among x (ascii "\"\\"))) h), and-left (inRange 0x20 0x7E x) (not (among x (ascii "\"\\"))) h)
@@ -47,7 +47,7 @@ escape-short x = escape-bound 0x20 (ascii "\"\\") x
 pub plain-within : (p : List ℕ) (i e k : ℕ) → i ≤ e → e ≤ length p → k ≡ plainEnd p i e → (i ≤ k) × (k ≤ e)
 plain-within p i e k h l q = (omega arith, omega (arith, front-within plainText p i e h l))
 
--- the last test of an octet
+-- the last test of an octet, as the code computes it
 pub last-test : (b : Bool) → not b ≡ not (b || false)
 last-test true = refl
 last-test false = refl

@@ -1,4 +1,4 @@
--- Laws of strings that are parts of a list of octets: their texts, how long they are, and strings one after another.
+-- Laws of strings that are parts of a list of octets: their texts, the lengths of these, and several strings in a row.
 use Prim.Native.Nat.{ℕ, zero, suc, _+_, _-_, _*_, _≤_, _<_}
 use mathlib.Core.Path.{_≡_, refl, sym, ap, subst, _∙_}
 use mathlib.Core.Bool.{Bool, true, false}
@@ -17,7 +17,7 @@ use Rattle.octets.proofs.Slices.{next, none, rest}
 use Rattle.octets.proofs.Pieces.{pieces-at}
 use Rattle.text.proofs.Plain.{escape-short}
 
--- a string's text is at most four octets for each octet and two
+-- a string's text has at most four octets for each octet, and two quotes
 pub escapes-length : (p : List ℕ) (i e : ℕ) → e ≤ length p → length (flatMap stringEscape (slice i e p)) ≤ 4 * (e - i)
 escapes-length p i e l = omega (arith, escapes-bound stringEscape escape-short (slice i e p), length-slice i e p l)
 
@@ -42,7 +42,7 @@ whole-at p i e h l w =
 whole-first : (p : List ℕ) (i e : ℕ) → e ≤ length p → taken (stringCount false) (slice i e p) ≡ took (e - i) → Whole (slice i e p)
 whole-first p i e l h = (false, h ∙ ap took (sym (length-slice i e p l)))
 
--- a string is there
+-- there is at least one string
 pub some-string : (p : List ℕ) (i e : ℕ) → i ≤ e → taken (stringCount false) (slice i e p) ≡ took (e - i) → i < e
 some-string p i e h w = by (decLt i e)
   where
@@ -50,7 +50,7 @@ some-string p i e h w = by (decLt i e)
     by (yes a) = a
     by (no a) = let z : _≡_ {A = ℕ} 0 1 = cc (at-end (stringCount false) (e - i) (subst (λ t. taken (stringCount false) t ≡ took (e - i)) (none p i e (omega arith)) w) .0) in absurd (omega arith)
 
--- the strings after the first, a space before each
+-- the texts of the strings after the first, a space before each
 abbrev pub others : List (List ℕ) → List ℕ
 others ts = flatMap (λ t. 32 ∷ stringText t) ts
 
@@ -58,7 +58,7 @@ first-others : (s : List ℕ) (ts : List (List ℕ)) → parted (ascii " ") (map
 first-others s [] = sym (append-nil (stringText s))
 first-others s (t ∷ ts) = ap (λ r. (stringText s ++ (32 ∷ [])) ++ r) (first-others t ts) ∙ append-assoc (stringText s) (32 ∷ []) (stringText t ++ others ts)
 
--- whole strings from i on: the first, its text before the others', and each of the others in turn
+-- whole strings from i on: the first, its text and that of the others, and each of the others in turn
 module _ (p : List ℕ) (i e : ℕ) (l : e ≤ length p) where
   pub strings-first : i ≤ e → taken (stringCount false) (slice i e p) ≡ took (e - i) → (i + 1 + getD p i 0 ≤ e) × Whole (slice (i + 1 + getD p i 0) e p)
   strings-first h w = whole-at p i e (some-string p i e h w) l (whole-first p i e l w)

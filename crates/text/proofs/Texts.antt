@@ -1,4 +1,4 @@
--- The value of a string's token, by runs of octets that begin no escape.
+-- The value of a string's token, read by runs of octets that begin no escape.
 use Prim.Native.Nat.{ℕ, _+_, _-_, _≤_, _<_}
 use mathlib.Core.Path.{_≡_, refl, sym, ap, _∙_}
 use mathlib.Core.Bool.{Bool, true, false, not, _||_}
@@ -42,7 +42,7 @@ run-unescaped (x ∷ xs) = by (noEscape x) refl (run-unescaped xs)
     by true e ih = ap octetsOf (plain-unescaped x xs e) ∙ octets-cons (plain x) (unescapedFrom outside xs) ∙ ap (after (x ∷ [])) ih ∙ after-after (x ∷ []) (span noEscape xs .front) (octetsOf (unescapedFrom outside (span noEscape xs .rest)))
     by false e ih = sym (after-none (octetsOf (unescapedFrom outside (x ∷ xs))))
 
--- a backslash is in the octets, or not
+-- a backslash is among the octets, or not
 flip : (x : ℕ) → eqb 92 x ≡ eqb x 92
 flip x = by (eqb x 92) refl
   where
@@ -66,7 +66,7 @@ some-slash (x ∷ xs) h = rw (flip x) (by (eqb x 92) h (some-slash xs))
     by true h ih = refl
     by false h ih = ih (omega arith)
 
--- after a run none begins
+-- a run ends at a backslash or at the end
 rest-starts : (xs : List ℕ) → length (span noEscape (span noEscape xs .rest) .front) ≡ 0
 rest-starts [] = refl
 rest-starts (x ∷ xs) = by (noEscape x) refl (rest-starts xs)
@@ -82,7 +82,7 @@ slash-at t j e h l p = by (eqb (getD t j 0) 92) refl (rw (next t j e h l) at p)
     by true f q = eqb-true (getD t j 0) 92 f
     by false f q = absurd (omega arith)
 
--- a run up to j
+-- a run from i to j
 module _ (t : List ℕ) (i e j : ℕ) (h : i ≤ e) (l : e ≤ length t) (p : j ≡ plainEnd t i e) where
   pub run-within : (i ≤ j) × (j ≤ e)
   run-within = (omega arith, omega (arith, front-within noEscape t i e h l))

@@ -8,6 +8,6 @@ use Rattle.octets.specs.Octets.{frontEnd}
 abbrev pub plainText : ℕ → Bool
 plainText x = inRange 0x20 0x7E x && not (among x (ascii "\"\\"))
 
--- the end of the first of them from i on and before e
+-- the end of the run of such octets from i on, not past e
 abbrev pub plainEnd : List ℕ → ℕ → ℕ → ℕ
 plainEnd p i e = frontEnd plainText p i e

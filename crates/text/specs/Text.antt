@@ -1,4 +1,4 @@
--- Tokens by their octets.
+-- Tokens, given their octets.
 use Prim.Native.Nat.{ℕ}
 use mathlib.Core.Bool.{Bool, true, false}
 use mathlib.Core.List.{List}
@@ -10,6 +10,6 @@ abbrev pub tokenOf : Bool → List ℕ → Token
 tokenOf true t = quoted t
 tokenOf false t = bare t
 
--- the end of the octets from i on and before e that begin no escape
+-- the end of the run of octets from i on, not past e, that begin no escape
 abbrev pub plainEnd : List ℕ → ℕ → ℕ → ℕ
 plainEnd t i e = frontEnd noEscape t i e

@@ -1,4 +1,4 @@
-// Strings of octets in quotes.
+// Prints strings of octets, in quotes.
 ghost use Prim.Native.Nat.{_+_, _-_, _^_, _<_, _≤_};
 ghost use mathlib.Core.Path.{_≡_};
 ghost use mathlib.Core.Bool.{true, false};
@@ -15,7 +15,7 @@ use buffer::put_all;
 use buffer::put_octet;
 use escape::print::put_escaped_string;
 
-// An octet that stands for itself.
+// Whether an octet stands for itself.
 fn is_plain(b: u8) -> bool
     ensures { λ r. ⌜ r ≡ plainText b ⌝ }
 {
@@ -31,7 +31,7 @@ fn is_plain(b: u8) -> bool
     b != b'\\'
 }
 
-// Whether 32 octets from i on stand for themselves: no way out of the loop, so that many are tested at once.
+// Whether the 32 octets from i on stand for themselves. The loop has no early exit, so that many are tested at once.
 fn all_plain(p: &[u8], i: usize) -> bool
     requires { ⌜ i + 32 ≤ length (now p) ⌝ }
     ensures { λ r. ⌜ r ≡ allOf plainText (slice i (i + 32) (now (p .entry))) ⌝ }
@@ -45,7 +45,7 @@ fn all_plain(p: &[u8], i: usize) -> bool
     all
 }
 
-// Whether the first octets from i on stand for themselves, so that a block is worth a test.
+// Whether the first, second and fourth octet from i on stand for themselves, so that a block is worth a test.
 fn begins_plain(p: &[u8], i: usize) -> bool
     requires { ⌜ i + 4 ≤ length (now p) ⌝ }
 {
@@ -57,7 +57,7 @@ fn begins_plain(p: &[u8], i: usize) -> bool
     false
 }
 
-// Whether 32 octets are left from i on, and all of them stand for themselves. It may say no where they do.
+// Whether at least 32 octets are left from i to e and the first 32 stand for themselves. It may deny that although they do.
 fn block_at(p: &[u8], i: usize, e: usize) -> bool
     requires { ⌜ (i ≤ e) × (e ≤ length (now p)) ⌝ }
     ensures { λ r. ⌜ (r ≡ true → (i + 32 ≤ e) × (allOf plainText (slice i (i + 32) (now (p .entry))) ≡ true)) ⌝ }
@@ -71,7 +71,7 @@ fn block_at(p: &[u8], i: usize, e: usize) -> bool
     false
 }
 
-// A place up to which the octets from i on stand for themselves, in whole blocks.
+// A place up to which the octets from i on stand for themselves, found in whole blocks.
 fn blocks_end(p: &[u8], i: usize, e: usize) -> usize
     requires { ⌜ (i ≤ e) × (e ≤ length (now p)) ⌝ }
     ensures { λ r. ⌜ (i ≤ r) × (r ≤ e) × (plainEnd (now (p .entry)) r e ≡ plainEnd (now (p .entry)) i e) ⌝ }
@@ -83,7 +83,7 @@ fn blocks_end(p: &[u8], i: usize, e: usize) -> usize
     j
 }
 
-// The end of the octets from i on that stand for themselves.
+// The end of the run of octets from i on, not past e, that stand for themselves.
 fn plain_end(p: &[u8], i: usize, e: usize) -> usize
     requires { ⌜ (i ≤ e) × (e ≤ length (now p)) ⌝ }
     ensures { λ r. ⌜ r ≡ plainEnd (now (p .entry)) i e ⌝ }
@@ -99,7 +99,7 @@ fn plain_end(p: &[u8], i: usize, e: usize) -> usize
     j
 }
 
-// The octets from i on that stand for themselves, up to the place that is answered.
+// Writes the run of octets from i on that stand for themselves, and returns where it ends.
 fn copy_plain(out: &mut [u8], n: usize, p: &[u8], i: usize, e: usize) -> usize
     requires { ⌜ (n < 2 ^ 32) × (i ≤ e) × (e ≤ length (now p)) × (length (now p) ≤ 65535) ⌝ }
     ensures { λ r. ⌜ (r ≡ plainEnd (now (p .entry)) i e) × Wrote (now (out .entry)) (now (out .exit)) n (n + (r - i)) (slice i r (now (p .entry))) ⌝ }
@@ -109,7 +109,7 @@ fn copy_plain(out: &mut [u8], n: usize, p: &[u8], i: usize, e: usize) -> usize
     j
 }
 
-// The octets of p from i to e, escaped: those that stand for themselves are copied many at once.
+// Writes the octets of p from i to e, escaped; those that stand for themselves are copied many at once.
 fn escaped(out: &mut [u8], n: usize, p: &[u8], i: usize, e: usize) -> usize
     requires { ⌜ (n ≤ 2 ^ 31) × (i ≤ e) × (e ≤ length (now p)) × (length (now p) ≤ 65535) ⌝ }
     ensures { λ r. ⌜ Wrote (now (out .entry)) (now (out .exit)) n r (flatMap stringEscape (slice i e (now (p .entry)))) ⌝ }
@@ -125,7 +125,7 @@ fn escaped(out: &mut [u8], n: usize, p: &[u8], i: usize, e: usize) -> usize
     m
 }
 
-// The octets of p from i to e as one string.
+// Writes the octets of p from i to e as one string.
 pub fn string(out: &mut [u8], n: usize, p: &[u8], i: usize, e: usize) -> usize
     requires { ⌜ (n < 2 ^ 31) × (i ≤ e) × (e ≤ length (now p)) × (length (now p) ≤ 65535) ⌝ }
     ensures { λ r. ⌜ Wrote (now (out .entry)) (now (out .exit)) n r (stringText (slice i e (now (p .entry)))) ⌝ }
@@ -135,7 +135,7 @@ pub fn string(out: &mut [u8], n: usize, p: &[u8], i: usize, e: usize) -> usize
     put_octet(out, b, b'"')
 }
 
-// The strings of p from i to e, each after its count: a space before each but the first.
+// Writes the strings that stand in p from i to e, each after its count, with a space between them.
 pub fn strings(out: &mut [u8], n: usize, p: &[u8], i: usize, e: usize) -> usize
     requires { ⌜ (n < 2 ^ 30) × (i ≤ e) × (e ≤ length (now p)) × (length (now p) ≤ 65535) × (taken (stringCount false) (slice i e (now p)) ≡ took (e - i)) ⌝ }
     ensures { λ r. ⌜ Wrote (now (out .entry)) (now (out .exit)) n r (parted (ascii " ") (map stringText (pieces (slice i e (now (p .entry)))))) ⌝ }

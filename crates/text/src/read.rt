@@ -1,4 +1,4 @@
-// Strings of octets.
+// Reads strings of octets.
 ghost use Prim.Native.Nat.{_+_, _-_, _^_, _<_, _≤_};
 ghost use mathlib.Core.Path.{_≡_};
 ghost use mathlib.Core.Bool.{true};
@@ -14,7 +14,7 @@ use buffer::Value;
 use buffer::put;
 use escape::read::Escape;
 
-// The end of the octets from i on and before e that begin no escape, one by one.
+// The end of the run of octets from i on, not past e, that begin no escape; they are tested one by one.
 fn near_end(t: &[u8], i: usize, e: usize) -> usize
     requires { ⌜ (i ≤ e) × (e ≤ length (now t)) ⌝ }
     ensures { λ r. ⌜ r ≡ plainEnd (now (t .entry)) i e ⌝ }
@@ -29,7 +29,7 @@ fn near_end(t: &[u8], i: usize, e: usize) -> usize
     j
 }
 
-// Whether none of 32 octets from i on begins an escape: no way out of the loop, so that many are tested at once.
+// Whether none of the 32 octets from i on begins an escape. The loop has no early exit, so that many are tested at once.
 fn none_escapes(t: &[u8], i: usize) -> bool
     requires { ⌜ i + 32 ≤ length (now t) ⌝ }
     ensures { λ r. ⌜ r ≡ allOf noEscape (slice i (i + 32) (now (t .entry))) ⌝ }
@@ -43,7 +43,7 @@ fn none_escapes(t: &[u8], i: usize) -> bool
     all
 }
 
-// Whether 32 octets are left from i on and before e, and none of them begins an escape.
+// Whether at least 32 octets are left from i to e and none of the first 32 begins an escape.
 fn plain_block(t: &[u8], i: usize, e: usize) -> bool
     requires { ⌜ (i ≤ e) × (e ≤ length (now t)) ⌝ }
     ensures { λ r. ⌜ (r ≡ true → (i + 32 ≤ e) × (allOf noEscape (slice i (i + 32) (now (t .entry))) ≡ true)) ⌝ }
@@ -54,7 +54,7 @@ fn plain_block(t: &[u8], i: usize, e: usize) -> bool
     none_escapes(t, i)
 }
 
-// The same end, where it is far.
+// The same end as `near_end` finds, found quickly if it is far.
 fn far_end(t: &[u8], i: usize, e: usize) -> usize
     requires { ⌜ (i ≤ e) × (e ≤ length (now t)) ⌝ }
     ensures { λ r. ⌜ r ≡ plainEnd (now (t .entry)) i e ⌝ }
@@ -66,7 +66,7 @@ fn far_end(t: &[u8], i: usize, e: usize) -> usize
     near_end(t, j, e)
 }
 
-// The octets from i to e.
+// Writes the octets from i to e.
 fn copy(out: &mut [u8], n: usize, t: &[u8], i: usize, e: usize) -> usize
     requires { ⌜ (n < 2 ^ 31) × (i ≤ e) × (e ≤ length (now t)) × (length (now t) ≤ 1048576) ⌝ }
     ensures { λ r. ⌜ Wrote (now (out .entry)) (now (out .exit)) n r (slice i e (now (t .entry))) ⌝ }
@@ -74,7 +74,7 @@ fn copy(out: &mut [u8], n: usize, t: &[u8], i: usize, e: usize) -> usize
     buffer::put_all(out, n, &t[i..e])
 }
 
-// The octets from i on that begin no escape, up to the place that is answered.
+// Writes the run of octets from i on that begin no escape, and returns where it ends.
 fn copy_plain(out: &mut [u8], n: usize, t: &[u8], i: usize, e: usize) -> usize
     requires { ⌜ (n < 2 ^ 31) × (i ≤ e) × (e ≤ length (now t)) × (length (now t) ≤ 1048576) ⌝ }
     ensures { λ r. ⌜ (r ≡ plainEnd (now (t .entry)) i e) × Wrote (now (out .entry)) (now (out .exit)) n (n + (r - i)) (slice i r (now (t .entry))) ⌝ }
@@ -84,7 +84,7 @@ fn copy_plain(out: &mut [u8], n: usize, t: &[u8], i: usize, e: usize) -> usize
     j
 }
 
-// The same after an escape: others often follow soon.
+// The same after an escape, where the next one is often near.
 fn copy_near(out: &mut [u8], n: usize, t: &[u8], i: usize, e: usize) -> usize
     requires { ⌜ (n < 2 ^ 31) × (i ≤ e) × (e ≤ length (now t)) × (length (now t) ≤ 1048576) ⌝ }
     ensures { λ r. ⌜ (r ≡ plainEnd (now (t .entry)) i e) × Wrote (now (out .entry)) (now (out .exit)) n (n + (r - i)) (slice i r (now (t .entry))) ⌝ }
@@ -94,7 +94,7 @@ fn copy_near(out: &mut [u8], n: usize, t: &[u8], i: usize, e: usize) -> usize
     j
 }
 
-// The value of a quoted token's octets from i on, where an escape begins.
+// Reads the value of a quoted token's octets from i on, where an escape begins.
 fn escaped(out: &mut [u8], n: usize, t: &[u8], i: usize, e: usize) -> Value
     requires { ⌜ (n + (e - i) < 2 ^ 31) × (i ≤ e) × (e ≤ length (now t)) × (length (now t) ≤ 1048576) × (plainEnd (now t) i e ≡ i) ⌝ }
     ensures { λ r. ⌜ Values (now (out .entry)) (now (out .exit)) n r (stringValue (quoted (slice i e (now (t .entry))))) ⌝ }
@@ -117,7 +117,7 @@ fn escaped(out: &mut [u8], n: usize, t: &[u8], i: usize, e: usize) -> Value
     Value::Upto(m)
 }
 
-// The value of a token's octets from a to e.
+// Reads the value of a token's octets from a to e.
 fn value(out: &mut [u8], n: usize, t: &[u8], a: usize, e: usize, quoted: bool) -> Value
     requires { ⌜ (n ≤ 2 ^ 30) × (a ≤ e) × (e ≤ length (now t)) × (length (now t) ≤ 1048576) ⌝ }
     ensures { λ r. ⌜ Values (now (out .entry)) (now (out .exit)) n r (stringValue (tokenOf quoted (slice a e (now (t .entry))))) ⌝ }
@@ -133,7 +133,7 @@ fn value(out: &mut [u8], n: usize, t: &[u8], a: usize, e: usize, quoted: bool) -
     Value::Fault
 }
 
-// The value of the token whose octets stand from a to e, quoted or bare, after its count.
+// Reads the value of the token whose octets stand from a to e, quoted or bare, and stores it after its count.
 pub fn string(out: &mut [u8], n: usize, t: &[u8], a: usize, e: usize, quoted: bool) -> Value
     requires { ⌜ (n < 2 ^ 30) × (a ≤ e) × (e ≤ length (now t)) × (length (now t) ≤ 1048576) ⌝ }
     ensures { λ r. ⌜ Values (now (out .entry)) (now (out .exit)) n r (readString (tokenOf quoted (slice a e (now (t .entry))))) ⌝ }
@@ -152,7 +152,7 @@ pub fn string(out: &mut [u8], n: usize, t: &[u8], a: usize, e: usize, quoted: bo
     }
 }
 
-// The same without a count: one octet at least.
+// The same without a count; the value must not be empty.
 pub fn raw(out: &mut [u8], n: usize, t: &[u8], a: usize, e: usize, quoted: bool) -> Value
     requires { ⌜ (n < 2 ^ 30) × (a ≤ e) × (e ≤ length (now t)) × (length (now t) ≤ 1048576) ⌝ }
     ensures { λ r. ⌜ Values (now (out .entry)) (now (out .exit)) n r (readRaw (tokenOf quoted (slice a e (now (t .entry))))) ⌝ }

@@ -1,4 +1,4 @@
--- Laws of days counted over months and years, and of a moment's text by its month and its day.
+-- Laws of days counted over months and years, and of a moment's text given its month and day.
 use Prim.Native.Nat.{ℕ, zero, suc, _+_, _*_, _-_, _/_, _%_, _≤_, _<_}
 use mathlib.Core.Path.{_≡_, refl, ap, _∙_}
 use mathlib.Core.Bool.{Bool, true, false, cond}
@@ -15,7 +15,7 @@ days-grow : (m k : ℕ) → daysBefore k ≤ daysBefore (m + k)
 days-grow zero k = let q : 0 + k ≡ k = omega arith in rw q (omega arith)
 days-grow (suc m) k = let q : suc m + k ≡ suc (m + k) = omega arith in rw q (omega (arith, days-grow m k))
 
--- m whole months are passed
+-- m whole months are skipped
 passed : (m n k d e : ℕ) → daysBefore k + d ≡ daysBefore (m + k) + e → dayFrom (m + n) k d ≡ dayFrom n (m + k) e
 passed zero n k d e h =
     let a : 0 + n ≡ n = omega arith in
@@ -29,7 +29,7 @@ passed (suc m) n k d e h =
     let i : daysBefore k + d ≡ daysBefore (m + suc k) + e = rw b at h in
     rw (a, b, le-ltb d (monthLength k) (omega arith)) (passed m n (suc k) (d - monthLength k) e (omega arith))
 
--- the month that has the day
+-- the month that a day lies in
 day-in : (f k d e : ℕ) → k < f → daysBefore k + e ≡ d → e < monthLength k → dayFrom f 0 d ≡ record { month = k; day = e }
 day-in f k d e l h i =
     let a : f ≡ k + suc (f - suc k) = omega arith in
@@ -75,7 +75,7 @@ year-after y = in-year y 12 (omega arith) ∙ ap (λ n. daysBefore (y * 12) + n)
 pub year-next : (y : ℕ) → daysBefore ((y + 1) * 12) ≡ daysBefore (y * 12) + yearDays (1970 + y)
 year-next y = let q : (y + 1) * 12 ≡ y * 12 + 12 = omega arith in ap daysBefore q ∙ year-after y
 
--- four years from 1970, 1974 and so on, to 2097
+-- the days of four years, starting with 1970, 1974 and so on, up to 2097
 abbrev fourYears : ℕ → ℕ
 fourYears y = yearDays (1970 + y) + yearDays (1970 + (y + 1)) + yearDays (1970 + (y + 1 + 1)) + yearDays (1970 + (y + 1 + 1 + 1))
 
@@ -96,7 +96,7 @@ cycle-days (suc c) h =
       year-next (c * 4 + 1 + 1 + 1),
     )
 
--- the months of a year one after another: b says whether it is a leap year, and n is how many days the month has
+-- the months of a year, one after another: b says whether it is a leap year, and n is how many days month m has
 module _ (y m n : ℕ) (b : Bool) (l : b ≡ leap (1970 + y)) (e : n ≡ monthDays b m) (h : m < 12) where
   pub month-here : monthLength (y * 12 + m) ≡ n
   month-here = month-at y m h ∙ rw (← l, e)

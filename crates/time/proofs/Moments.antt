@@ -28,7 +28,7 @@ use Rattle.time.specs.Years.{yearDays, daysIn}
 use Rattle.time.specs.Moments.{realDay, momentRead, secondsRead}
 use Rattle.time.proofs.Days.{in-year, year-next, month-at}
 
--- the days before a year: a day less after 2100
+-- the days before a year: one fewer after 2100
 abbrev late : ℕ → ℕ
 late y = cond (ltb 130 y) 1 0
 
@@ -47,7 +47,7 @@ year-early y h = omega (arith, rw (le-ltb 130 y h) at (year-days y (omega arith)
 pub year-late : (y : ℕ) → 130 < y → y ≤ 137 → y * 365 + (y + 1) / 4 - 1 ≡ daysBefore (y * 12)
 year-late y h k = omega (arith, rw (lt-ltb 130 y h) at (year-days y k))
 
--- and before a month of a year
+-- the days of a year before a month: fewer after February
 abbrev fewer : Bool → ℕ → ℕ
 fewer b m = cond (ltb m 2) 0 (cond b 1 2)
 
@@ -139,7 +139,7 @@ module _ (year month day hour minute second : ℕ) where
       → some v ≡ moment year month day hour minute second
   real-moment d v e f p q = sym (moment-parted ∙ rw (e, f, q, p))
 
--- the number of some digits among others
+-- the numbers of the first and of the last digits
 module _ (b : ℕ) where
   from-number : (a : ℕ) (ds : List ℕ) → numberFrom b a ds ≡ a * b ^ length ds + number b ds
   from-number a [] = rw (pow-zero b) (omega arith)
@@ -166,7 +166,7 @@ module _ (b : ℕ) where
     back-number : number b (drop n ds) ≡ number b ds % b ^ q
     back-number = sym (ap (λ (k : ℕ). k % b ^ q) in-parts ∙ mul-add-mod-self-right (number b (take n ds)) (b ^ q) (number b (drop n ds)) ∙ mod-eq-of-lt small)
 
-  -- and of the digits from p on, with q after them
+  -- the number of the n digits after the first p, with q after them
   mid-number : (ds : List ℕ) → Below b ds → (p n q : ℕ) → length ds ≡ p + n + q → number b (take n (drop p ds)) ≡ number b ds / b ^ q % b ^ n
   mid-number ds h p n q e =
       let r : p + n - p ≡ n = omega arith in
@@ -174,7 +174,7 @@ module _ (b : ℕ) where
       ap (λ (k : ℕ). number b (take k (drop p ds))) (sym r) ∙ ap (number b) (lent ds p (p + n) (omega arith))
       ∙ back-number (take (p + n) ds) (below-take b (p + n) ds h) p n l ∙ ap (λ (k : ℕ). k % b ^ n) (front-number ds h (p + n) q e)
 
--- the numbers of a moment's 14 digits, by those of its day and of its time
+-- the moment of 14 digits, given the number of its day and that of its time
 abbrev pub momentFrom : ℕ → ℕ → Option ℕ
 momentFrom d s = moment (d / 10000) (d / 100 % 100) (d % 100) (s / 10000) (s / 100 % 100) (s % 100)
 
@@ -204,7 +204,7 @@ module _ (ds : List ℕ) (h : Below 10 ds) (e : length ds ≡ 14) where
       let d : digitsAt 12 2 ds ≡ number 10 (drop 8 ds) % 100 = omega (arith, time-digits 4 2 0 refl) in
       same-moment a (day-digits 4 2 2 refl) b c (time-digits 2 2 2 refl) d
 
--- digits that are read: as many, each below 10
+-- digits that are read are as many as the octets, each below 10
 digit-small : (x d : ℕ) → digitValue 10 x ≡ some d → d < 10
 digit-small x d e = by (digit x) (letter x) e
   where
@@ -226,7 +226,7 @@ digits-read (x ∷ xs) ds e = by (digitValue 10 x) refl (eachOf (digitValue 10) 
     by (some d) a none b k ih = let z : _≡_ {A = ℕ} 0 1 = cc in absurd (omega arith)
     by (some d) a (some es) b k ih = let q : d ∷ es ≡ ds = cc in let (l, m) = ih es b in rw (← q) (ap suc l, (digit-small x d a, m))
 
--- a partial function at each of two parts
+-- a partial function applied to each of two parts
 each-parts : (f : ℕ → Option ℕ) (xs ys : List ℕ) → eachOf f (xs ++ ys) ≡ (eachOf f xs >>= λ us. eachOf f ys >>= λ vs. some (us ++ vs))
 each-parts f [] ys = by (eachOf f ys)
   where
@@ -241,7 +241,7 @@ each-parts f (x ∷ xs) ys = rw (each-parts f xs ys) (by (f x) (eachOf f xs) (ea
     by (some y) (some us) none = refl
     by (some y) (some us) (some vs) = refl
 
--- the moment of 14 digits, by the numbers of the first eight and of the others
+-- the moment of 14 digits, from the numbers of the first eight and of the others
 decimal-digits : (xs : List ℕ) → 1 ≤ length xs → length xs ≤ 10 → decimalOf xs ≡ (eachOf (digitValue 10) xs >>= λ ds. some (number 10 ds))
 decimal-digits xs h k = rw (le-leb 1 (length xs) h, le-leb (length xs) 10 k)
 
@@ -305,6 +305,6 @@ module _ (t : List ℕ) (i e : ℕ) (h : e ≡ i + 14) (l : e ≤ length t) wher
 pub seconds-other : (t : List ℕ) (i e : ℕ) → e ≤ length t → (e - i ≡ 14 → ⊥) → decimalOf (slice i e t) ≡ cond (eqb (length (slice i e t)) 14) (momentRead (slice i e t)) (decimalOf (slice i e t))
 seconds-other t i e l h = rw (ne-eqb (length (slice i e t)) 14 (λ q. h (omega (arith, length-slice i e t l))))
 
--- four octets of the seconds
+-- the seconds in four octets
 pub time-octets : (t : List ℕ) (v : Number) → v ≡ numberOf (secondsRead t) → octetsOf 4 v ≡ readTime t
 time-octets t v q = rw q (octets-of 4 (secondsRead t))

@@ -7,7 +7,7 @@ use Rattle.format.specs.Time.{leap, monthDays}
 abbrev pub yearDays : ℕ → ℕ
 yearDays y = cond (leap y) 366 365
 
--- how many of them lie before month m, if the year has 29 February and if not
+-- how many days of a year come before month m, if it is a leap year and if not
 abbrev pub daysIn : Bool → ℕ → ℕ
 daysIn b zero = 0
 daysIn b (suc m) = daysIn b m + monthDays b m

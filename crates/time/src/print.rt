@@ -1,4 +1,4 @@
-// Seconds since 1970-01-01 as a moment of the Gregorian calendar. Months and days are counted from 0.
+// Prints seconds since 1970-01-01 as a moment in the Gregorian calendar. Months and days are counted from 0.
 ghost use Prim.Native.Nat.{_+_, _*_, _/_, _^_, _<_, _≤_, min};
 ghost use mathlib.Core.Path.{_≡_};
 ghost use lib.ListN.{length};
@@ -11,7 +11,7 @@ ghost use Rattle.time.specs.Years.{yearDays};
 use digits::put_fixed;
 use octets::integer::number;
 
-// Whether a year has 29 February.
+// Whether a year is a leap year.
 pub fn leap(y: u64) -> bool
     ensures { λ r. ⌜ r ≡ Time.leap y ⌝ }
 {
@@ -62,7 +62,7 @@ fn year_days(y: u64) -> u64
     365
 }
 
-// How many cycles of four years and 1,461 days end by day d, 32 at most: the next has 2100, which is no leap year.
+// How many cycles of four years, 1,461 days each, end by day d; at most 32, since the next has 2100, which is no leap year.
 fn cycles(d: u64) -> u64
     ensures { λ r. ⌜ r ≡ min (d / 1461) 32 ⌝ }
 {
@@ -72,13 +72,13 @@ fn cycles(d: u64) -> u64
     32
 }
 
-// A year, counted from 1970, and a day of it.
+// A year, counted from 1970, and a day of that year.
 struct YearDay {
     year: u64,
     day: u64,
 }
 
-// The year of day d, and the day's number in it. The last day, of 2^32 - 1 seconds, is 49,710.
+// The year of day d, and the day's number in that year. The last day, that of 2^32 - 1 seconds, is 49,710.
 fn year_of(d: u64) -> YearDay
     requires { ⌜ d ≤ 49710 ⌝ }
     ensures { λ r. ⌜ (daysBefore (r .year * 12) + r .day ≡ d) × (d < daysBefore (r .year * 12 + 12)) × (r .year < 137) ⌝ }
@@ -95,13 +95,13 @@ fn year_of(d: u64) -> YearDay
     YearDay { year: y, day: left }
 }
 
-// A month, counted from January 1970, and a day of it.
+// A month, counted from January 1970, and a day of that month.
 struct Day {
     month: u64,
     day: u64,
 }
 
-// The month and the day of day d, counted from 1970-01-01; the last is 49,710, that of 2^32 - 1 seconds.
+// The month of day d, counted from 1970-01-01, and the day's number in that month. The last day is 49,710, as in `year_of`.
 fn day_of(d: u64) -> Day
     requires { ⌜ d ≤ 49710 ⌝ }
     ensures { λ r. ⌜ (r .month ≡ dayOf d .month) × (r .day ≡ dayOf d .day) × (r .month < 1644) × (r .day < 31) ⌝ }
@@ -123,7 +123,7 @@ fn day_of(d: u64) -> Day
     }
 }
 
-// A day and the seconds of the day as 14 digits.
+// Writes a day and the seconds of that day as 14 digits.
 fn moment(out: &mut [u8], n: usize, month: u64, day: u64, s: u64) -> usize
     requires { ⌜ (n < 2 ^ 30) × (day < 31) ⌝ }
     ensures { λ r. ⌜ Wrote (now (out .entry)) (now (out .exit)) n r (momentText (record { month = month; day = day }) s) ⌝ }
@@ -136,7 +136,7 @@ fn moment(out: &mut [u8], n: usize, month: u64, day: u64, s: u64) -> usize
     put_fixed(out, e, 2, s % 60)
 }
 
-// A time that is four octets.
+// Writes the time in the four octets from i to e.
 pub fn field(out: &mut [u8], n: usize, p: &[u8], i: usize, e: usize) -> usize
     requires { ⌜ (n < 2 ^ 30) × (e ≡ i + 4) × (e ≤ length (now p)) ⌝ }
     ensures { λ r. ⌜ Wrote (now (out .entry)) (now (out .exit)) n r (timeText (Digits.number 256 (slice i e (now (p .entry))))) ⌝ }

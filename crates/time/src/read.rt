@@ -1,4 +1,4 @@
-// Times read from text: 14 digits of a moment, or seconds in decimal.
+// Reads times: the 14 digits of a moment, or seconds in decimal.
 ghost use Prim.Native.Nat.{_+_, _*_, _-_, _^_, _<_, _≤_};
 ghost use mathlib.Core.Bool.{_&&_};
 ghost use mathlib.Core.Path.{_≡_};
@@ -19,7 +19,7 @@ use number::read::in_range;
 use number::read::value;
 use octets::Number;
 
-// The days from 1970 to a year that is counted from there: every fourth has a day more, but 2100.
+// The days from 1970 to year y, counted from 1970: every fourth year has one day more, except 2100.
 fn year_start(y: u64) -> u64
     requires { ⌜ y < 137 ⌝ }
     ensures { λ r. ⌜ (r ≡ daysBefore (y * 12)) × (r < 50000) ⌝ }
@@ -31,7 +31,7 @@ fn year_start(y: u64) -> u64
     d
 }
 
-// The days of a year before month m: 30 each, one more for those that have 31, and fewer after February.
+// The days of a year before month m: 30 for each month, one more for those that have 31, and one or two fewer after February.
 fn month_start(leap: bool, m: u64) -> u64
     requires { ⌜ m < 12 ⌝ }
     ensures { λ r. ⌜ (r ≡ daysIn leap m) × (r < 366) ⌝ }
@@ -54,7 +54,7 @@ fn days_before(year: u64, month: u64) -> u64
     year_start(year - 1970) + month_start(leap(year), month - 1)
 }
 
-// Whether a day is of the calendar, from 1970 to 2106.
+// Whether a day is in the calendar, from 1970 to 2106.
 fn real_day(year: u64, month: u64, day: u64) -> bool
     ensures { λ r. ⌜ r ≡ realDay year month day ⌝ }
 {
@@ -77,7 +77,7 @@ fn real_day(year: u64, month: u64, day: u64) -> bool
     day <= days
 }
 
-// Whether there is such a time of a day.
+// Whether there is such a time of day.
 fn real_time(hour: u64, minute: u64, second: u64) -> bool
     ensures { λ r. ⌜ r ≡ (leb hour 23 && leb minute 59 && leb second 59) ⌝ }
 {
@@ -90,7 +90,7 @@ fn real_time(hour: u64, minute: u64, second: u64) -> bool
     second <= 59
 }
 
-// The seconds to a time of day, some days after 1970-01-01.
+// The seconds from 1970-01-01 to a time of day, a number of days later.
 fn seconds_to(days: u64, hour: u64, minute: u64, second: u64) -> u64
     requires { ⌜ (days < 52000) × (hour ≤ 23) × (minute ≤ 59) × (second ≤ 59) ⌝ }
     ensures { λ r. ⌜ r ≡ days * 86400 + hour * 3600 + minute * 60 + second ⌝ }
@@ -98,7 +98,7 @@ fn seconds_to(days: u64, hour: u64, minute: u64, second: u64) -> u64
     days * 86400 + hour * 3600 + minute * 60 + second
 }
 
-// The seconds to a moment, if it is real.
+// The seconds to a moment, or a fault if it is not a real one.
 fn moment(year: u64, month: u64, day: u64, hour: u64, minute: u64, second: u64) -> Number
     ensures { λ r. ⌜ r ≡ numberOf (Time.moment year month day hour minute second) ⌝ }
 {
@@ -113,7 +113,7 @@ fn moment(year: u64, month: u64, day: u64, hour: u64, minute: u64, second: u64) 
     Number::Value(v)
 }
 
-// The seconds to the moment whose 14 digits stand from i on: those of the day, YYYYMMDD, and those of its time, HHmmSS.
+// The seconds to the moment whose 14 digits stand at i: those of the day, YYYYMMDD, and those of its time, HHmmSS.
 fn moment_at(t: &[u8], i: usize, e: usize) -> Number
     requires { ⌜ (e ≡ i + 14) × (e ≤ length (now t)) ⌝ }
     ensures { λ r. ⌜ r ≡ numberOf (momentRead (slice i e (now (t .entry)))) ⌝ }
@@ -136,7 +136,7 @@ fn moment_at(t: &[u8], i: usize, e: usize) -> Number
     }
 }
 
-// The seconds that the text from i to e says.
+// The seconds that the text from i to e gives.
 fn seconds(t: &[u8], i: usize, e: usize) -> Number
     requires { ⌜ (i ≤ e) × (e ≤ length (now t)) ⌝ }
     ensures { λ r. ⌜ r ≡ numberOf (secondsRead (slice i e (now (t .entry)))) ⌝ }
@@ -148,7 +148,7 @@ fn seconds(t: &[u8], i: usize, e: usize) -> Number
     decimal_below(4294967296, t, i, e)
 }
 
-// A time in four octets.
+// Reads a time into four octets.
 pub fn field(out: &mut [u8], n: usize, t: &[u8], i: usize, e: usize) -> Value
     requires { ⌜ (n < 2 ^ 30) × (i ≤ e) × (e ≤ length (now t)) ⌝ }
     ensures { λ r. ⌜ Values (now (out .entry)) (now (out .exit)) n r (readTime (slice i e (now (t .entry)))) ⌝ }

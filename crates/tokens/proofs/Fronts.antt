@@ -12,7 +12,7 @@ use Rattle.octets.proofs.Blocks.{slice-append}
 use Rattle.octets.specs.Octets.{frontEnd}
 
 module _ (f : ℕ → Bool) where
-  -- a front that ends in the first part, and one that is all of it
+  -- a front that ends in the first part, and one that is all of it and goes on
   span-part : (xs ys : List ℕ) → length (span f xs .front) < length xs → length (span f (xs ++ ys) .front) ≡ length (span f xs .front)
   span-part [] ys h = absurd (omega arith)
   span-part (x ∷ xs) ys h = by (f x) h (span-part xs ys)

@@ -1,4 +1,4 @@
--- A scan inside a token, over the octets that the code passes and where it stops.
+-- A scan inside a token: over the octets that the code passes, and where it stops.
 use Prim.Native.Nat.{ℕ, zero, suc, _+_, _-_, _≤_, _<_}
 use mathlib.Core.Path.{_≡_, refl, sym, ap, subst, _∙_}
 use mathlib.Core.Bool.{Bool, true, false, not, cond, _&&_}
@@ -76,7 +76,7 @@ span-stopped f (x ∷ xs) = by (f x) refl (span-stopped f xs)
     by true e ih = ih
     by false e ih = e
 
--- after a backslash
+-- the scan after a backslash
 abbrev slashed : ℕ → Scan
 slashed zero = inBare true
 slashed (suc q) = inQuotes (suc q) true
@@ -100,7 +100,7 @@ slash-broken zero [] h e = refl
 slash-broken (suc q) [] h e = rw (slash-step (suc q) h)
 slash-broken q (y ∷ ys) h e = rw (slash-step q h, slashed-step q y, e)
 
--- where the scan comes to when the octets from a to j are kept
+-- the scan from a on keeps the octets from a to j and goes on from j
 pub record Kept (t : List ℕ) (q a j : ℕ) : Type 0 where
   pub after : a ≤ j
   pub within : j ≤ length t
@@ -154,7 +154,7 @@ kept-escape t q a j k h e =
     let two : slice j (j + 2) t ≡ getD t j 0 ∷ getD t (j + 1) 0 ∷ [] = sym (lent t j (j + 2) (omega arith)) ∙ (let n : j + 2 - j ≡ 2 = omega arith in rw (n, next-two t j l)) in
     kept-more t q a j (j + 2) k (omega arith) l (rw (two, next-two t j l, x) (escape-scanned q (getD t (j + 1) 0) (drop (j + 2) t) h (and-right (eqb (getD t j 0) 92) (textOctet (getD t (j + 1) 0)) f)))
 
--- the tokens from where the scan stops
+-- the tokens from the octet at which the code stops
 abbrev leftAt : ℕ → List ℕ → List Token
 leftAt zero xs = cond (partedOff xs) (bare [] ∷ tokens xs) (broken ∷ [])
 leftAt (suc q) xs = cond (closes (suc q) xs) (quoted [] ∷ tokens (drop 1 xs)) (broken ∷ [])
@@ -209,7 +209,7 @@ left q (x ∷ xs) h s e = by (eqb x 92) refl
     by true n = let y : x ≡ 92 = eqb-true x 92 n in rw y (slash-broken q xs h (subst (λ z. escapes (z ∷ xs) ≡ false) y e) ∙ sym (left-slash q xs h))
     by false n = other q s n
 
--- the token that ends there
+-- the octets that were kept, before those tokens, are the token that ends there and those after it
 onto-left : (t : List ℕ) (q a j : ℕ) → tokensBy t (endedAt t a q j) ≡ ontoAll (slice a j t) (leftAt q (drop j t))
 onto-left t zero a j = by (partedOff (drop j t))
   where

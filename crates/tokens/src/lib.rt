@@ -9,8 +9,8 @@ ghost use Rattle.format.specs.Token.{textOctet, scanned, tokens};
 ghost use Rattle.tokens.specs.Tokens.{tokensBy, Within, inside, standing, frontEnd, blockAt, escapes, partedOff, closes, endedAt, From};
 use octets::Class;
 
-// The next token: none is left; a bare one from a to e; a quoted one whose octets stand from a to e, between the quotes; or
-// one with a fault inside.
+// The next token: none is left; a bare one from a to e; a quoted one, whose octets between the quotes stand from a to e; or one
+// with a fault inside.
 pub enum Next {
     End,
     Bare(usize, usize),
@@ -18,7 +18,7 @@ pub enum Next {
     Broken,
 }
 
-// Tab and 20 to 7E hex.
+// Whether an octet may stand in a text: tab and 20 to 7E hex.
 fn is_text(b: u8) -> bool
     ensures { λ r. ⌜ r ≡ textOctet b ⌝ }
 {
@@ -31,7 +31,7 @@ fn is_text(b: u8) -> bool
     b <= b'~'
 }
 
-// lo to hi
+// Whether an octet lies from lo to hi.
 fn is_between(lo: u8, hi: u8, b: u8) -> bool
     ensures { λ r. ⌜ r ≡ inRange lo hi b ⌝ }
 {
@@ -41,8 +41,8 @@ fn is_between(lo: u8, hi: u8, b: u8) -> bool
     b <= hi
 }
 
-// Whether an octet stands for itself in a bare token. Tests for equality in a row would be compiled to the test of a bit
-// behind a branch that letters take either way, which is slow: so other tests stand between them.
+// Whether an octet stands for itself in a bare token. Tests for equality in a row would be compiled to a bit test behind a
+// branch that letters take either way, which is slow: so other tests stand between them.
 fn stands_bare(b: u8) -> bool
     ensures { λ r. ⌜ r ≡ standing 0 b ⌝ }
 {
@@ -64,7 +64,7 @@ fn stands_bare(b: u8) -> bool
     !is_between(b'\'', b')', b)
 }
 
-// The same in a token that q quotes, or in a bare one where q is 0.
+// The same in a token quoted by q, or in a bare one if q is 0.
 fn stands(q: u8, b: u8) -> bool
     ensures { λ r. ⌜ r ≡ standing q b ⌝ }
 {
@@ -83,7 +83,7 @@ fn stands(q: u8, b: u8) -> bool
     b != b'\\'
 }
 
-// The end of the octets from i on and before e that stand for themselves.
+// The end of the run of octets from i on, not past e, that stand for themselves.
 fn skip_to(t: &[u8], i: usize, e: usize, q: u8) -> usize
     requires { ⌜ (i ≤ e) × (e ≤ length (now t)) ⌝ }
     ensures { λ r. ⌜ r ≡ frontEnd q (now (t .entry)) i e ⌝ }
@@ -99,7 +99,7 @@ fn skip_to(t: &[u8], i: usize, e: usize, q: u8) -> usize
     j
 }
 
-// Whether 64 octets from i on stand for themselves: no way out of the loop, so that many are tested at once.
+// Whether the 64 octets from i on stand for themselves. The loop has no early exit, so that many are tested at once.
 fn all_stand(t: &[u8], i: usize, q: u8) -> bool
     requires { ⌜ i + 64 ≤ length (now t) ⌝ }
     ensures { λ r. ⌜ r ≡ allOf (standing q) (slice i (i + 64) (now (t .entry))) ⌝ }
@@ -113,7 +113,7 @@ fn all_stand(t: &[u8], i: usize, q: u8) -> bool
     all
 }
 
-// Whether 64 octets are left from i on, and all of them stand for themselves.
+// Whether at least 64 octets are left from i on and the first 64 stand for themselves.
 fn block_at(t: &[u8], i: usize, q: u8) -> bool
     requires { ⌜ i ≤ length (now t) ⌝ }
     ensures { λ r. ⌜ r ≡ blockAt q (now (t .entry)) i ⌝ }
@@ -124,7 +124,7 @@ fn block_at(t: &[u8], i: usize, q: u8) -> bool
     all_stand(t, i, q)
 }
 
-// The end of the octets from i on that stand for themselves, where they are many.
+// The end of the run of octets from i on that stand for themselves, found quickly if the run is long.
 fn skip_long(t: &[u8], i: usize, q: u8) -> usize
     requires { ⌜ i ≤ length (now t) ⌝ }
     ensures { λ r. ⌜ r ≡ frontEnd q (now (t .entry)) i (length (now (t .entry))) ⌝ }
@@ -136,7 +136,7 @@ fn skip_long(t: &[u8], i: usize, q: u8) -> usize
     skip_to(t, j, t.len(), q)
 }
 
-// 32 octets on, or the end.
+// The place 32 octets after i, or the end of the text.
 fn near(t: &[u8], i: usize) -> usize
     requires { ⌜ i ≤ length (now t) ⌝ }
     ensures { λ r. ⌜ (i ≤ r) × (r ≤ length (now (t .entry))) ⌝ }
@@ -147,7 +147,7 @@ fn near(t: &[u8], i: usize) -> usize
     i + 32
 }
 
-// The end of the octets from i on that stand for themselves.
+// The end of the run of octets from i on that stand for themselves.
 fn skip(t: &[u8], i: usize, q: u8) -> usize
     requires { ⌜ i ≤ length (now t) ⌝ }
     ensures { λ r. ⌜ r ≡ frontEnd q (now (t .entry)) i (length (now (t .entry))) ⌝ }
@@ -160,7 +160,7 @@ fn skip(t: &[u8], i: usize, q: u8) -> usize
     skip_long(t, e, q)
 }
 
-// Whether a backslash stands at j with an octet that it takes.
+// Whether a backslash stands at j, before an octet that it takes into the token.
 fn escape_at(t: &[u8], j: usize) -> bool
     requires { ⌜ j ≤ length (now t) ⌝ }
     ensures { λ r. ⌜ r ≡ escapes (drop j (now (t .entry))) ⌝ }
@@ -184,7 +184,7 @@ pub fn parted_at(t: &[u8], j: usize) -> bool
     octets::is_in(Class::Blank, t[j])
 }
 
-// Whether the quote q at j closes a token.
+// Whether the quote q stands at j and closes the token.
 fn closes_at(t: &[u8], j: usize, q: u8) -> bool
     ensures { λ r. ⌜ r ≡ closes q (drop j (now (t .entry))) ⌝ }
 {
@@ -197,7 +197,7 @@ fn closes_at(t: &[u8], j: usize, q: u8) -> bool
     parted_at(t, j + 1)
 }
 
-// The token whose octets stand from a to j, if it ends there.
+// The token whose octets stand from a to j, if it properly ends there, else a broken one.
 fn ended(t: &[u8], a: usize, j: usize, q: u8) -> Next
     ensures { λ r. ⌜ r ≡ endedAt (now (t .entry)) a q j ⌝ }
 {
@@ -213,7 +213,7 @@ fn ended(t: &[u8], a: usize, j: usize, q: u8) -> Next
     Next::Broken
 }
 
-// The token from its first octet on, after the quote where q is one.
+// The token whose octets start at a: after the quote q, or bare if q is 0.
 fn token(t: &[u8], a: usize, q: u8) -> Next
     requires { ⌜ (a ≤ length (now t)) × (q < 92) ⌝ }
     ensures { λ r. ⌜ (tokensBy (now (t .entry)) r ≡ scanned (inside q) (drop a (now (t .entry)))) × From (now (t .entry)) q a r ⌝ }

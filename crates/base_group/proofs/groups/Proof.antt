@@ -11,6 +11,8 @@ use Rattle.base_group.proofs.groups.Lts as lts
 use Rattle.base_group.proofs.put_group.Reads as put-group-reads
 use Rattle.base_group.proofs.take_digits.Reads as take-digits-reads
 
+-- The whole groups before j are stored up to m, and q digits that make v are left: the stored octets, and those of
+-- these and any further digits, are the octets of all the digits from i on.
 abbrev Inv-loop : tie.InvT-loop
 Inv-loop out₀ n t i e a skip w base k g m₀ j₀ q₀ v₀ out m j q v = Begun out₀ out n a skip w base t i e k j m q v
 

@@ -12,6 +12,7 @@ use Rattle.base_group.proofs.kept_from.Reads as reads
 use Rattle.base_group.proofs.kept_from.Lts as lts
 use Rattle.base_group.proofs.number_of.Reads as number-of-reads
 
+-- The octets from i to j are left out: the first place kept from j on is the first one kept from i on.
 abbrev Inv-loop : tie.InvT-loop
 Inv-loop t i e a skip j₀ j = (i ≤ j) × (j ≤ e) × (keptFrom a skip t j e ≡ keptFrom a skip t i e)
 

@@ -8,6 +8,7 @@ use Rattle.base_group.proofs.next_digits.Reads as reads
 use Rattle.base_group.proofs.next_digits.Lts as lts
 use Rattle.base_group.proofs.number_of.Reads as number-of-reads
 
+-- The q octets from i on are digits, and make v.
 abbrev Inv-loop : tie.InvT-loop
 Inv-loop t i a base k v₀ q₀ v q = (q ≤ k) × ((skip : ℕ) → base ≤ skip → Taking a skip base t (i + q) i q v (i + q))
 

@@ -8,6 +8,7 @@ use Rattle.base_group.proofs.power.Tie as tie
 use Rattle.base_group.proofs.power.Reads as reads
 use Rattle.base_group.proofs.power.Lts as lts
 
+-- p is 2 to the power k.
 abbrev Inv-loop : tie.InvT-loop
 Inv-loop z p₀ k₀ p k = (k ≤ z) × (p ≡ 2 ^ k)
 

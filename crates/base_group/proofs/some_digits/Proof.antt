@@ -10,6 +10,7 @@ use Rattle.base_group.proofs.some_digits.Lts as lts
 use Rattle.base_group.proofs.kept_from.Reads as kept-from-reads
 use Rattle.base_group.proofs.number_of.Reads as number-of-reads
 
+-- From i to j there are q digits, which make v; the octet at j, if there is one, is not left out.
 abbrev Inv-loop : tie.InvT-loop
 Inv-loop t i e a skip base k v₀ q₀ j₀ v q j = (q ≤ k) × Taking a skip base t e i q v j
 

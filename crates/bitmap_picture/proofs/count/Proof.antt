@@ -9,6 +9,7 @@ use borrow.Author.Needs.{needs}
 use Rattle.bitmap_picture.proofs.count.Statement.{statement}
 use Rattle.bitmap_picture.proofs.count.Tie as tie
 
+-- The octets from n on are zero: the first n, without their last zeros, are the whole window without its last zeros.
 abbrev Inv-loop : tie.InvT-loop
 Inv-loop r n₀ n = (n ≤ length r) × (withoutLastZeros (take n r) ≡ withoutLastZeros r)
 

@@ -13,6 +13,7 @@ use Rattle.bitmap_picture.proofs.is_empty.Tie as tie
 use Rattle.bitmap_picture.proofs.is_empty.Reads as reads
 use Rattle.bitmap_picture.proofs.is_empty.Lts as lts
 
+-- All octets are zero exactly if `all` holds and the octets from k on are zero.
 abbrev Inv-loop : tie.InvT-loop
 Inv-loop r all₀ k₀ all k = (k ≤ length r) × (all && allOf zeroOctet (slice k (length r) r) ≡ allOf zeroOctet (slice 0 (length r) r))
 

@@ -11,6 +11,7 @@ use borrow.Author.Needs.{needs}
 use Rattle.bitmap_picture.proofs.put_blocks.Statement.{statement}
 use Rattle.bitmap_picture.proofs.put_blocks.Tie as tie
 
+-- The blocks of the windows before w are written; writing those of the others from k on would give all blocks.
 abbrev Inv-loop : tie.InvT-loop
 Inv-loop out₀ n m top k₀ w₀ out k w =
     (k ≤ n + 34 * w) × (length out ≡ length out₀)

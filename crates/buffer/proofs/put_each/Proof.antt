@@ -6,6 +6,7 @@ use borrow.Author.Needs.{needs}
 use Rattle.buffer.proofs.put_each.Statement.{statement}
 use Rattle.buffer.proofs.put_each.Tie as tie
 
+-- The first i octets of s are written; writing the rest from m on would give the whole list.
 abbrev Inv-loop : tie.InvT-loop
 Inv-loop out₀ n s m₀ i₀ out m i = (i ≤ length s) × (m ≡ n + i) × Left out₀ n s out m (drop i s)
 

@@ -9,6 +9,7 @@ use Rattle.buffer.proofs.store_all.Tie as tie
 use Rattle.buffer.proofs.store_all.Reads as reads
 use Rattle.buffer.proofs.store_all.Lts as lts
 
+-- The first i octets of s are stored; writing the rest from n + i on would give the whole list.
 abbrev Inv-loop : tie.InvT-loop
 Inv-loop out₀ n s i₀ out i = (i ≤ length s) × Left out₀ n s out (n + i) (drop i s)
 

@@ -8,6 +8,7 @@ use borrow.Author.Needs.{needs}
 use Rattle.digits.proofs.put_fixed.Statement.{statement}
 use Rattle.digits.proofs.put_fixed.Tie as tie
 
+-- The last w - k digits are stored; writing x at n in the k digits before them would give the whole number.
 abbrev Inv-loop : tie.InvT-loop
 Inv-loop out₀ n w v k₀ x₀ out k x = (k ≤ w) × (sets out n (fixedDecimal k x) ≡ sets out₀ n (fixedDecimal w v)) × (length out ≡ length out₀)
 

@@ -8,6 +8,7 @@ use borrow.Author.Needs.{needs}
 use Rattle.digits.proofs.put_octets.Statement.{statement}
 use Rattle.digits.proofs.put_octets.Tie as tie
 
+-- The last w - k octets are stored; writing x at n in the k octets before them would give the whole number.
 abbrev Inv-loop : tie.InvT-loop
 Inv-loop out₀ n w v k₀ x₀ out k x = (k ≤ w) × (sets out n (digits 256 k x) ≡ sets out₀ n (digits 256 w v)) × (length out ≡ length out₀)
 

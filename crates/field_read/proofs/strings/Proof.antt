@@ -11,6 +11,7 @@ use Rattle.field_read.proofs.strings.Reads as reads
 use Rattle.field_read.proofs.strings.Lts as lts
 use Rattle.field_read.proofs.string.Reads as string-reads
 
+-- The strings of the tokens before j stand from n to m; they, and the strings read from j on, are all the strings.
 abbrev Inv-loop : tie.InvT-loop
 Inv-loop out₀ n t i m₀ j₀ out m j =
     (n ≤ m) × (i ≤ j) × (j ≤ length t) × (m ≤ n + 256 * (j - i)) × Before out₀ out n m (tokens (drop i t)) (tokens (drop j t))

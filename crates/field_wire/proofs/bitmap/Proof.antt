@@ -12,6 +12,7 @@ use Rattle.field_wire.proofs.bitmap.Tie as tie
 use Rattle.field_wire.proofs.bitmap.Reads as reads
 use Rattle.field_wire.proofs.bitmap.Lts as lts
 
+-- The field takes the octets from i to j, and then what blocks with windows of at least lo take from j on.
 abbrev Inv-loop : tie.InvT-loop
 Inv-loop s i e lo₀ j₀ lo j =
     (i ≤ j) × (j ≤ e) × (lo ≤ 256) × (taken (window 0) (slice i e s) ≡ plus (j - i) (taken (window lo) (slice j e s)))

@@ -11,6 +11,7 @@ use Rattle.field_wire.proofs.name.Tie as tie
 use Rattle.field_wire.proofs.name.Reads as reads
 use Rattle.field_wire.proofs.name.Lts as lts
 
+-- The name takes the labels from i to j, and then what the rest of a name, after these octets, takes from j on.
 abbrev Inv-loop : tie.InvT-loop
 Inv-loop s i e optional j₀ j =
     (i ≤ j) × (j ≤ e) × (j - i ≤ 255)

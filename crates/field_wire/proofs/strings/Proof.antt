@@ -11,6 +11,7 @@ use Rattle.field_wire.proofs.strings.Tie as tie
 use Rattle.field_wire.proofs.strings.Reads as reads
 use Rattle.field_wire.proofs.strings.Lts as lts
 
+-- The field takes the strings from i to j, and then what more strings, or none, take from j on.
 abbrev Inv-loop : tie.InvT-loop
 Inv-loop s i e j₀ j = (i ≤ j) × (j ≤ e) × (taken (stringCount false) (slice i e s) ≡ plus (j - i) (taken (stringCount true) (slice j e s)))
 

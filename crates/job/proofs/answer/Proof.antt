@@ -5,6 +5,7 @@ use borrow.Author.Needs.{needs}
 use Rattle.job.proofs.answer.Statement.{statement}
 use Rattle.job.proofs.answer.Tie as tie
 
+-- Nothing is claimed here of what is written, only that the loop ends: each turn leaves fewer turns.
 abbrev Inv-loop : tie.InvT-loop
 Inv-loop j out₀ job at₀ more₀ out at more = Unit {0}
 

@@ -14,6 +14,7 @@ use Rattle.job_turns.proofs.put_lines.Lts as lts
 use Rattle.job_form.proofs.lines.line_end.Reads as line-end-reads
 use Rattle.job_record.proofs.put_record.Reads as put-record-reads
 
+-- The lines of the records before m are written; they, and the lines of those from m on, are what is left at `at`.
 abbrev Inv-loop : tie.InvT-loop
 Inv-loop out₀ j at rdata₀ origin codes outline from to end m₀ n₀ out rdata m n =
     Reached (lineUnder (slice from to j) (take end origin)) j at out₀ out m n

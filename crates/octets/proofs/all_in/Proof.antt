@@ -10,6 +10,7 @@ use borrow.Author.Needs.{needs}
 use Rattle.octets.proofs.all_in.Statement.{statement}
 use Rattle.octets.proofs.all_in.Tie as tie
 
+-- All n octets are in the class exactly if `all` holds and the octets from i + k on are in it.
 abbrev Inv-loop : tie.InvT-loop
 Inv-loop s i n c all₀ k₀ all k = (k ≤ n) × (all && allOf (inClass c) (slice (i + k) (i + n) s) ≡ allOf (inClass c) (slice i (i + n) s))
 

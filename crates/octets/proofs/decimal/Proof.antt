@@ -12,6 +12,7 @@ use Rattle.octets.proofs.decimal.Tie as tie
 use Rattle.octets.proofs.decimal.Reads as reads
 use Rattle.octets.proofs.decimal.Lts as lts
 
+-- The digits before j make v; going on with the octets from j to e gives the number of the whole part, or none.
 abbrev Inv-loop : tie.InvT-loop
 Inv-loop s i e v₀ j₀ v j = (i ≤ j) × (j ≤ e) × (v < 10 ^ (j - i)) × (valueFrom v (slice j e s) ≡ valueFrom 0 (slice i e s))
 

@@ -11,6 +11,7 @@ use borrow.Author.Needs.{needs}
 use Rattle.octets.proofs.line_end.Statement.{statement}
 use Rattle.octets.proofs.line_end.Tie as tie
 
+-- No LF stands from i to j: the line that j is in ends where that of i does.
 abbrev Inv-loop : tie.InvT-loop
 Inv-loop s i j₀ j = (j ≤ length s) × (lineEnd s j ≡ lineEnd s i)
 

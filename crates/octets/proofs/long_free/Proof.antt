@@ -12,6 +12,7 @@ use borrow.Author.Needs.{needs}
 use Rattle.octets.proofs.long_free.Statement.{statement}
 use Rattle.octets.proofs.long_free.Tie as tie
 
+-- The octets from i to j are all free text.
 abbrev Inv-loop : tie.InvT-loop
 Inv-loop s i e j₀ j = (i ≤ j) × (j ≤ e) × (allOf (inClass FreeText) (slice i j s) ≡ true)
 

@@ -9,6 +9,7 @@ use Rattle.octets.proofs.skip.Reads as reads
 use Rattle.octets.proofs.skip.Lts as lts
 use Rattle.octets.proofs.is_in.Reads as is-in-reads
 
+-- The octets from i to j are in the class: the run from j on ends where the run from i does.
 abbrev Inv-loop : tie.InvT-loop
 Inv-loop s i e c j₀ j = (i ≤ j) × (j ≤ e) × (frontEnd (inClass c) s j e ≡ frontEnd (inClass c) s i e)
 

@@ -4,6 +4,7 @@ use borrow.Author.Needs.{needs}
 use Rattle.probe.proofs.answer_lines.Statement.{statement}
 use Rattle.probe.proofs.answer_lines.Tie as tie
 
+-- The next line, from start to end, lies in the buffer; nothing is claimed of what is written.
 abbrev Inv-loop : tie.InvT-loop
 Inv-loop buf kept octets₀ text₀ out₀ start₀ end₀ octets text out start end = (start ≤ end) × (end ≤ length buf)
 

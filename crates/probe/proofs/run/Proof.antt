@@ -3,6 +3,7 @@ use borrow.Author.Needs.{needs}
 use Rattle.probe.proofs.run.Statement.{statement}
 use Rattle.probe.proofs.run.Tie as tie
 
+-- At most one octet more than the longest request is kept; nothing is claimed of what is written.
 abbrev Inv-loop : tie.InvT-loop
 Inv-loop buf₀ octets₀ text₀ out₀ state₀ turns₀ buf octets text out state turns = state .kept ≤ 2200001
 

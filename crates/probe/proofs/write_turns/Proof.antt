@@ -7,6 +7,7 @@ use borrow.Author.Needs.{needs}
 use Rattle.probe.proofs.write_turns.Statement.{statement}
 use Rattle.probe.proofs.write_turns.Tie as tie
 
+-- The buffer for a turn's lines keeps its length; nothing is claimed of what is written.
 abbrev Inv-loop : tie.InvT-loop
 Inv-loop j lines₀ out₀ job at₀ more₀ lines out at more = length lines ≡ length lines₀
 

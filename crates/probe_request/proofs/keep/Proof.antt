@@ -5,6 +5,7 @@ use borrow.Author.Needs.{needs}
 use Rattle.probe_request.proofs.keep.Statement.{statement}
 use Rattle.probe_request.proofs.keep.Tie as tie
 
+-- The first i octets from `start` on are moved to the front; the octets from i on are as they were.
 abbrev Inv-loop : tie.InvT-loop
 Inv-loop buf₀ start n i₀ buf i = (i ≤ n) × Moved buf₀ start i buf
 

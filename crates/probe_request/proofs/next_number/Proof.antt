@@ -9,6 +9,7 @@ use borrow.Author.Needs.{needs}
 use Rattle.probe_request.proofs.next_number.Statement.{statement}
 use Rattle.probe_request.proofs.next_number.Tie as tie
 
+-- The digits before i make `value`; going on with the octets from i on gives the number of the whole word, or none.
 abbrev Inv-loop : tie.InvT-loop
 Inv-loop line end from to value₀ i₀ value i =
     (from ≤ i) × (i ≤ to) × (value < 2 ^ 64) × (valueFrom value (slice i to line) ≡ valueFrom 0 (slice from to line))

@@ -8,6 +8,7 @@ use borrow.Author.Needs.{needs}
 use Rattle.probe_request.proofs.next_word.Statement.{statement}
 use Rattle.probe_request.proofs.next_word.Tie as tie
 
+-- No space stands from `from` to `to`, so that the word has not ended before `to`.
 abbrev Inv-loop : tie.InvT-loop
 Inv-loop line end from to₀ to = (from ≤ to) × (to ≤ length line) × Free 32 (slice from to line)
 

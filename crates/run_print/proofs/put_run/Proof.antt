@@ -22,6 +22,8 @@ use Rattle.stanza_code.proofs.field.Reads as field-reads
 use Rattle.field_print.proofs.width.Reads as width-reads
 use Rattle.run_print.proofs.put_next.Reads as put-next-reads
 
+-- The first k fields, from the octets before i, are written; writing the text of the others from `at` on, after a space
+-- if neither text is empty, would give the text of the whole run.
 abbrev Inv-loop : tie.InvT-loop
 Inv-loop out₀ codes first many s p at₀ i₀ k₀ out at i k =
     (k ≤ many) × (i ≤ length p) × (at ≤ 4 * i + 655424 * k) ×

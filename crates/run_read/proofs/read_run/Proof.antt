@@ -23,6 +23,8 @@ use Rattle.run_read.proofs.none_from.Reads as none-from-reads
 use Rattle.field_read.proofs.read_field.Reads as read-field-reads
 use Rattle.buffer.proofs.least.Reads as least-reads
 
+-- The octets of the first k fields stand up to n, or are over 65,535; they, and what the other fields make of the
+-- tokens from i on, tell what the run makes of all the tokens.
 abbrev Inv-loop : tie.InvT-loop
 Inv-loop out₀ codes first many s origin t n₀ i₀ k₀ out n i k =
     (k ≤ many) × (i ≤ length t) × (n ≤ 65536) × (length out ≡ length out₀)

@@ -17,6 +17,7 @@ use Rattle.run_wire.proofs.check.Lts as lts
 use Rattle.stanza_code.proofs.field.Reads as field-reads
 use Rattle.field_wire.proofs.take_field.Reads as take-field-reads
 
+-- The first k fields take the octets before `at`; what the others make of the rest tells what the run makes of all.
 abbrev Inv-loop : tie.InvT-loop
 Inv-loop codes first many p k₀ at₀ k at =
     (k ≤ many) × (at ≤ length p)

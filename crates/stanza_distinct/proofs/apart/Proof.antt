@@ -11,6 +11,7 @@ use borrow.Author.Needs.{needs}
 use Rattle.stanza_distinct.proofs.apart.Statement.{statement}
 use Rattle.stanza_distinct.proofs.apart.Tie as tie
 
+-- If the names from i to b have numbers not met before, and none occurs twice, then none occurs twice from a to b.
 abbrev Inv-loop : tie.InvT-loop
 Inv-loop ignoring s a b met₀ i₀ met i =
     (i ≤ b) × (length met ≡ 256) × (Clear ignoring met (piecesIn s i b) → twiceIn ignoring s i b ≡ false → twiceIn ignoring s a b ≡ false)

@@ -7,6 +7,7 @@ use borrow.Author.Needs.{needs}
 use Rattle.stanza_distinct.proofs.each_later.Statement.{statement}
 use Rattle.stanza_distinct.proofs.each_later.Tie as tie
 
+-- A name occurs twice between i and b exactly if one does between a and b.
 abbrev Inv-loop : tie.InvT-loop
 Inv-loop ignoring s a b i₀ i = (i ≤ b) × (twiceIn ignoring s i b ≡ twiceIn ignoring s a b)
 

@@ -13,6 +13,7 @@ use Rattle.stanza_distinct.proofs.later.Lts as lts
 use Rattle.octets.proofs.skip.Reads as skip-reads
 use Rattle.stanza_distinct.proofs.names.Reads as names-reads
 
+-- The name is that of a qualifier between i and b exactly if it is that of one between h and b.
 abbrev Inv-loop : tie.InvT-loop
 Inv-loop ignoring s a n h b i₀ i =
     (i ≤ b)

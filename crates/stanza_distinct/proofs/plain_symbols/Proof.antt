@@ -15,6 +15,8 @@ use borrow.Author.Needs.{needs}
 use Rattle.stanza_distinct.proofs.plain_symbols.Statement.{statement}
 use Rattle.stanza_distinct.proofs.plain_symbols.Tie as tie
 
+-- Some qualifier from i to b is no symbol below the limit exactly if one from a to b is none; and if the names from
+-- i on have numbers not met before, and none occurs twice, then none occurs twice from a to b.
 abbrev Inv-loop : tie.InvT-loop
 Inv-loop limit s a b met₀ i₀ met i =
     (i ≤ b) × (length met ≡ 256) × (anyIn (NotSymbol limit) s i b ≡ anyIn (NotSymbol limit) s a b)

@@ -22,6 +22,8 @@ use Rattle.stanza_judge.proofs.first_line.Reads as first-line-reads
 use Rattle.stanza_line.proofs.line_step.Reads as line-step-reads
 use Rattle.stanza_line.proofs.tail_after.Reads as tail-after-reads
 
+-- If nothing is refused so far, judging the lines from `at` on gives the verdict on all lines; else the refusal is that
+-- verdict. The codes are those of the fields found so far.
 abbrev Inv-loop : tie.InvT-loop
 Inv-loop s codes₀ names₀ ends₀ n₀ have₀ last₀ number₀ place₀ at₀ line₀ codes names ends n have last number place at line =
     (h : HeaderDesc) × (fs : List FieldDesc) × Judging s h fs names ends n have last number place at line × (fieldsOf codes ≡ withoutTexts fs)

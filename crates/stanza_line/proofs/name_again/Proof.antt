@@ -9,6 +9,7 @@ use Rattle.stanza_line.proofs.name_again.Reads as reads
 use Rattle.stanza_line.proofs.name_again.Lts as lts
 use Rattle.stanza_line.proofs.same_name.Reads as same-name-reads
 
+-- The name from a to e is one of the names from number k on exactly if it is one of all n.
 abbrev Inv-loop : tie.InvT-loop
 Inv-loop s names ends n a e k₀ k = (k ≤ n) × (namedFrom s names ends a e k (n - k) ≡ namedFrom s names ends a e 0 n)
 

@@ -11,6 +11,7 @@ use Rattle.stanza_types.proofs.is_word.Tie as tie
 use Rattle.stanza_types.proofs.is_word.Reads as reads
 use Rattle.stanza_types.proofs.is_word.Lts as lts
 
+-- The text from a to e is the word w exactly if the two are the same from j on.
 abbrev Inv-loop : tie.InvT-loop
 Inv-loop s a e w j₀ j = (j ≤ length w) × (e - a ≡ length w) × ((l : e ≤ length s) → sameFrom s w a e l j ≡ sameOctets (slice a e s) w)
 

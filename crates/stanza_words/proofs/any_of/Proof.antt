@@ -8,6 +8,7 @@ use borrow.Author.Needs.{needs}
 use Rattle.stanza_words.proofs.any_of.Statement.{statement}
 use Rattle.stanza_words.proofs.any_of.Tie as tie
 
+-- The test holds of a qualifier between i and b exactly if it holds of one between a and b.
 abbrev Inv-loop : tie.InvT-loop
 Inv-loop t s a b i₀ i = (i ≤ b) × (anyIn t s i b ≡ anyIn t s a b)
 

@@ -8,6 +8,7 @@ use borrow.Author.Needs.{needs}
 use Rattle.stanza_words.proofs.same.Statement.{statement}
 use Rattle.stanza_words.proofs.same.Tie as tie
 
+-- The two texts are the same exactly if their rests, from i and from j on, are.
 abbrev Inv-loop : tie.InvT-loop
 Inv-loop ignoring s a e t b f i₀ j₀ i j =
     (i ≤ e) × (j ≤ f) × (e - i ≡ f - j) × (sameBy ignoring (slice i e s) (slice j f t) ≡ sameBy ignoring (slice a e s) (slice b f t))

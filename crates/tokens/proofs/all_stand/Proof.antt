@@ -10,6 +10,7 @@ use borrow.Author.Needs.{needs}
 use Rattle.tokens.proofs.all_stand.Statement.{statement}
 use Rattle.tokens.proofs.all_stand.Tie as tie
 
+-- All 64 octets stand for themselves exactly if `all` holds and the octets from i + k on do.
 abbrev Inv-loop : tie.InvT-loop
 Inv-loop t i q all₀ k₀ all k = (k ≤ 64) × (all && allOf (standing q) (slice (i + k) (i + 64) t) ≡ allOf (standing q) (slice i (i + 64) t))
 

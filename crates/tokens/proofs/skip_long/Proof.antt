@@ -8,6 +8,7 @@ use borrow.Author.Needs.{needs}
 use Rattle.tokens.proofs.skip_long.Statement.{statement}
 use Rattle.tokens.proofs.skip_long.Tie as tie
 
+-- The octets from i to j stand for themselves: the run from j on ends where the run from i does.
 abbrev Inv-loop : tie.InvT-loop
 Inv-loop t i q j₀ j = (j ≤ length t) × (frontEnd q t j (length t) ≡ frontEnd q t i (length t))
 

@@ -6,6 +6,7 @@ use borrow.Author.Needs.{needs}
 use Rattle.tokens.proofs.skip_to.Statement.{statement}
 use Rattle.tokens.proofs.skip_to.Tie as tie
 
+-- The octets from i to j stand for themselves: the run from j on ends where the run from i does.
 abbrev Inv-loop : tie.InvT-loop
 Inv-loop t i e q j₀ j = (j ≤ e) × (frontEnd q t j e ≡ frontEnd q t i e)
 

@@ -8,6 +8,7 @@ use borrow.Author.Needs.{needs}
 use Rattle.tokens.proofs.token.Statement.{statement}
 use Rattle.tokens.proofs.token.Tie as tie
 
+-- The scan keeps the octets from a to j and goes on from j, where the text ends or an octet does not stand for itself.
 abbrev Inv-loop : tie.InvT-loop
 Inv-loop t a q j₀ j = Kept t q a j × Stopped (standing q) (drop j t)
 

@@ -8,6 +8,7 @@ use borrow.Author.Needs.{needs}
 use Rattle.address.proofs.part.hex.Statement.{statement}
 use Rattle.address.proofs.part.hex.Tie as tie
 
+-- The digits before j make v; going on with the octets from j to e gives the number of the whole part, or none.
 abbrev Inv-loop : tie.InvT-loop
 Inv-loop t i e v₀ j₀ v j = (i ≤ j) × (j ≤ e) × (v < 16 ^ (j - i)) × (hexFrom v (slice j e t) ≡ hexFrom 0 (slice i e t))
 

@@ -7,6 +7,7 @@ use borrow.Author.Needs.{needs}
 use Rattle.address.proofs.part.part_end.Statement.{statement}
 use Rattle.address.proofs.part.part_end.Tie as tie
 
+-- No mark c stands from i to j: the part from j on ends where the part from i does.
 abbrev Inv-loop : tie.InvT-loop
 Inv-loop t i e c j₀ j = (j ≤ e) × (partEnd c t j e ≡ partEnd c t i e)
 

@@ -18,7 +18,7 @@ use borrow.Author.Needs.{needs}
 use Rattle.address.proofs.part.parts.Statement.{statement}
 use Rattle.address.proofs.part.parts.Tie as tie
 
--- the value by how many parts were wanted
+-- the value, by how many parts were still needed
 by-count : (k r : ℕ) (v : Value) {o₀ o : List ℕ} {n : ℕ} {all : Option (List ℕ)} → v ≡ cond (eqb k 1) (Upto r) Fault → (k ≡ 1
     → Values o₀ o n (Upto r) all) → ((k ≡ 1 → ⊥) → all ≡ none) → Values o₀ o n v all
 by-count k r v {o₀} {o} {n} {all} q f g = by (eqb k 1) refl q
@@ -27,6 +27,7 @@ by-count k r v {o₀} {o} {n} {all} q f g = by (eqb k 1) refl q
     by true m e = rw e (f (eqb-true k 1 m))
     by false m e = rw e (g (eqb-false k 1 m))
 
+-- The parts before j are stored up to m; they, and k parts read from j on, are the w parts of the whole text.
 abbrev Inv-loop : tie.InvT-loop
 Inv-loop out₀ n f w t i e c m₀ j₀ k₀ out m j k =
     (j ≤ e) × (k ≤ w) × (n ≤ m) × (m + 2 * k ≤ n + 2 * w) × (length out ≡ length out₀)

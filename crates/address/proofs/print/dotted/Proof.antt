@@ -14,6 +14,7 @@ use borrow.Author.Needs.{needs}
 use Rattle.address.proofs.print.dotted.Statement.{statement}
 use Rattle.address.proofs.print.dotted.Tie as tie
 
+-- The octets before j are written; writing the others from m on, a dot before each, would give all after the first.
 abbrev Inv-loop : tie.InvT-loop
 Inv-loop out₀ n p i e m₀ j₀ out m j =
     (i < j) × (j ≤ e) × (m ≤ n + 11 * (j - i))

@@ -13,13 +13,14 @@ use borrow.Author.Needs.{needs}
 use Rattle.address.proofs.print.groups.Statement.{statement}
 use Rattle.address.proofs.print.groups.Tie as tie
 
--- the text of octets, and of those that are left
+-- the text of all the octets, and of those that are left
 abbrev text : List ℕ → List ℕ
 text xs = colons (address.groups xs)
 
 abbrev rest : List ℕ → List ℕ
 rest xs = later (58 ∷ []) groupText (address.groups xs)
 
+-- The groups before j are written; writing the others from m on, a colon before each, would give all after the first.
 abbrev Inv-loop : tie.InvT-loop
 Inv-loop out₀ n p i e m₀ j₀ out m j =
     (i < j) × (j ≤ e) × ((e - j) % 2 ≡ 0) × (m ≤ n + 5 * (j - i))

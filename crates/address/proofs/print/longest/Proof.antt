@@ -9,6 +9,7 @@ use borrow.Author.Needs.{needs}
 use Rattle.address.proofs.print.longest.Statement.{statement}
 use Rattle.address.proofs.print.longest.Tie as tie
 
+-- From j on there are first z zero groups, and `run` is the first of the longest runs of zero groups.
 abbrev Inv-loop : tie.InvT-loop
 Inv-loop p i e run₀ z₀ j₀ run z j =
     (i ≤ j) × (j ≤ e) × ((j - i) % 2 ≡ 0) × (j + 2 * z ≤ e) × (z ≡ zerosAt (groups (slice j e p))) × Longest p j e (run .at) (run .count)

@@ -5,6 +5,7 @@ use borrow.Author.Needs.{needs}
 use Rattle.address.proofs.read.double_colon.Statement.{statement}
 use Rattle.address.proofs.read.double_colon.Tie as tie
 
+-- No double colon begins before j: the first one from j on is the first one of the whole text.
 abbrev Inv-loop : tie.InvT-loop
 Inv-loop t i e j₀ j = (i ≤ j) × (j ≤ e) × Passed t i e j
 

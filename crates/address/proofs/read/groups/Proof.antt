@@ -12,6 +12,7 @@ use borrow.Author.Needs.{needs}
 use Rattle.address.proofs.read.groups.Statement.{statement}
 use Rattle.address.proofs.read.groups.Tie as tie
 
+-- The groups before j are stored up to m; they, and the groups read from j on, are those of the whole text.
 abbrev Inv-loop : tie.InvT-loop
 Inv-loop out₀ n t i e tail m₀ j₀ z₀ out m j z =
     (i ≤ j) × (j ≤ e) × (z ≡ partEnd 58 t j e) × (n ≤ m) × (m ≤ n + 2 * (j - i)) × (length out ≡ length out₀)

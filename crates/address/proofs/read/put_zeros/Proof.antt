@@ -7,6 +7,7 @@ use borrow.Author.Needs.{needs}
 use Rattle.address.proofs.read.put_zeros.Statement.{statement}
 use Rattle.address.proofs.read.put_zeros.Tie as tie
 
+-- All but c of the zeros are written; writing c zeros from m on would give all k.
 abbrev Inv-loop : tie.InvT-loop
 Inv-loop out₀ n k m₀ c₀ out m c = (m + c ≤ n + k) × (c ≤ k) × Left out₀ n (replicate k 0) out m (replicate c 0)
 

@@ -11,6 +11,7 @@ use borrow.Author.Needs.{needs}
 use Rattle.base.proofs.print.groups.Statement.{statement}
 use Rattle.base.proofs.print.groups.Tie as tie
 
+-- All but d groups are written; writing the digits of the octets from j on at m would give those of all c groups.
 abbrev Inv-loop : tie.InvT-loop
 Inv-loop out₀ n t w g p i c k m₀ j₀ d₀ out m j d =
     (j + g * d ≡ i + g * c) × (8 * g / w * d ≤ length out - m)

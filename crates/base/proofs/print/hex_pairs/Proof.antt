@@ -8,6 +8,7 @@ use borrow.Author.Needs.{needs}
 use Rattle.base.proofs.print.hex_pairs.Statement.{statement}
 use Rattle.base.proofs.print.hex_pairs.Tie as tie
 
+-- The first i octets are written; writing the others from m on would give the whole text.
 abbrev Inv-loop : tie.InvT-loop
 Inv-loop out₀ n s m₀ i₀ out m i = (i ≤ length s) × (m ≡ n + 2 * i) × Left out₀ n (hexText s) out m (hexText (drop i s))
 

@@ -12,6 +12,7 @@ use borrow.Author.Needs.{needs}
 use Rattle.base.proofs.print.number_of.Statement.{statement}
 use Rattle.base.proofs.print.number_of.Tie as tie
 
+-- The first j octets make v; going on with the bits of the others gives the number of all g octets.
 abbrev Inv-loop : tie.InvT-loop
 Inv-loop p i g v₀ j₀ v j =
     (j ≤ g) × (v < 256 ^ j) × (numberFrom 2 v (bits 8 (slice (i + j) (i + g) p)) ≡ number 2 (bits 8 (slice i (i + g) p)))

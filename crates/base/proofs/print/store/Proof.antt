@@ -11,6 +11,7 @@ use borrow.Author.Needs.{needs}
 use Rattle.base.proofs.print.store.Statement.{statement}
 use Rattle.base.proofs.print.store.Tie as tie
 
+-- The last k - i digits are stored; storing the i lowest digits of x before them, from n on, would give all k of v.
 abbrev Inv-loop : tie.InvT-loop
 Inv-loop out₀ n t k v i₀ x₀ out i x =
     (i ≤ k) × (length out ≡ length out₀) × (sets out n (chars t (digits (length t) i x)) ≡ sets out₀ n (chars t (digits (length t) k v)))

@@ -7,6 +7,7 @@ use Rattle.base.proofs.read.padded.Reads as reads
 use Rattle.base.proofs.read.padded.Lts as lts
 use Rattle.base_group.proofs.kept_from.Reads as kept-from-reads
 
+-- There are exactly k of `=` from i on exactly if there are q from j on; octets that are left out do not count.
 abbrev Inv-loop : tie.InvT-loop
 Inv-loop t i e a skip k q₀ j₀ q j = Pads (leftOut a skip) t e i k j q
 

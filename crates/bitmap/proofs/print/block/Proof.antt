@@ -12,6 +12,7 @@ use borrow.Author.Needs.{needs}
 use Rattle.bitmap.proofs.print.block.Statement.{statement}
 use Rattle.bitmap.proofs.print.block.Tie as tie
 
+-- The types of the octets before j are written; writing those of the others, from t on, at m would give the whole text.
 abbrev Inv-loop : tie.InvT-loop
 Inv-loop out₀ n start p i e v m₀ t₀ j₀ out m t j =
     (start ≤ m) × (i ≤ j) × (j ≤ e) × (t ≡ v + 8 * (j - i))

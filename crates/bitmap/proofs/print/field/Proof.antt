@@ -16,6 +16,7 @@ use borrow.Author.Needs.{needs}
 use Rattle.bitmap.proofs.print.field.Statement.{statement}
 use Rattle.bitmap.proofs.print.field.Tie as tie
 
+-- The types of the blocks before j are written; writing those of the others from m on would give the whole text.
 abbrev Inv-loop : tie.InvT-loop
 Inv-loop out₀ n p i e m₀ j₀ out m j =
     (n ≤ m) × (j ≤ e) × Left out₀ n (bitmapText typeText (slice i e p)) out m (typesText (ltb n m) (types (slice j e p)))

@@ -11,6 +11,7 @@ use borrow.Author.Needs.{needs}
 use Rattle.bitmap.proofs.print.octet.Statement.{statement}
 use Rattle.bitmap.proofs.print.octet.Tie as tie
 
+-- The types before t are written; writing those left in y, from t on, at m would give the types of the whole octet.
 abbrev Inv-loop : tie.InvT-loop
 Inv-loop out₀ n start v x m₀ t₀ y₀ out m t y =
     (start ≤ m) × (v ≤ t) × Within (v + 8 - t) y

@@ -12,6 +12,7 @@ use Rattle.buffer.proofs.Values.{after-none}
 use Rattle.bitmap.proofs.read.fill.Statement.{statement}
 use Rattle.bitmap.proofs.read.fill.Tie as tie
 
+-- The picture holds the types of the tokens before j; they, and the types read from j on, are all the types.
 abbrev Inv-loop : tie.InvT-loop
 Inv-loop m₀ t i top₀ j₀ m top j =
     (j ≤ length t) × (top ≤ 256) × ((ts : List ℕ) × Holds m top ts × (typesRead (drop i t) ≡ after ts (typesRead (drop j t))))

@@ -16,6 +16,7 @@ use Rattle.eui.proofs.print.field.Tie as tie
 abbrev pair : ℕ → List ℕ
 pair x = map lowerDigit (digits 16 2 x)
 
+-- The octets before j are written; writing the others from m on, a hyphen before each, would give all after the first.
 abbrev Inv-loop : tie.InvT-loop
 Inv-loop out₀ n p i e m₀ j₀ out m j =
     (i < j) × (j ≤ e) × (m + 1 ≡ n + 3 * (j - i))

@@ -10,6 +10,7 @@ use borrow.Author.Needs.{needs}
 use Rattle.job_form.proofs.lines.skip_lines.Statement.{statement}
 use Rattle.job_form.proofs.lines.skip_lines.Tie as tie
 
+-- The answer for skipping the `left` lines from m on is the answer for skipping all n lines from `at` on.
 abbrev Inv-loop : tie.InvT-loop
 Inv-loop j at n m₀ left₀ m left = (m ≤ length j + 1) × ((r : Skipped) → Skips j m left r → Skips j at n r)
 

@@ -11,6 +11,7 @@ use borrow.Author.Needs.{needs}
 use Rattle.name.proofs.print.escaped.Statement.{statement}
 use Rattle.name.proofs.print.escaped.Tie as tie
 
+-- Up to j the octets are escaped and written; writing the rest from m on would give the whole text.
 abbrev Inv-loop : tie.InvT-loop
 Inv-loop out₀ n p i e m₀ j₀ out m j =
     (i ≤ j) × (j ≤ e) × Left out₀ n (flatMap nameEscape (slice i e p)) out m (flatMap nameEscape (slice j e p))

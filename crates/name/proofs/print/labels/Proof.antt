@@ -9,6 +9,7 @@ use borrow.Author.Needs.{needs}
 use Rattle.name.proofs.print.labels.Statement.{statement}
 use Rattle.name.proofs.print.labels.Tie as tie
 
+-- The labels before j are written, a dot after each; writing the others from m on would give the whole text.
 abbrev Inv-loop : tie.InvT-loop
 Inv-loop out₀ n p i e m₀ j₀ out m j =
     (i ≤ j) × (j < e) × (m ≤ n + 4 * (j - i)) × Named (slice j e p) × Left out₀ n (dotted (slice i e p)) out m (dotted (slice j e p))

@@ -8,6 +8,7 @@ use borrow.Author.Needs.{needs}
 use Rattle.name.proofs.read.label.Statement.{statement}
 use Rattle.name.proofs.read.label.Tie as tie
 
+-- The label's octets before j are stored up to m; put before the text from j on, they spell what it does from i on.
 abbrev Inv-loop : tie.InvT-loop
 Inv-loop out₀ n t i e m₀ j₀ out m j = (i ≤ j) × (j ≤ e) × (n + 1 ≤ m) × (m ≤ n + 64) × (e ≤ j → n + 1 < m) × Part out₀ out n m t i j e
 

@@ -10,6 +10,7 @@ use borrow.Author.Needs.{needs}
 use Rattle.name.proofs.read.labels.Statement.{statement}
 use Rattle.name.proofs.read.labels.Tie as tie
 
+-- The labels before j are stored up to m; they, and what the text from j on spells, are the whole name.
 abbrev Inv-loop : tie.InvT-loop
 Inv-loop out₀ n t a e origin m₀ j₀ out m j =
     (a ≤ j) × (j ≤ e) × (n ≤ m) × (m ≤ n + 255) × (length out ≡ length out₀)

@@ -8,6 +8,7 @@ use borrow.Author.Needs.{needs}
 use Rattle.number.proofs.print.first_name.Statement.{statement}
 use Rattle.number.proofs.print.first_name.Tie as tie
 
+-- The first symbol with the number v between i and b is the first one between a and b.
 abbrev Inv-loop : tie.InvT-loop
 Inv-loop s a b v i₀ i = (i ≤ b) × (firstIn (nameFor v) s i b ≡ firstIn (nameFor v) s a b)
 

@@ -11,6 +11,7 @@ use borrow.Author.Needs.{needs}
 use Rattle.number.proofs.read.first_value.Statement.{statement}
 use Rattle.number.proofs.read.first_value.Tie as tie
 
+-- The first symbol of that name between j and b has the number of the first one between a and b.
 abbrev Inv-loop : tie.InvT-loop
 Inv-loop s a b t i e j₀ j = (j ≤ b) × (firstIn (valueFor (slice i e t)) s j b ≡ firstIn (valueFor (slice i e t)) s a b)
 

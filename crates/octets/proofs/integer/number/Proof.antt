@@ -13,6 +13,7 @@ use Rattle.octets.proofs.integer.number.Tie as tie
 use Rattle.octets.proofs.integer.number.Reads as reads
 use Rattle.octets.proofs.integer.number.Lts as lts
 
+-- The octets before j make v; going on with the octets from j to e gives the number of the whole part.
 abbrev Inv-loop : tie.InvT-loop
 Inv-loop p i e v₀ j₀ v j = (i ≤ j) × (j ≤ e) × (v < 256 ^ (j - i)) × (numberFrom 256 v (slice j e p) ≡ digits.number 256 (slice i e p))
 

@@ -12,6 +12,7 @@ use Rattle.rrtype.proofs.read.five_digits.Tie as tie
 use Rattle.rrtype.proofs.read.five_digits.Reads as reads
 use Rattle.rrtype.proofs.read.five_digits.Lts as lts
 
+-- The digits from i to j make v; for every later end, going on from j gives the number from i to that end.
 abbrev Inv-loop : tie.InvT-loop
 Inv-loop t i v₀ j₀ v j =
     (i ≤ j) × (j ≤ i + 5) × (v < 10 ^ (j - i)) × ((e : ℕ) → j ≤ e → e ≤ length t → valueFrom v (slice j e t) ≡ valueFrom 0 (slice i e t))

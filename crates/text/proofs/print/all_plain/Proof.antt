@@ -13,6 +13,7 @@ use Rattle.text.proofs.print.all_plain.Reads as reads
 use Rattle.text.proofs.print.all_plain.Lts as lts
 use Rattle.text.proofs.print.is_plain.Reads as is-plain-reads
 
+-- All 32 octets stand for themselves exactly if `all` holds and the octets from i + k on do.
 abbrev Inv-loop : tie.InvT-loop
 Inv-loop p i all₀ k₀ all k = (k ≤ 32) × (all && allOf plainText (slice (i + k) (i + 32) p) ≡ allOf plainText (slice i (i + 32) p))
 

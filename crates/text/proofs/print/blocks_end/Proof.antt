@@ -11,6 +11,7 @@ use Rattle.text.proofs.print.blocks_end.Reads as reads
 use Rattle.text.proofs.print.blocks_end.Lts as lts
 use Rattle.text.proofs.print.block_at.Reads as block-at-reads
 
+-- The octets from i to j stand for themselves: the run from j on ends where the run from i does.
 abbrev Inv-loop : tie.InvT-loop
 Inv-loop p i e j₀ j = (i ≤ j) × (j ≤ e) × (plainEnd p j e ≡ plainEnd p i e)
 

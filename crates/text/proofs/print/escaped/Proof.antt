@@ -16,6 +16,7 @@ use Rattle.text.proofs.print.escaped.Lts as lts
 use Rattle.text.proofs.print.copy_plain.Reads as copy-plain-reads
 use Rattle.escape.proofs.print.put_escaped_string.Reads as put-escaped-string-reads
 
+-- Up to j the octets are escaped and written; writing the rest from m on would give all that was left before the loop.
 abbrev Inv-loop : tie.InvT-loop
 Inv-loop out₀ n p i e j₀ m₀ out j m =
     (i ≤ j) × (j ≤ e) × (m ≤ n + 4 * (j - i))

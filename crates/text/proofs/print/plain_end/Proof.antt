@@ -10,6 +10,7 @@ use Rattle.text.proofs.print.plain_end.Lts as lts
 use Rattle.text.proofs.print.blocks_end.Reads as blocks-end-reads
 use Rattle.text.proofs.print.is_plain.Reads as is-plain-reads
 
+-- The octets from i to j stand for themselves: the run from j on ends where the run from i does.
 abbrev Inv-loop : tie.InvT-loop
 Inv-loop p i e j₀ j = (i ≤ j) × (j ≤ e) × (plainEnd p j e ≡ plainEnd p i e)
 

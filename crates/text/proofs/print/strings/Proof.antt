@@ -11,6 +11,7 @@ use borrow.Author.Needs.{needs}
 use Rattle.text.proofs.print.strings.Statement.{statement}
 use Rattle.text.proofs.print.strings.Tie as tie
 
+-- The strings before j are written; writing the others from m on, a space before each, would give all after the first.
 abbrev Inv-loop : tie.InvT-loop
 Inv-loop out₀ n p i e j₀ m₀ out j m =
     (i + 1 ≤ j) × (j ≤ e) × (m ≤ n + 4 * (j - i)) × Whole (slice j e p)

@@ -12,6 +12,8 @@ use borrow.Author.Needs.{needs}
 use Rattle.text.proofs.read.escaped.Statement.{statement}
 use Rattle.text.proofs.read.escaped.Tie as tie
 
+-- The value of the octets before j is stored up to m; it, and the value from j on, are the whole value.
+-- At j an escape begins, or the octets end.
 abbrev Inv-loop : tie.InvT-loop
 Inv-loop out₀ n t i e m₀ j₀ out m j =
     (i ≤ j) × (j ≤ e) × (m + (e - j) ≤ n + (e - i)) × (plainEnd t j e ≡ j)

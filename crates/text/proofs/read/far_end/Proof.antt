@@ -12,6 +12,7 @@ use Rattle.text.proofs.read.far_end.Lts as lts
 use Rattle.text.proofs.read.near_end.Reads as near-end-reads
 use Rattle.text.proofs.read.plain_block.Reads as plain-block-reads
 
+-- No octet from i to j begins an escape: the run from j on ends where the run from i does.
 abbrev Inv-loop : tie.InvT-loop
 Inv-loop t i e j₀ j = (j ≤ e) × (plainEnd t j e ≡ plainEnd t i e)
 

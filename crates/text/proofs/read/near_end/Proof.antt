@@ -8,6 +8,7 @@ use borrow.Author.Needs.{needs}
 use Rattle.text.proofs.read.near_end.Statement.{statement}
 use Rattle.text.proofs.read.near_end.Tie as tie
 
+-- No octet from i to j begins an escape: the run from j on ends where the run from i does.
 abbrev Inv-loop : tie.InvT-loop
 Inv-loop t i e j₀ j = (j ≤ e) × (plainEnd t j e ≡ plainEnd t i e)
 

@@ -12,6 +12,7 @@ use Rattle.text.proofs.read.none_escapes.Tie as tie
 use Rattle.text.proofs.read.none_escapes.Reads as reads
 use Rattle.text.proofs.read.none_escapes.Lts as lts
 
+-- None of the 32 octets begins an escape exactly if `all` holds and none from i + k on begins one.
 abbrev Inv-loop : tie.InvT-loop
 Inv-loop t i all₀ k₀ all k = (k ≤ 32) × (all && allOf noEscape (slice (i + k) (i + 32) t) ≡ allOf noEscape (slice i (i + 32) t))
 

@@ -7,6 +7,7 @@ use borrow.Author.Needs.{needs}
 use Rattle.time.proofs.print.day_of.Statement.{statement}
 use Rattle.time.proofs.print.day_of.Tie as tie
 
+-- m whole months of the year are taken off, and `left` days remain: day d is that many days after the first of month m.
 abbrev Inv-loop : tie.InvT-loop
 Inv-loop d first leap-year m₀ left₀ days₀ m left days =
     (days ≡ monthDays leap-year m) × (28 ≤ days) × (days ≤ 31) × (m < 12) × (daysBefore (first + m) + left ≡ d)

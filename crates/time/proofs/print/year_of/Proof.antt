@@ -8,6 +8,7 @@ use borrow.Author.Needs.{needs}
 use Rattle.time.proofs.print.year_of.Statement.{statement}
 use Rattle.time.proofs.print.year_of.Tie as tie
 
+-- y whole years are taken off, and `left` days remain: day d is that many days after the first of January of year y.
 abbrev Inv-loop : tie.InvT-loop
 Inv-loop d c y₀ left₀ days₀ y left days =
     (days ≡ yearDays (1970 + y)) × (365 ≤ days) × (days ≤ 366) × (y < 137) × (daysBefore (y * 12) + left ≡ d)
