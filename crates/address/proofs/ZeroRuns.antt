@@ -1,5 +1,5 @@
 -- Laws of the first of the longest runs of zero groups, sought from the last group back.
-use Prim.Native.Nat.{ℕ, zero, suc, _+_, _*_, _-_, _≤_, _<_, max}
+use Prim.Native.Nat.{ℕ, zero, suc, _+_, _*_, _-_, _%_, _≤_, _<_, max}
 use mathlib.Core.Path.{_≡_, refl, sym, ap, _∙_}
 use mathlib.Core.Bool.{Bool, true, false, cond}
 use mathlib.Core.List.{List, _∷_, _++_}
@@ -109,3 +109,7 @@ module _ (p : List ℕ) (i e at count : ℕ) (o : Longest p i e at count) where
 
   pub parted-text : 2 ≤ count → colons (groups (slice i at p)) ++ (58 ∷ 58 ∷ colons (groups (slice (at + 2 * count) e p))) ≡ aaaaText (groups (slice i e p))
   parted-text h = rw (← o .longest, le-ltb count 2 h, o .before, o .after)
+
+-- a group before another, an even number of octets after i
+pub even-before : (i k : ℕ) → i < k → (k - i) % 2 ≡ 0 → (k - 2 - i) % 2 ≡ 0
+even-before i k h q = omega arith

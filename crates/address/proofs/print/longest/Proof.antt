@@ -3,7 +3,7 @@ use mathlib.Core.Path.{_≡_, sym, ap, _∙_}
 use lib.Seq.{slice}
 use Rattle.format.specs.Address.{groups, zerosAt}
 use Rattle.address.specs.Zeros.{Longest}
-use Rattle.address.proofs.ZeroRuns.{no-zeros, run-none, first-group, run-next}
+use Rattle.address.proofs.ZeroRuns.{even-before, no-zeros, run-none, first-group, run-next}
 use native.Mathlib.Omega.{arith}
 use borrow.Author.Needs.{needs}
 use Rattle.address.proofs.print.longest.Statement.{statement}
@@ -38,7 +38,8 @@ loop-less c = search needs
 loop-again : tie.Need-loop-again Inv-loop μ-loop
 loop-again c =
     let c2 = c .before .before in
-    let c4 = c2 .before .before in
+    let c3 = c2 .before in
+    let c4 = c3 .before in
     let c6 = c4 .before .before in
     let p = c6 .args .p .now in
     let e = c6 .args .e in
@@ -49,7 +50,7 @@ loop-again c =
     let q = first-group p (k - 2) k (c2 .two .result) n (c2 .two .ensures .0) e (search needs) (search needs) in (
       search needs,
       search needs,
-      omega arith,
+      even-before _ k (c3 .loop-test .taken) (c4 .loop .inv .2),
       v,
       w ∙ sym (ap zerosAt q),
       run-next p (k - 2) k (c2 .two .result) n (c2 .two .ensures .0) e (c .before .zeros .result) _ _ (search needs) (search needs) w v

@@ -1,9 +1,7 @@
 use mathlib.Core.Bool.{and-false}
 use borrow.Author.Tests.{ne-eqb}
-use native.Mathlib.Omega.{arith}
-use borrow.Author.Needs.{needs}
-use Rattle.stanza_types.proofs.letter_type.Statement.{statement}
-use Rattle.stanza_types.proofs.letter_type.Tie as tie
+use Rattle.stanza_form.proofs.letter_type.Statement.{statement}
+use Rattle.stanza_form.proofs.letter_type.Tie as tie
 
 returns : tie.Need-returns
 returns c = rw (c .if1 .taken)

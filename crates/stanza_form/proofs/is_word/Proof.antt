@@ -1,15 +1,15 @@
-use Rattle.stanza_types.proofs.Laws.{sameFrom, same-start, same-on, same-off, same-end, same-other}
+use Rattle.stanza_form.proofs.Words.{sameFrom, same-start, same-on, same-off, same-end, same-other}
 use lib.Seq.{slice}
 use Rattle.format.specs.Octets.{sameOctets}
 use lib.ListN.{length}
-use mathlib.Core.Path.{_≡_, refl, sym, _∙_}
-use Prim.Native.Nat.{_+_, _-_, _≤_}
+use mathlib.Core.Path.{_≡_, sym, _∙_}
+use Prim.Native.Nat.{_-_, _≤_}
 use native.Mathlib.Omega.{arith}
 use borrow.Author.Needs.{needs}
-use Rattle.stanza_types.proofs.is_word.Statement.{statement}
-use Rattle.stanza_types.proofs.is_word.Tie as tie
-use Rattle.stanza_types.proofs.is_word.Reads as reads
-use Rattle.stanza_types.proofs.is_word.Lts as lts
+use Rattle.stanza_form.proofs.is_word.Statement.{statement}
+use Rattle.stanza_form.proofs.is_word.Tie as tie
+use Rattle.stanza_form.proofs.is_word.Reads as reads
+use Rattle.stanza_form.proofs.is_word.Lts as lts
 
 abbrev Inv-loop : tie.InvT-loop
 Inv-loop s a e w j₀ j = (j ≤ length w) × (e - a ≡ length w) × ((l : e ≤ length s) → sameFrom s w a e l j ≡ sameOctets (slice a e s) w)

@@ -13,7 +13,7 @@ use borrow.Author.Tests.{eq-eqb, ne-eqb, eqb-true}
 use Rattle.format.specs.Octets.{sameOctets}
 use Rattle.format.specs.Types.{TypeRow, Takes, takesOf}
 use Rattle.octets.proofs.Slices.{next, none}
-use Rattle.stanza_types.specs.Types.{longer}
+use Rattle.stanza_form.specs.Forms.{longer}
 
 same-length : (xs ys : List ℕ) → (length xs ≡ length ys → ⊥) → sameOctets xs ys ≡ false
 same-length [] [] h = absurd (h refl)

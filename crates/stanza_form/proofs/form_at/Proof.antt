@@ -1,9 +1,9 @@
 use borrow.Author.Tests.{ne-eqb}
-use Rattle.stanza_code.specs.Code.{formAt}
-use Rattle.stanza_code.proofs.form_at.Statement.{statement}
-use Rattle.stanza_code.proofs.form_at.Tie as tie
-use Rattle.stanza_code.proofs.form_at.Reads as reads
-use Rattle.stanza_code.proofs.form_at.Lts as lts
+use Rattle.stanza_form.specs.Forms.{formAt}
+use Rattle.stanza_form.proofs.form_at.Statement.{statement}
+use Rattle.stanza_form.proofs.form_at.Tie as tie
+use Rattle.stanza_form.proofs.form_at.Reads as reads
+use Rattle.stanza_form.proofs.form_at.Lts as lts
 
 returns : tie.Need-returns
 unfolding formAt

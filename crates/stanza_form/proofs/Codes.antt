@@ -4,9 +4,10 @@ use mathlib.Core.Path.{_≡_, refl, sym, ap, _∙_}
 use mathlib.Core.List.{List, [], _∷_}
 use native.Mathlib.Omega.{arith}
 use lib.ListN.{length, getD, set}
-use Rattle.stanza_types.specs.declared.FieldDesc.{FieldDesc}
-use Rattle.stanza_types.specs.Fields.{noField}
-use Rattle.stanza_code.specs.Code.{formAt, fieldWith, fieldAt, fieldsOf}
+use Rattle.stanza_form.specs.declared.FieldDesc.{FieldDesc}
+use Rattle.stanza_form.specs.Fields.{noField}
+use Rattle.stanza_form.specs.Code.{fieldWith, fieldAt, fieldsOf}
+use Rattle.stanza_form.specs.Forms.{formAt}
 
 -- a code that is put together comes apart again
 pub code-parts : (n p a e : ℕ) → n < 256 → p < 256 → a < 65536 → e < 65536 → fieldAt (n + p * 256 + a * 65536 + e * 4294967296) ≡ fieldWith (formAt n p) a e

@@ -11,10 +11,10 @@ use Rattle.format.specs.Octets.{among}
 use Rattle.format.specs.Field.{Symbol, int}
 use Rattle.format.specs.Demands.{soundKind}
 use Rattle.format.proofs.Lists.{and-left}
-use Rattle.stanza_types.specs.declared.Form.the-variants.{Int}
-use Rattle.stanza_types.specs.Types.{symbolsIn, orNone}
-use Rattle.stanza_types.specs.declared.FieldDesc.{FieldDesc}
-use Rattle.stanza_types.specs.Fields.{Usable}
+use Rattle.stanza_form.specs.declared.Form.the-variants.{Int}
+use Rattle.stanza_form.specs.Forms.{symbolsIn, orNone}
+use Rattle.stanza_form.specs.declared.FieldDesc.{FieldDesc}
+use Rattle.stanza_form.specs.Fields.{Usable}
 
 -- the widths of integers
 in-four : (w : ℕ) (a b c : Bool) → eqb w 1 ≡ a → eqb w 2 ≡ b → eqb w 4 ≡ c → a || (b || (c || false)) ≡ true → (1 ≤ w) × (w ≤ 4)

@@ -1,16 +1,9 @@
 -- A field of a description in one number: its form's number and parameter, and where its qualifiers lie. No code needs where its text lies.
 use Prim.Native.Nat.{ℕ, _/_, _%_}
-use mathlib.Core.Bool.{cond}
 use mathlib.Core.List.{List, [], _∷_}
-use lib.Dec.{eqb}
-use Rattle.stanza_types.specs.declared.Form.{Form}
-use Rattle.stanza_types.specs.declared.Form.the-variants.{Int, Rrtype, Bitmap, Dotted, Aa, Aaaa, Name, Str, Strs, Raw, Base32, Base64, Hex, Hexc, Eui, Time}
-use Rattle.stanza_types.specs.declared.FieldDesc.{FieldDesc}
-
--- the form of a number and a parameter; any number from 15 on is the last form's
-unfoldable pub formAt : ℕ → ℕ → Form
-formAt n p =
-    cond (eqb n 0) (Int p) (cond (eqb n 1) Rrtype (cond (eqb n 2) Bitmap (cond (eqb n 3) Dotted (cond (eqb n 4) Aa (cond (eqb n 5) Aaaa (cond (eqb n 6) (Name p) (cond (eqb n 7) Str (cond (eqb n 8) Strs (cond (eqb n 9) Raw (cond (eqb n 10) Base32 (cond (eqb n 11) Base64 (cond (eqb n 12) Hex (cond (eqb n 13) Hexc (cond (eqb n 14) (Eui p) (Time)))))))))))))))
+use Rattle.stanza_form.specs.declared.Form.{Form}
+use Rattle.stanza_form.specs.declared.FieldDesc.{FieldDesc}
+use Rattle.stanza_form.specs.Forms.{formAt}
 
 -- a field whose text is not kept
 abbrev pub fieldWith : Form → ℕ → ℕ → FieldDesc

@@ -8,9 +8,9 @@ use lib.ListN.{length, getD}
 use Rattle.format.specs.Field.{Symbol, Kind, int, Field}
 use Rattle.format.specs.Demands.{soundKind}
 use Rattle.octets.specs.Octets.{partIn}
-use Rattle.stanza_types.specs.declared.FieldDesc.{FieldDesc}
-use Rattle.stanza_types.specs.declared.Form.the-variants.{Int}
-use Rattle.stanza_types.specs.Types.{symbolsIn, kindIn}
+use Rattle.stanza_form.specs.declared.FieldDesc.{FieldDesc}
+use Rattle.stanza_form.specs.declared.Form.the-variants.{Int}
+use Rattle.stanza_form.specs.Forms.{symbolsIn, kindIn}
 
 -- a field: what is kept of it beside its name, and where its name lies
 abbrev pub fieldOf : List ℕ → FieldDesc → ℕ → ℕ → Field

@@ -2,11 +2,11 @@ use mathlib.Core.Path.{sym, ap, _∙_}
 use Rattle.format.specs.Types.{typeRows, takesOf}
 use lib.Seq.{slice, length-slice}
 use Rattle.stanza_words.proofs.Laws.{letter-word}
-use Rattle.stanza_types.proofs.Laws.{longer-only}
+use Rattle.stanza_form.proofs.Words.{longer-only}
 use native.Mathlib.Omega.{arith}
 use borrow.Author.Needs.{needs}
-use Rattle.stanza_types.proofs.type_of.Statement.{statement}
-use Rattle.stanza_types.proofs.type_of.Tie as tie
+use Rattle.stanza_form.proofs.type_of.Statement.{statement}
+use Rattle.stanza_form.proofs.type_of.Tie as tie
 
 returns : tie.Need-returns
 returns c =

@@ -3,11 +3,11 @@ use lib.ListN.{drop}
 use lib.Seq.{slice}
 use Rattle.format.specs.Field.{aa, aaaa, b32, b64, eui}
 use Rattle.format.specs.Types.{symbols, noWords, row, typeRows}
-use Rattle.stanza_types.specs.Types.{longer}
-use Rattle.stanza_types.proofs.Laws.{no-row, is-row}
+use Rattle.stanza_form.specs.Forms.{longer}
+use Rattle.stanza_form.proofs.Words.{no-row, is-row}
 use borrow.Author.Needs.{needs}
-use Rattle.stanza_types.proofs.word_type.Statement.{statement}
-use Rattle.stanza_types.proofs.word_type.Tie as tie
+use Rattle.stanza_form.proofs.word_type.Statement.{statement}
+use Rattle.stanza_form.proofs.word_type.Tie as tie
 
 is-word-requires : tie.Need-is-word-requires
 is-word-requires c κs =

@@ -1,0 +1,310 @@
+// The forms of fields: the kinds of document 01 without their symbols. What is said of each form stands here: its shape on the wire,
+// its number in a code, and the word of its type.
+ghost use Prim.Native.Nat.{_≤_};
+ghost use lib.ListN.{length};
+ghost use lib.Seq.{slice};
+ghost use mathlib.Core.Path.{_≡_};
+ghost use mathlib.Core.List.{[], _∷_};
+ghost use Rattle.format.specs.Octets.{sameOctets};
+ghost use Rattle.format.specs.Types.{typeRows, takesOf};
+ghost use Rattle.stanza_form.specs.Forms.{optionalIn, shapeOf, parameterOf, tailOf, formNumber, formAt, takenBy, longer};
+ghost use Rattle.stanza_form.specs.Code.{fieldWith, fieldAt};
+
+// A form of field: with the octets of an integer or an EUI, or the marks C, A, L, O of a name, as 1, 2, 4, 8 in one octet.
+pub enum Form {
+    Int(u8),
+    Rrtype,
+    Bitmap,
+    Dotted,
+    Aa,
+    Aaaa,
+    Name(u8),
+    Str,
+    Strs,
+    Raw,
+    Base32,
+    Base64,
+    Hex,
+    Hexc,
+    Eui(u8),
+    Time,
+}
+
+// A field of a description: its form, and where its qualifiers and, as the judge finds it, its free text lie.
+pub struct FieldDesc {
+    pub form: Form,
+    pub qualifiers_at: u16,
+    pub qualifiers_end: u16,
+    pub text_at: u16,
+    pub text_end: u16,
+}
+
+// How a form lies on the wire: so many octets; the labels of a name; a count and its octets; counted strings to the end; octets to
+// the end; the windows of a bitmap.
+pub enum Shape {
+    Octets,
+    Labels,
+    Counted,
+    Strings,
+    Rest,
+    Windows,
+}
+
+// Whether O is among the marks of a name.
+pub fn is_optional(marks: u8) -> bool
+    ensures { λ r. ⌜ r ≡ optionalIn marks ⌝ }
+{
+    8 <= marks
+}
+
+// The shape of a form.
+pub fn shape_of(f: Form) -> Shape
+    ensures { λ r. ⌜ r ≡ shapeOf f ⌝ }
+{
+    match f {
+        Form::Int(w) => Shape::Octets,
+        Form::Rrtype => Shape::Octets,
+        Form::Bitmap => Shape::Windows,
+        Form::Dotted => Shape::Octets,
+        Form::Aa => Shape::Octets,
+        Form::Aaaa => Shape::Octets,
+        Form::Name(m) => Shape::Labels,
+        Form::Str => Shape::Counted,
+        Form::Strs => Shape::Strings,
+        Form::Raw => Shape::Rest,
+        Form::Base32 => Shape::Counted,
+        Form::Base64 => Shape::Rest,
+        Form::Hex => Shape::Rest,
+        Form::Hexc => Shape::Counted,
+        Form::Eui(w) => Shape::Octets,
+        Form::Time => Shape::Octets,
+    }
+}
+
+// What a form has beside its shape: how many octets, the least count, or the marks of a name.
+pub fn parameter_of(f: Form) -> u8
+    ensures { λ r. ⌜ r ≡ parameterOf f ⌝ }
+{
+    match f {
+        Form::Int(w) => w,
+        Form::Rrtype => 2,
+        Form::Bitmap => 0,
+        Form::Dotted => 4,
+        Form::Aa => 8,
+        Form::Aaaa => 16,
+        Form::Name(m) => m,
+        Form::Str => 0,
+        Form::Strs => 0,
+        Form::Raw => 0,
+        Form::Base32 => 1,
+        Form::Base64 => 0,
+        Form::Hex => 0,
+        Form::Hexc => 1,
+        Form::Eui(w) => w,
+        Form::Time => 4,
+    }
+}
+
+// Whether a form is a tail: its shape ends where the octets do.
+pub fn is_tail(f: Form) -> bool
+    ensures { λ r. ⌜ r ≡ tailOf (shapeOf f) (parameterOf f) ⌝ }
+{
+    let k = shape_of(f);
+    match k {
+        Shape::Octets => false,
+        Shape::Labels => is_optional(parameter_of(f)),
+        Shape::Counted => false,
+        Shape::Strings => true,
+        Shape::Rest => true,
+        Shape::Windows => true,
+    }
+}
+
+// The number of a form in a code.
+fn number_of(f: Form) -> u8
+    ensures { λ r. ⌜ r ≡ formNumber f ⌝ }
+{
+    match f {
+        Form::Int(w) => 0,
+        Form::Rrtype => 1,
+        Form::Bitmap => 2,
+        Form::Dotted => 3,
+        Form::Aa => 4,
+        Form::Aaaa => 5,
+        Form::Name(m) => 6,
+        Form::Str => 7,
+        Form::Strs => 8,
+        Form::Raw => 9,
+        Form::Base32 => 10,
+        Form::Base64 => 11,
+        Form::Hex => 12,
+        Form::Hexc => 13,
+        Form::Eui(w) => 14,
+        Form::Time => 15,
+    }
+}
+
+// The form of a number and a parameter.
+fn form_at(n: u8, p: u8) -> Form
+    ensures { λ r. ⌜ r ≡ formAt n p ⌝ }
+{
+    match n {
+        0 => Form::Int(p),
+        1 => Form::Rrtype,
+        2 => Form::Bitmap,
+        3 => Form::Dotted,
+        4 => Form::Aa,
+        5 => Form::Aaaa,
+        6 => Form::Name(p),
+        7 => Form::Str,
+        8 => Form::Strs,
+        9 => Form::Raw,
+        10 => Form::Base32,
+        11 => Form::Base64,
+        12 => Form::Hex,
+        13 => Form::Hexc,
+        14 => Form::Eui(p),
+        _ => Form::Time,
+    }
+}
+
+// The parts of a code, put together: a field in 64 bits, so that an array of fields is one of numbers, which can be lent.
+fn together(n: u8, p: u8, at: u16, end: u16) -> u64
+    ensures { λ r. ⌜ fieldAt r ≡ fieldWith (formAt n p) at end ⌝ }
+{
+    let form = n as u64 + (p as u64) * 256;
+    let from = (at as u64) * 65536;
+    let to = (end as u64) * 4294967296;
+    form + from + to
+}
+
+// The code of a field of a form with the qualifiers from at to end.
+pub fn code(form: Form, at: u16, end: u16) -> u64
+    ensures { λ r. ⌜ fieldAt r ≡ fieldWith form at end ⌝ }
+{
+    let n = number_of(form);
+    let p = parameter_of(form);
+    together(n, p, at, end)
+}
+
+// The field of a code.
+pub fn field(c: u64) -> FieldDesc
+    ensures { λ r. ⌜ r ≡ fieldAt c ⌝ }
+{
+    FieldDesc {
+        form: form_at((c % 256) as u8, (c / 256 % 256) as u8),
+        qualifiers_at: (c / 65536 % 65536) as u16,
+        qualifiers_end: (c / 4294967296 % 65536) as u16,
+        text_at: 0,
+        text_end: 0,
+    }
+}
+
+// A type: unknown; an integer, which takes symbols; one that takes no qualifier; or R, N, S, X.
+pub enum FieldType {
+    NoType,
+    Int1,
+    Int2,
+    Int4,
+    Plain(Form),
+    TypeR,
+    TypeN,
+    TypeS,
+    TypeX,
+}
+
+// Whether the text from a to e is the word w.
+fn is_word(s: &[u8], a: usize, e: usize, w: &[u8]) -> bool
+    requires { ⌜ (a ≤ e) × (e ≤ length (now s)) ⌝ }
+    ensures { λ r. ⌜ r ≡ sameOctets (slice a e (now (s .entry))) (now (w .entry)) ⌝ }
+{
+    if e - a == w.len() {
+        let mut j = 0;
+        while j < w.len() {
+            if s[a + j] == w[j] {
+                j = j + 1;
+            } else {
+                return false;
+            }
+        }
+        return true;
+    }
+    false
+}
+
+// The type from a to e. Those of one letter are told at once.
+pub fn type_of(s: &[u8], a: usize, e: usize) -> FieldType
+    requires { ⌜ (a ≤ e) × (e ≤ length (now s)) ⌝ }
+    ensures { λ r. ⌜ takenBy r ≡ takesOf typeRows (slice a e (now (s .entry))) ⌝ }
+{
+    if e - a == 1 {
+        return letter_type(s[a]);
+    }
+    word_type(s, a, e)
+}
+
+// The type of one letter.
+fn letter_type(x: u8) -> FieldType
+    ensures { λ r. ⌜ takenBy r ≡ takesOf typeRows (x ∷ []) ⌝ }
+{
+    if x == b'N' {
+        return FieldType::TypeN;
+    }
+    if x == b'S' {
+        return FieldType::TypeS;
+    }
+    if x == b'A' {
+        return FieldType::Plain(Form::Dotted);
+    }
+    if x == b'X' {
+        return FieldType::TypeX;
+    }
+    if x == b'R' {
+        return FieldType::TypeR;
+    }
+    if x == b'T' {
+        return FieldType::Plain(Form::Time);
+    }
+    FieldType::NoType
+}
+
+// The type from a to e among those of more than one letter.
+fn word_type(s: &[u8], a: usize, e: usize) -> FieldType
+    requires { ⌜ (a ≤ e) × (e ≤ length (now s)) ⌝ }
+    ensures { λ r. ⌜ takenBy r ≡ takesOf (longer typeRows) (slice a e (now (s .entry))) ⌝ }
+{
+    if is_word(s, a, e, b"I1") {
+        return FieldType::Int1;
+    }
+    if is_word(s, a, e, b"I2") {
+        return FieldType::Int2;
+    }
+    if is_word(s, a, e, b"I4") {
+        return FieldType::Int4;
+    }
+    if is_word(s, a, e, b"AA") {
+        return FieldType::Plain(Form::Aa);
+    }
+    if is_word(s, a, e, b"AAAA") {
+        return FieldType::Plain(Form::Aaaa);
+    }
+    if is_word(s, a, e, b"B32") {
+        return FieldType::Plain(Form::Base32);
+    }
+    if is_word(s, a, e, b"B64") {
+        return FieldType::Plain(Form::Base64);
+    }
+    if is_word(s, a, e, b"EUI48") {
+        return FieldType::Plain(Form::Eui(6));
+    }
+    if is_word(s, a, e, b"EUI64") {
+        return FieldType::Plain(Form::Eui(8));
+    }
+    if is_word(s, a, e, b"X6") {
+        return FieldType::Plain(Form::Eui(6));
+    }
+    if is_word(s, a, e, b"X8") {
+        return FieldType::Plain(Form::Eui(8));
+    }
+    FieldType::NoType
+}
