@@ -31,7 +31,8 @@ fn surely_fits(codes: &[u64; 64], first: usize, many: usize, octets: usize, room
     }
     let d = stanza_form::field(codes[first + many - 1]);
     let f = d.form;
-    let k = stanza_form::shape_of(f);
+    let y = stanza_form::layout_of(f);
+    let k = y.shape;
     if let Shape::Windows = k {
         return false;
     }

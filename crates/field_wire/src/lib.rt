@@ -159,8 +159,9 @@ pub fn take_field(f: Form, s: &[u8], i: usize, e: usize) -> Take
     requires { ⌜ (i ≤ e) × (e ≤ length (now s)) ⌝ }
     ensures { λ r. ⌜ ((l : List Symbol) → takenIn r ≡ taken (start (kindOf l f)) (slice i e (now (s .entry)))) ⌝ }
 {
-    let k = stanza_form::shape_of(f);
-    let p = stanza_form::parameter_of(f);
+    let y = stanza_form::layout_of(f);
+    let k = y.shape;
+    let p = y.parameter;
     match k {
         Shape::Octets => octets(i, e, width(p)),
         Shape::Labels => name(s, i, e, stanza_form::is_optional(p)),

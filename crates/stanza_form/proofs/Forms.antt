@@ -21,10 +21,10 @@ use Rattle.stanza_form.specs.declared.Form.{Form}
 use Rattle.stanza_form.specs.declared.Form.the-variants.{Int, Rrtype, Bitmap, Dotted, Aa, Aaaa, Name, Str, Strs, Raw, Base32, Base64, Hex, Hexc, Eui, Time}
 use Rattle.stanza_form.specs.declared.Shape.{Shape}
 use Rattle.stanza_form.specs.declared.Shape.the-variants.{Octets, Labels, Counted, Strings, Rest, Windows}
-use Rattle.stanza_form.specs.Forms.{kindOf, shapeOf, stageOf, tailOf, Rule, bareBy, nameBy, stringBy, rawBy, allTokens, ruleOf, takesOne, valueBy, missingBy, readBy, parameterOf, formNumber, formAt}
+use Rattle.stanza_form.specs.Forms.{kindOf, shapeOf, stageOf, tailOf, Rule, bareBy, nameBy, stringBy, rawBy, allTokens, ruleOf, takesOne, valueBy, missingBy, readBy, parameterOf, formNumber, heldBy, formAt}
 
 -- a form's number and parameter are those of no other
-pub form-again : (f : Form) → formAt (formNumber f) (parameterOf f) ≡ f
+pub form-again : (f : Form) → formAt (formNumber f) (heldBy f) ≡ f
 unfolding formAt
 form-again (Int w) = refl
 form-again Rrtype = refl

@@ -217,6 +217,25 @@ formNumber Hexc = 13
 formNumber (Eui w) = 14
 formNumber Time = 15
 
+-- what a form holds, or 0
+abbrev pub heldBy : Form → ℕ
+heldBy (Int w) = w
+heldBy Rrtype = 0
+heldBy Bitmap = 0
+heldBy Dotted = 0
+heldBy Aa = 0
+heldBy Aaaa = 0
+heldBy (Name m) = m
+heldBy Str = 0
+heldBy Strs = 0
+heldBy Raw = 0
+heldBy Base32 = 0
+heldBy Base64 = 0
+heldBy Hex = 0
+heldBy Hexc = 0
+heldBy (Eui w) = w
+heldBy Time = 0
+
 -- the form of a number and a parameter; any number from 15 on is the last form's
 unfoldable pub formAt : ℕ → ℕ → Form
 formAt n p =

@@ -7,7 +7,7 @@ ghost use mathlib.Core.Path.{_≡_};
 ghost use mathlib.Core.List.{[], _∷_};
 ghost use Rattle.format.specs.Octets.{sameOctets};
 ghost use Rattle.format.specs.Types.{typeRows, takesOf};
-ghost use Rattle.stanza_form.specs.Forms.{optionalIn, shapeOf, parameterOf, tailOf, formNumber, formAt, takenBy, longer};
+ghost use Rattle.stanza_form.specs.Forms.{optionalIn, shapeOf, parameterOf, tailOf, formNumber, heldBy, formAt, takenBy, longer};
 ghost use Rattle.stanza_form.specs.Code.{fieldWith, fieldAt};
 
 // A form of field: with the octets of an integer or an EUI, or the marks C, A, L, O of a name, as 1, 2, 4, 8 in one octet.
@@ -57,51 +57,43 @@ pub fn is_optional(marks: u8) -> bool
     8 <= marks
 }
 
-// The shape of a form.
-pub fn shape_of(f: Form) -> Shape
-    ensures { λ r. ⌜ r ≡ shapeOf f ⌝ }
+// The shape of a form, and what it has beside it: how many octets, the least count, or the marks of a name.
+pub struct Layout {
+    pub shape: Shape,
+    pub parameter: u8,
+}
+
+// A layout.
+fn laid(shape: Shape, parameter: u8) -> Layout
+    ensures { λ r. ⌜ (r .shape ≡ shape) × (r .parameter ≡ parameter) ⌝ }
 {
-    match f {
-        Form::Int(w) => Shape::Octets,
-        Form::Rrtype => Shape::Octets,
-        Form::Bitmap => Shape::Windows,
-        Form::Dotted => Shape::Octets,
-        Form::Aa => Shape::Octets,
-        Form::Aaaa => Shape::Octets,
-        Form::Name(m) => Shape::Labels,
-        Form::Str => Shape::Counted,
-        Form::Strs => Shape::Strings,
-        Form::Raw => Shape::Rest,
-        Form::Base32 => Shape::Counted,
-        Form::Base64 => Shape::Rest,
-        Form::Hex => Shape::Rest,
-        Form::Hexc => Shape::Counted,
-        Form::Eui(w) => Shape::Octets,
-        Form::Time => Shape::Octets,
+    Layout {
+        shape: shape,
+        parameter: parameter,
     }
 }
 
-// What a form has beside its shape: how many octets, the least count, or the marks of a name.
-pub fn parameter_of(f: Form) -> u8
-    ensures { λ r. ⌜ r ≡ parameterOf f ⌝ }
+// How a form lies on the wire.
+pub fn layout_of(f: Form) -> Layout
+    ensures { λ r. ⌜ (r .shape ≡ shapeOf f) × (r .parameter ≡ parameterOf f) ⌝ }
 {
     match f {
-        Form::Int(w) => w,
-        Form::Rrtype => 2,
-        Form::Bitmap => 0,
-        Form::Dotted => 4,
-        Form::Aa => 8,
-        Form::Aaaa => 16,
-        Form::Name(m) => m,
-        Form::Str => 0,
-        Form::Strs => 0,
-        Form::Raw => 0,
-        Form::Base32 => 1,
-        Form::Base64 => 0,
-        Form::Hex => 0,
-        Form::Hexc => 1,
-        Form::Eui(w) => w,
-        Form::Time => 4,
+        Form::Int(w) => laid(Shape::Octets, w),
+        Form::Rrtype => laid(Shape::Octets, 2),
+        Form::Bitmap => laid(Shape::Windows, 0),
+        Form::Dotted => laid(Shape::Octets, 4),
+        Form::Aa => laid(Shape::Octets, 8),
+        Form::Aaaa => laid(Shape::Octets, 16),
+        Form::Name(m) => laid(Shape::Labels, m),
+        Form::Str => laid(Shape::Counted, 0),
+        Form::Strs => laid(Shape::Strings, 0),
+        Form::Raw => laid(Shape::Rest, 0),
+        Form::Base32 => laid(Shape::Counted, 1),
+        Form::Base64 => laid(Shape::Rest, 0),
+        Form::Hex => laid(Shape::Rest, 0),
+        Form::Hexc => laid(Shape::Counted, 1),
+        Form::Eui(w) => laid(Shape::Octets, w),
+        Form::Time => laid(Shape::Octets, 4),
     }
 }
 
@@ -109,10 +101,11 @@ pub fn parameter_of(f: Form) -> u8
 pub fn is_tail(f: Form) -> bool
     ensures { λ r. ⌜ r ≡ tailOf (shapeOf f) (parameterOf f) ⌝ }
 {
-    let k = shape_of(f);
+    let y = layout_of(f);
+    let k = y.shape;
     match k {
         Shape::Octets => false,
-        Shape::Labels => is_optional(parameter_of(f)),
+        Shape::Labels => is_optional(y.parameter),
         Shape::Counted => false,
         Shape::Strings => true,
         Shape::Rest => true,
@@ -141,6 +134,30 @@ fn number_of(f: Form) -> u8
         Form::Hexc => 13,
         Form::Eui(w) => 14,
         Form::Time => 15,
+    }
+}
+
+// What a form holds, or 0.
+fn held_by(f: Form) -> u8
+    ensures { λ r. ⌜ r ≡ heldBy f ⌝ }
+{
+    match f {
+        Form::Int(w) => w,
+        Form::Rrtype => 0,
+        Form::Bitmap => 0,
+        Form::Dotted => 0,
+        Form::Aa => 0,
+        Form::Aaaa => 0,
+        Form::Name(m) => m,
+        Form::Str => 0,
+        Form::Strs => 0,
+        Form::Raw => 0,
+        Form::Base32 => 0,
+        Form::Base64 => 0,
+        Form::Hex => 0,
+        Form::Hexc => 0,
+        Form::Eui(w) => w,
+        Form::Time => 0,
     }
 }
 
@@ -183,7 +200,7 @@ pub fn code(form: Form, at: u16, end: u16) -> u64
     ensures { λ r. ⌜ fieldAt r ≡ fieldWith form at end ⌝ }
 {
     let n = number_of(form);
-    let p = parameter_of(form);
+    let p = held_by(form);
     together(n, p, at, end)
 }
 

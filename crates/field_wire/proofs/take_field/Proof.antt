@@ -13,54 +13,46 @@ use Rattle.field_wire.proofs.rest.Reads as rest-reads
 use Rattle.field_wire.proofs.strings.Reads as strings-reads
 use Rattle.field_wire.proofs.width.Reads as width-reads
 use Rattle.stanza_form.proofs.is_optional.Reads as is-optional-reads
-use Rattle.stanza_form.proofs.parameter_of.Reads as parameter-of-reads
-use Rattle.stanza_form.proofs.shape_of.Reads as shape-of-reads
+use Rattle.stanza_form.proofs.layout_of.Reads as layout-of-reads
 
 returns : tie.Need-returns
 returns c =
     let c2 = c .before .before in
     let c4 = c2 .before .before in
-    let c5 = c4 .before in
-    let c7 = c5 .before .before in
-    λ l. rw (← start-by l _ _ Octets _ (c5 .shape-of .ensures) (c2 .enum-told .given .1) (c4 .parameter-of .ensures), ← c .before .width .ensures .1) (c .octets .ensures _ (c7 .pre .1))
+    let c6 = c4 .before .before in
+    λ l. rw (← start-by l _ _ Octets _ (c4 .layout-of .ensures .0) (c2 .enum-told .given .1) (c4 .layout-of .ensures .1), ← c .before .width .ensures .1) (c .octets .ensures _ (c6 .pre .1))
 
 returns-2 : tie.Need-returns-2
 returns-2 c =
     let c2 = c .before .before in
     let c4 = c2 .before .before in
-    let c5 = c4 .before in
-    λ l. rw (← start-by l _ _ Labels _ (c5 .shape-of .ensures) (c2 .enum-told2 .given .1) (c4 .parameter-of .ensures), ← c .before .is-optional .ensures) (c .name .ensures)
+    λ l. rw (← start-by l _ _ Labels _ (c4 .layout-of .ensures .0) (c2 .enum-told2 .given .1) (c4 .layout-of .ensures .1), ← c .before .is-optional .ensures) (c .name .ensures)
 
 returns-3 : tie.Need-returns-3
 returns-3 c =
     let c3 = c .before .before .before in
-    let c4 = c3 .before in
-    λ l. rw (← start-by l _ _ Counted _ (c4 .shape-of .ensures) (c .before .enum-told3 .given .1) (c3 .parameter-of .ensures)) (c .counted .ensures)
+    λ l. rw (← start-by l _ _ Counted _ (c3 .layout-of .ensures .0) (c .before .enum-told3 .given .1) (c3 .layout-of .ensures .1)) (c .counted .ensures)
 
 returns-4 : tie.Need-returns-4
 returns-4 c =
     let c3 = c .before .before .before in
-    let c4 = c3 .before in
-    λ l. rw (← start-by l _ _ Strings _ (c4 .shape-of .ensures) (c .before .enum-told4 .given .1) (c3 .parameter-of .ensures)) (c .strings .ensures)
+    λ l. rw (← start-by l _ _ Strings _ (c3 .layout-of .ensures .0) (c .before .enum-told4 .given .1) (c3 .layout-of .ensures .1)) (c .strings .ensures)
 
 returns-5 : tie.Need-returns-5
 returns-5 c =
     let c3 = c .before .before .before in
-    let c4 = c3 .before in
-    let c6 = c4 .before .before in
-    λ l. rw (← start-by l _ _ Rest _ (c4 .shape-of .ensures) (c .before .enum-told5 .given .1) (c3 .parameter-of .ensures)) (c .rest .ensures _ (c6 .pre .1))
+    let c5 = c3 .before .before in
+    λ l. rw (← start-by l _ _ Rest _ (c3 .layout-of .ensures .0) (c .before .enum-told5 .given .1) (c3 .layout-of .ensures .1)) (c .rest .ensures _ (c5 .pre .1))
 
 returns-6 : tie.Need-returns-6
 returns-6 c =
     let c3 = c .before .before .before in
-    let c4 = c3 .before in
-    λ l. rw (← start-by l _ _ Windows _ (c4 .shape-of .ensures) (c .before .enum-told6 .given .1) (c3 .parameter-of .ensures)) (c .bitmap .ensures)
+    λ l. rw (← start-by l _ _ Windows _ (c3 .layout-of .ensures .0) (c .before .enum-told6 .given .1) (c3 .layout-of .ensures .1)) (c .bitmap .ensures)
 
 pub take-field-spec : {M : Type 1} → statement M
 take-field-spec =
     tie.close
     (tie.spec
-    (λ c κs. search needs)
     (λ c κs. search needs)
     (λ c. search needs)
     (λ c κs. search needs)

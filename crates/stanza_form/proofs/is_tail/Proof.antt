@@ -4,14 +4,12 @@ use Rattle.stanza_form.proofs.is_tail.Tie as tie
 use Rattle.stanza_form.proofs.is_tail.Reads as reads
 use Rattle.stanza_form.proofs.is_tail.Lts as lts
 use Rattle.stanza_form.proofs.is_optional.Reads as is-optional-reads
-use Rattle.stanza_form.proofs.parameter_of.Reads as parameter-of-reads
-use Rattle.stanza_form.proofs.shape_of.Reads as shape-of-reads
+use Rattle.stanza_form.proofs.layout_of.Reads as layout-of-reads
 
 returns-2 : tie.Need-returns-2
 returns-2 c =
-    let c2 = c .before .before in
-    let c4 = c2 .before .before in
-    rw (c .is-optional .ensures, c .before .parameter-of .ensures, ← c4 .shape-of .ensures, c2 .enum-told2 .given .1)
+    let c3 = c .before .before .before in
+    rw (c .is-optional .ensures, c3 .layout-of .ensures .1, ← c3 .layout-of .ensures .0, c .before .enum-told2 .given .1)
 
 pub is-tail-spec : {M : Type 1} → statement M
 is-tail-spec =
@@ -20,7 +18,6 @@ is-tail-spec =
     (λ c κs. search needs)
     (λ c. search needs)
     (λ c. search needs)
-    (λ c κs. search needs)
     (λ c κs. search needs)
     (λ c. search needs)
     (λ c. search needs)
