@@ -27,7 +27,7 @@ pub none-name : (f : Form) (m : ℕ) → f ≡ Name m → (l : List Symbol) → 
     → readField (kindOf l f) o [] ≡ cond b (got [] []) noToken
 none-name f m e l g o h = reads-one (kindOf l f) g o [] ∙ rw (e, h)
 
-pub none-else : (f : Form) → Not 6 f → (l : List Symbol) → takesOne (ruleOf (kindOf l f)) ≡ true → (o : List ℕ) → readField (kindOf l f) o [] ≡ noToken
+pub none-else : (f : Form) → Not 2 f → (l : List Symbol) → takesOne (ruleOf (kindOf l f)) ≡ true → (o : List ℕ) → readField (kindOf l f) o [] ≡ noToken
 none-else f n l g o = reads-one (kindOf l f) g o [] ∙ none-missing f n l
 
 -- the octets of a token, after which the tokens from j on are left

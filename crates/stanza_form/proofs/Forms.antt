@@ -18,7 +18,7 @@ use Rattle.format.specs.Name.{readName}
 use Rattle.format.specs.Types.{Takes, symbols, words, TypeRow, hasWord, nameKind, stringKind, typeRows, takesOf}
 use Rattle.format.proofs.Field.{isBitmap}
 use Rattle.stanza_form.specs.declared.Form.{Form}
-use Rattle.stanza_form.specs.declared.Form.the-variants.{Int, Rrtype, Bitmap, Dotted, Aa, Aaaa, Name, Str, Strs, Raw, Base32, Base64, Hex, Hexc, Eui, Time}
+use Rattle.stanza_form.specs.declared.Form.the-variants.{Int, Eui, Name, Rrtype, Dotted, Aa, Aaaa, Time, Str, Base32, Hexc, Bitmap, Strs, Raw, Base64, Hex}
 use Rattle.stanza_form.specs.declared.Shape.{Shape}
 use Rattle.stanza_form.specs.declared.Shape.the-variants.{Octets, Labels, Counted, Strings, Rest, Windows}
 use Rattle.stanza_form.specs.Forms.{kindOf, shapeOf, stageOf, tailOf, Rule, bareBy, nameBy, stringBy, rawBy, allTokens, ruleOf, takesOne, valueBy, missingBy, readBy, parameterOf, formNumber, heldBy, formAt}
@@ -27,21 +27,21 @@ use Rattle.stanza_form.specs.Forms.{kindOf, shapeOf, stageOf, tailOf, Ru
 pub form-again : (f : Form) → formAt (formNumber f) (heldBy f) ≡ f
 unfolding formAt
 form-again (Int w) = refl
+form-again (Eui w) = refl
+form-again (Name m) = refl
 form-again Rrtype = refl
-form-again Bitmap = refl
 form-again Dotted = refl
 form-again Aa = refl
 form-again Aaaa = refl
-form-again (Name m) = refl
+form-again Time = refl
 form-again Str = refl
+form-again Base32 = refl
+form-again Hexc = refl
+form-again Bitmap = refl
 form-again Strs = refl
 form-again Raw = refl
-form-again Base32 = refl
 form-again Base64 = refl
 form-again Hex = refl
-form-again Hexc = refl
-form-again (Eui w) = refl
-form-again Time = refl
 
 -- a form's shape is that of its kind: where it starts, whether it is a tail, and whether it is R[L]
 abbrev pub isWindows : Shape → Bool
@@ -59,21 +59,21 @@ pub record Shaped (k : Kind) (s : Shape) (p : ℕ) : Type 0 where
 
 pub shaped : (l : List Symbol) (f : Form) → Shaped (kindOf l f) (shapeOf f) (parameterOf f)
 shaped l (Int w) = record { starts = refl; tails = refl; windows = refl }
+shaped l (Eui w) = record { starts = refl; tails = refl; windows = refl }
+shaped l (Name m) = record { starts = refl; tails = refl; windows = refl }
 shaped l Rrtype = record { starts = refl; tails = refl; windows = refl }
-shaped l Bitmap = record { starts = refl; tails = refl; windows = refl }
 shaped l Dotted = record { starts = refl; tails = refl; windows = refl }
 shaped l Aa = record { starts = refl; tails = refl; windows = refl }
 shaped l Aaaa = record { starts = refl; tails = refl; windows = refl }
-shaped l (Name m) = record { starts = refl; tails = refl; windows = refl }
+shaped l Time = record { starts = refl; tails = refl; windows = refl }
 shaped l Str = record { starts = refl; tails = refl; windows = refl }
+shaped l Base32 = record { starts = refl; tails = refl; windows = refl }
+shaped l Hexc = record { starts = refl; tails = refl; windows = refl }
+shaped l Bitmap = record { starts = refl; tails = refl; windows = refl }
 shaped l Strs = record { starts = refl; tails = refl; windows = refl }
 shaped l Raw = record { starts = refl; tails = refl; windows = refl }
-shaped l Base32 = record { starts = refl; tails = refl; windows = refl }
 shaped l Base64 = record { starts = refl; tails = refl; windows = refl }
 shaped l Hex = record { starts = refl; tails = refl; windows = refl }
-shaped l Hexc = record { starts = refl; tails = refl; windows = refl }
-shaped l (Eui w) = record { starts = refl; tails = refl; windows = refl }
-shaped l Time = record { starts = refl; tails = refl; windows = refl }
 
 pub not-windows : (k : Shape) → OneOf (0 ∷ 1 ∷ 2 ∷ 3 ∷ 4 ∷ []) (tagOf Rattle.stanza_form.proofs.Shape.the-type k) → isWindows k ≡ false
 not-windows Octets h = refl
@@ -137,61 +137,61 @@ except n = skipping n (0 ∷ 1 ∷ 2 ∷ 3 ∷ 4 ∷ 5 ∷ 6 ∷ 7 ∷ 8 ∷ 9 �
 abbrev pub Not : ℕ → Form → Type 0
 Not n f = OneOf (except n) (tagOf Rattle.stanza_form.proofs.Form.the-type f)
 
-pub one-form : (f : Form) → Not 2 f → Not 8 f → Not 11 f → Not 12 f → (l : List Symbol) → takesOne (ruleOf (kindOf l f)) ≡ true
+pub one-form : (f : Form) → Not 11 f → Not 12 f → Not 14 f → Not 15 f → (l : List Symbol) → takesOne (ruleOf (kindOf l f)) ≡ true
 one-form (Int w) p q r s l = refl
+one-form (Eui w) p q r s l = refl
+one-form (Name m) p q r s l = refl
 one-form Rrtype p q r s l = refl
-one-form Bitmap p q r s l = absurd (miss (except 2) 2 tt p)
 one-form Dotted p q r s l = refl
 one-form Aa p q r s l = refl
 one-form Aaaa p q r s l = refl
-one-form (Name m) p q r s l = refl
-one-form Str p q r s l = refl
-one-form Strs p q r s l = absurd (miss (except 8) 8 tt q)
-one-form Raw p q r s l = refl
-one-form Base32 p q r s l = refl
-one-form Base64 p q r s l = absurd (miss (except 11) 11 tt r)
-one-form Hex p q r s l = absurd (miss (except 12) 12 tt s)
-one-form Hexc p q r s l = refl
-one-form (Eui w) p q r s l = refl
 one-form Time p q r s l = refl
+one-form Str p q r s l = refl
+one-form Base32 p q r s l = refl
+one-form Hexc p q r s l = refl
+one-form Bitmap p q r s l = absurd (miss (except 11) 11 tt p)
+one-form Strs p q r s l = absurd (miss (except 12) 12 tt q)
+one-form Raw p q r s l = refl
+one-form Base64 p q r s l = absurd (miss (except 14) 14 tt r)
+one-form Hex p q r s l = absurd (miss (except 15) 15 tt s)
 
 -- "Only S fields take quoted tokens."
-pub only-strings : (f : Form) → Not 7 f → Not 9 f → (l : List Symbol) (o x : List ℕ) → valueBy (ruleOf (kindOf l f)) o (quoted x) ≡ none
+pub only-strings : (f : Form) → Not 8 f → Not 13 f → (l : List Symbol) (o x : List ℕ) → valueBy (ruleOf (kindOf l f)) o (quoted x) ≡ none
 only-strings (Int w) g h l o x = refl
+only-strings (Eui w) g h l o x = refl
+only-strings (Name m) g h l o x = refl
 only-strings Rrtype g h l o x = refl
-only-strings Bitmap g h l o x = refl
 only-strings Dotted g h l o x = refl
 only-strings Aa g h l o x = refl
 only-strings Aaaa g h l o x = refl
-only-strings (Name m) g h l o x = refl
-only-strings Str g h l o x = absurd (miss (except 7) 7 tt g)
-only-strings Strs g h l o x = refl
-only-strings Raw g h l o x = absurd (miss (except 9) 9 tt h)
+only-strings Time g h l o x = refl
+only-strings Str g h l o x = absurd (miss (except 8) 8 tt g)
 only-strings Base32 g h l o x = refl
+only-strings Hexc g h l o x = refl
+only-strings Bitmap g h l o x = refl
+only-strings Strs g h l o x = refl
+only-strings Raw g h l o x = absurd (miss (except 13) 13 tt h)
 only-strings Base64 g h l o x = refl
 only-strings Hex g h l o x = refl
-only-strings Hexc g h l o x = refl
-only-strings (Eui w) g h l o x = refl
-only-strings Time g h l o x = refl
 
 -- only a name may be missing
-pub none-missing : (f : Form) → Not 6 f → (l : List Symbol) → missingBy (ruleOf (kindOf l f)) ≡ noToken
+pub none-missing : (f : Form) → Not 2 f → (l : List Symbol) → missingBy (ruleOf (kindOf l f)) ≡ noToken
 none-missing (Int w) g l = refl
+none-missing (Eui w) g l = refl
+none-missing (Name m) g l = absurd (miss (except 2) 2 tt g)
 none-missing Rrtype g l = refl
-none-missing Bitmap g l = refl
 none-missing Dotted g l = refl
 none-missing Aa g l = refl
 none-missing Aaaa g l = refl
-none-missing (Name m) g l = absurd (miss (except 6) 6 tt g)
+none-missing Time g l = refl
 none-missing Str g l = refl
+none-missing Base32 g l = refl
+none-missing Hexc g l = refl
+none-missing Bitmap g l = refl
 none-missing Strs g l = refl
 none-missing Raw g l = refl
-none-missing Base32 g l = refl
 none-missing Base64 g l = refl
 none-missing Hex g l = refl
-none-missing Hexc g l = refl
-none-missing (Eui w) g l = refl
-none-missing Time g l = refl
 
 -- no rule has a value of a token with a fault
 pub none-of-broken : (r : Rule) (o : List ℕ) → valueBy r o broken ≡ none

@@ -26,7 +26,7 @@ use Rattle.stanza_words.specs.Qualifiers.{qualifiersIn}
 use Rattle.stanza_words.specs.declared.Words.{Words}
 use Rattle.stanza_words.specs.declared.Words.the-variants.{Nothing, OnR, OnN, OnS, OnX}
 use Rattle.stanza_form.specs.declared.Form.{Form}
-use Rattle.stanza_form.specs.declared.Form.the-variants.{Int, Rrtype, Bitmap, Dotted, Aa, Aaaa, Name, Str, Strs, Raw, Base32, Base64, Hex, Hexc, Eui, Time}
+use Rattle.stanza_form.specs.declared.Form.the-variants.{Int, Eui, Name, Rrtype, Dotted, Aa, Aaaa, Time, Str, Base32, Hexc, Bitmap, Strs, Raw, Base64, Hex}
 use Rattle.stanza_form.specs.declared.Shape.{Shape}
 use Rattle.stanza_form.specs.declared.Shape.the-variants.{Octets, Labels, Counted, Strings, Rest, Windows}
 use Rattle.stanza_form.specs.declared.FieldType.{FieldType}
@@ -39,40 +39,40 @@ optionalIn m = leb 8 m
 -- the kind of a form, with an integer's symbols
 abbrev pub kindOf : List Symbol → Form → Kind
 kindOf l (Int w) = int w l
+kindOf l (Eui w) = eui w
+kindOf l (Name m) = name (record { compressed = eqb (m % 2) 1; mailbox = eqb (m / 2 % 2) 1; lowerCase = eqb (m / 4 % 2) 1; optional = optionalIn m })
 kindOf l Rrtype = rrtype
-kindOf l Bitmap = bitmap
 kindOf l Dotted = a4
 kindOf l Aa = aa
 kindOf l Aaaa = aaaa
-kindOf l (Name m) = name (record { compressed = eqb (m % 2) 1; mailbox = eqb (m / 2 % 2) 1; lowerCase = eqb (m / 4 % 2) 1; optional = optionalIn m })
+kindOf l Time = time
 kindOf l Str = str
+kindOf l Base32 = b32
+kindOf l Hexc = hexc
+kindOf l Bitmap = bitmap
 kindOf l Strs = strs
 kindOf l Raw = raw
-kindOf l Base32 = b32
 kindOf l Base64 = b64
 kindOf l Hex = hex
-kindOf l Hexc = hexc
-kindOf l (Eui w) = eui w
-kindOf l Time = time
 
 -- the octets of an integer
 abbrev pub intWidth : Form → ℕ
 intWidth (Int w) = w
+intWidth (Eui w) = 0
+intWidth (Name m) = 0
 intWidth Rrtype = 0
-intWidth Bitmap = 0
 intWidth Dotted = 0
 intWidth Aa = 0
 intWidth Aaaa = 0
-intWidth (Name m) = 0
+intWidth Time = 0
 intWidth Str = 0
+intWidth Base32 = 0
+intWidth Hexc = 0
+intWidth Bitmap = 0
 intWidth Strs = 0
 intWidth Raw = 0
-intWidth Base32 = 0
 intWidth Base64 = 0
 intWidth Hex = 0
-intWidth Hexc = 0
-intWidth (Eui w) = 0
-intWidth Time = 0
 
 -- the symbols of an integer of w octets among the qualifiers from a to b
 abbrev pub symbolsIn : ℕ → List ℕ → ℕ → ℕ → Option (List Symbol)
@@ -89,40 +89,40 @@ kindIn s a b f = kindOf (orNone (symbolsIn (intWidth f) s a b)) f
 -- the shape of a form on the wire
 abbrev pub shapeOf : Form → Shape
 shapeOf (Int w) = Octets
+shapeOf (Eui w) = Octets
+shapeOf (Name m) = Labels
 shapeOf Rrtype = Octets
-shapeOf Bitmap = Windows
 shapeOf Dotted = Octets
 shapeOf Aa = Octets
 shapeOf Aaaa = Octets
-shapeOf (Name m) = Labels
+shapeOf Time = Octets
 shapeOf Str = Counted
+shapeOf Base32 = Counted
+shapeOf Hexc = Counted
+shapeOf Bitmap = Windows
 shapeOf Strs = Strings
 shapeOf Raw = Rest
-shapeOf Base32 = Counted
 shapeOf Base64 = Rest
 shapeOf Hex = Rest
-shapeOf Hexc = Counted
-shapeOf (Eui w) = Octets
-shapeOf Time = Octets
 
 -- what a form has beside its shape: how many octets, the least count, or the marks of a name
 abbrev pub parameterOf : Form → ℕ
 parameterOf (Int w) = w
+parameterOf (Eui w) = w
+parameterOf (Name m) = m
 parameterOf Rrtype = 2
-parameterOf Bitmap = 0
 parameterOf Dotted = 4
 parameterOf Aa = 8
 parameterOf Aaaa = 16
-parameterOf (Name m) = m
+parameterOf Time = 4
 parameterOf Str = 0
+parameterOf Base32 = 1
+parameterOf Hexc = 1
+parameterOf Bitmap = 0
 parameterOf Strs = 0
 parameterOf Raw = 0
-parameterOf Base32 = 1
 parameterOf Base64 = 0
 parameterOf Hex = 0
-parameterOf Hexc = 1
-parameterOf (Eui w) = w
-parameterOf Time = 4
 
 -- what they are by document 01: where a field stands before its first octet
 abbrev pub stageOf : Shape → ℕ → Stage
@@ -201,45 +201,45 @@ readBy r o (t ∷ ts) = gotOr (valueBy r o t) ts
 -- the number of a form in a code
 abbrev pub formNumber : Form → ℕ
 formNumber (Int w) = 0
-formNumber Rrtype = 1
-formNumber Bitmap = 2
-formNumber Dotted = 3
-formNumber Aa = 4
-formNumber Aaaa = 5
-formNumber (Name m) = 6
-formNumber Str = 7
-formNumber Strs = 8
-formNumber Raw = 9
-formNumber Base32 = 10
-formNumber Base64 = 11
-formNumber Hex = 12
-formNumber Hexc = 13
-formNumber (Eui w) = 14
-formNumber Time = 15
+formNumber (Eui w) = 1
+formNumber (Name m) = 2
+formNumber Rrtype = 3
+formNumber Dotted = 4
+formNumber Aa = 5
+formNumber Aaaa = 6
+formNumber Time = 7
+formNumber Str = 8
+formNumber Base32 = 9
+formNumber Hexc = 10
+formNumber Bitmap = 11
+formNumber Strs = 12
+formNumber Raw = 13
+formNumber Base64 = 14
+formNumber Hex = 15
 
 -- what a form holds, or 0
 abbrev pub heldBy : Form → ℕ
 heldBy (Int w) = w
+heldBy (Eui w) = w
+heldBy (Name m) = m
 heldBy Rrtype = 0
-heldBy Bitmap = 0
 heldBy Dotted = 0
 heldBy Aa = 0
 heldBy Aaaa = 0
-heldBy (Name m) = m
+heldBy Time = 0
 heldBy Str = 0
+heldBy Base32 = 0
+heldBy Hexc = 0
+heldBy Bitmap = 0
 heldBy Strs = 0
 heldBy Raw = 0
-heldBy Base32 = 0
 heldBy Base64 = 0
 heldBy Hex = 0
-heldBy Hexc = 0
-heldBy (Eui w) = w
-heldBy Time = 0
 
 -- the form of a number and a parameter; any number from 15 on is the last form's
 unfoldable pub formAt : ℕ → ℕ → Form
 formAt n p =
-    cond (eqb n 0) (Int p) (cond (eqb n 1) Rrtype (cond (eqb n 2) Bitmap (cond (eqb n 3) Dotted (cond (eqb n 4) Aa (cond (eqb n 5) Aaaa (cond (eqb n 6) (Name p) (cond (eqb n 7) Str (cond (eqb n 8) Strs (cond (eqb n 9) Raw (cond (eqb n 10) Base32 (cond (eqb n 11) Base64 (cond (eqb n 12) Hex (cond (eqb n 13) Hexc (cond (eqb n 14) (Eui p) (Time)))))))))))))))
+    cond (eqb n 0) (Int p) (cond (eqb n 1) (Eui p) (cond (eqb n 2) (Name p) (cond (eqb n 3) Rrtype (cond (eqb n 4) Dotted (cond (eqb n 5) Aa (cond (eqb n 6) Aaaa (cond (eqb n 7) Time (cond (eqb n 8) Str (cond (eqb n 9) Base32 (cond (eqb n 10) Hexc (cond (eqb n 11) Bitmap (cond (eqb n 12) Strs (cond (eqb n 13) Raw (cond (eqb n 14) Base64 Hex))))))))))))))
 
 -- the types that take words
 abbrev pub listed : Words → Takes

@@ -1,6 +1,6 @@
 // The forms of fields: the kinds of document 01 without their symbols. What is said of each form stands here: its shape on the wire,
 // its number in a code, and the word of its type.
-ghost use Prim.Native.Nat.{_≤_};
+ghost use Prim.Native.Nat.{_+_, _*_, _≤_};
 ghost use lib.ListN.{length};
 ghost use lib.Seq.{slice};
 ghost use mathlib.Core.Path.{_≡_};
@@ -10,24 +10,25 @@ ghost use Rattle.format.specs.Types.{typeRows, takesOf};
 ghost use Rattle.stanza_form.specs.Forms.{optionalIn, shapeOf, parameterOf, tailOf, formNumber, heldBy, formAt, takenBy, longer};
 ghost use Rattle.stanza_form.specs.Code.{fieldWith, fieldAt};
 
-// A form of field: with the octets of an integer or an EUI, or the marks C, A, L, O of a name, as 1, 2, 4, 8 in one octet.
+// A form of field. First those that hold an octet: how many octets an integer or an EUI has; the marks C, A, L, O of a name, as
+// 1, 2, 4, 8. The tails are last.
 pub enum Form {
     Int(u8),
+    Eui(u8),
+    Name(u8),
     Rrtype,
-    Bitmap,
     Dotted,
     Aa,
     Aaaa,
-    Name(u8),
+    Time,
     Str,
+    Base32,
+    Hexc,
+    Bitmap,
     Strs,
     Raw,
-    Base32,
     Base64,
     Hex,
-    Hexc,
-    Eui(u8),
-    Time,
 }
 
 // A field of a description: its form, and where its qualifiers and, as the judge finds it, its free text lie.
@@ -79,21 +80,21 @@ pub fn layout_of(f: Form) -> Layout
 {
     match f {
         Form::Int(w) => laid(Shape::Octets, w),
+        Form::Eui(w) => laid(Shape::Octets, w),
+        Form::Name(m) => laid(Shape::Labels, m),
         Form::Rrtype => laid(Shape::Octets, 2),
-        Form::Bitmap => laid(Shape::Windows, 0),
         Form::Dotted => laid(Shape::Octets, 4),
         Form::Aa => laid(Shape::Octets, 8),
         Form::Aaaa => laid(Shape::Octets, 16),
-        Form::Name(m) => laid(Shape::Labels, m),
+        Form::Time => laid(Shape::Octets, 4),
         Form::Str => laid(Shape::Counted, 0),
+        Form::Base32 => laid(Shape::Counted, 1),
+        Form::Hexc => laid(Shape::Counted, 1),
+        Form::Bitmap => laid(Shape::Windows, 0),
         Form::Strs => laid(Shape::Strings, 0),
         Form::Raw => laid(Shape::Rest, 0),
-        Form::Base32 => laid(Shape::Counted, 1),
         Form::Base64 => laid(Shape::Rest, 0),
         Form::Hex => laid(Shape::Rest, 0),
-        Form::Hexc => laid(Shape::Counted, 1),
-        Form::Eui(w) => laid(Shape::Octets, w),
-        Form::Time => laid(Shape::Octets, 4),
     }
 }
 
@@ -119,21 +120,21 @@ fn number_of(f: Form) -> u8
 {
     match f {
         Form::Int(w) => 0,
-        Form::Rrtype => 1,
-        Form::Bitmap => 2,
-        Form::Dotted => 3,
-        Form::Aa => 4,
-        Form::Aaaa => 5,
-        Form::Name(m) => 6,
-        Form::Str => 7,
-        Form::Strs => 8,
-        Form::Raw => 9,
-        Form::Base32 => 10,
-        Form::Base64 => 11,
-        Form::Hex => 12,
-        Form::Hexc => 13,
-        Form::Eui(w) => 14,
-        Form::Time => 15,
+        Form::Eui(w) => 1,
+        Form::Name(m) => 2,
+        Form::Rrtype => 3,
+        Form::Dotted => 4,
+        Form::Aa => 5,
+        Form::Aaaa => 6,
+        Form::Time => 7,
+        Form::Str => 8,
+        Form::Base32 => 9,
+        Form::Hexc => 10,
+        Form::Bitmap => 11,
+        Form::Strs => 12,
+        Form::Raw => 13,
+        Form::Base64 => 14,
+        Form::Hex => 15,
     }
 }
 
@@ -143,21 +144,21 @@ fn held_by(f: Form) -> u8
 {
     match f {
         Form::Int(w) => w,
+        Form::Eui(w) => w,
+        Form::Name(m) => m,
         Form::Rrtype => 0,
-        Form::Bitmap => 0,
         Form::Dotted => 0,
         Form::Aa => 0,
         Form::Aaaa => 0,
-        Form::Name(m) => m,
+        Form::Time => 0,
         Form::Str => 0,
+        Form::Base32 => 0,
+        Form::Hexc => 0,
+        Form::Bitmap => 0,
         Form::Strs => 0,
         Form::Raw => 0,
-        Form::Base32 => 0,
         Form::Base64 => 0,
         Form::Hex => 0,
-        Form::Hexc => 0,
-        Form::Eui(w) => w,
-        Form::Time => 0,
     }
 }
 
@@ -167,21 +168,21 @@ fn form_at(n: u8, p: u8) -> Form
 {
     match n {
         0 => Form::Int(p),
-        1 => Form::Rrtype,
-        2 => Form::Bitmap,
-        3 => Form::Dotted,
-        4 => Form::Aa,
-        5 => Form::Aaaa,
-        6 => Form::Name(p),
-        7 => Form::Str,
-        8 => Form::Strs,
-        9 => Form::Raw,
-        10 => Form::Base32,
-        11 => Form::Base64,
-        12 => Form::Hex,
-        13 => Form::Hexc,
-        14 => Form::Eui(p),
-        _ => Form::Time,
+        1 => Form::Eui(p),
+        2 => Form::Name(p),
+        3 => Form::Rrtype,
+        4 => Form::Dotted,
+        5 => Form::Aa,
+        6 => Form::Aaaa,
+        7 => Form::Time,
+        8 => Form::Str,
+        9 => Form::Base32,
+        10 => Form::Hexc,
+        11 => Form::Bitmap,
+        12 => Form::Strs,
+        13 => Form::Raw,
+        14 => Form::Base64,
+        _ => Form::Hex,
     }
 }
 
