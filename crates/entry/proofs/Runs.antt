@@ -16,13 +16,13 @@ use Rattle.format.specs.Demands.{tailsLast, soundKind, Sound}
 use Rattle.format.proofs.Lists.{and-left, and-right}
 use Rattle.format.proofs.Judge.{judges}
 use Rattle.format.proofs.Demands.{run-fit}
-use Rattle.stanza_types.specs.declared.FieldDesc.{FieldDesc}
+use Rattle.stanza_form.specs.declared.FieldDesc.{FieldDesc}
 use Rattle.stanza_judge.specs.declared.Outline.{Outline}
-use Rattle.stanza_types.specs.Fields.{noField}
-use Rattle.stanza_code.specs.Code.{fieldsOf}
+use Rattle.stanza_form.specs.Fields.{noField}
+use Rattle.stanza_form.specs.Code.{fieldsOf}
 use Rattle.stanza_judge.specs.Stanza.{Outlined}
 use Rattle.run_wire.specs.Run.{kindsFrom, UsableRun}
-use Rattle.stanza_types.specs.Fields.{kindFor}
+use Rattle.stanza_form.specs.Fields.{kindFor}
 use Rattle.run_wire.proofs.Laws.{kinds-from, kinds-many, kinds-run}
 use Rattle.entry.proofs.Laws.{accepted, accepted-count}
 

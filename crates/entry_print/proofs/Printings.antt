@@ -2,32 +2,27 @@
 use Prim.Native.Nat.{ℕ, zero, suc, _+_, _-_, _*_, _≤_, _<_}
 use mathlib.Core.Path.{_≡_, refl, sym, ap, _∙_, subst}
 use mathlib.Core.Bool.{Bool, true, false, _&&_, true≢false}
-use mathlib.Core.List.{List, [], _∷_}
+use mathlib.Core.List.{List}
 use native.Mathlib.Omega.{arith}
 use lib.ListN.{length, getD}
 use lib.Dec.{leb}
 use borrow.Author.Tests.{le-leb, lt-leb}
 use Rattle.format.specs.Lists.{anyOf, allOf}
 use Rattle.format.specs.Octets.{Octets}
-use Rattle.format.specs.Field.{Symbol, Kind, tail}
+use Rattle.format.specs.Field.{Kind, tail}
 use Rattle.format.specs.Run.{shown, refused, parts, partsOf, textOfParts, textOf}
 use Rattle.format.specs.Entries.{done, refusal, printing}
 use Rattle.format.specs.Demands.{tailsLast, soundKind}
 use Rattle.format.proofs.Field.{isBitmap}
 use Rattle.format.proofs.Run.{no-tail}
 use Rattle.format.proofs.Bound.{tail-bitmap, plain-within, text-within}
-use denote.Enum.Declared.{tagOf}
-use types.Run.{OneOf, miss}
-use Rattle.stanza_types.specs.declared.Form.{Form}
-use Rattle.stanza_types.specs.declared.Form.the-variants.{Int, Rrtype, Bitmap, Dotted, Aa, Aaaa, Name, Str, Strs, Raw, Base32, Base64, Hex, Hexc, Eui, Time}
-use Rattle.stanza_types.specs.Types.{kindOf}
-use Rattle.stanza_types.specs.declared.FieldDesc.{FieldDesc}
+use Rattle.stanza_form.specs.declared.FieldDesc.{FieldDesc}
 use Rattle.stanza_judge.specs.declared.Outline.{Outline}
-use Rattle.stanza_types.specs.Fields.{noField}
-use Rattle.stanza_code.specs.Code.{fieldsOf}
+use Rattle.stanza_form.specs.Fields.{noField}
+use Rattle.stanza_form.specs.Code.{fieldsOf}
 use Rattle.stanza_judge.specs.Stanza.{Outlined}
 use Rattle.run_wire.specs.Run.{kindsFrom}
-use Rattle.stanza_types.specs.Fields.{kindFor}
+use Rattle.stanza_form.specs.Fields.{kindFor}
 use Rattle.run_wire.proofs.Laws.{kinds-many}
 use Rattle.run_print.specs.Printing.{Accepted}
 use Rattle.entry.specs.Entries.{runText}
@@ -110,25 +105,6 @@ module _ {s codes : List ℕ} {o : Outline} (q : Outlined s codes o) where
         → printing s first many xs ≡ runText (kindsFrom s (fieldsOf codes) (first - 1) many) xs
     unfolding printing
     print-runs first many r xs h = rw (le-leb (length xs) 65535 h, accepted q n, kinds-length q n, ← r, run-kinds q n first many r)
-
--- any other form than R[L]
-pub other-form : (f : Form) → OneOf (0 ∷ 1 ∷ 3 ∷ 4 ∷ 5 ∷ 6 ∷ 7 ∷ 8 ∷ 9 ∷ 10 ∷ 11 ∷ 12 ∷ 13 ∷ 14 ∷ 15 ∷ []) (tagOf Rattle.stanza_types.proofs.Form.the-type f) → (l : List Symbol) → isBitmap (kindOf l f) ≡ false
-other-form (Int w) h l = refl
-other-form Rrtype h l = refl
-other-form Bitmap h l = absurd (miss (0 ∷ 1 ∷ 3 ∷ 4 ∷ 5 ∷ 6 ∷ 7 ∷ 8 ∷ 9 ∷ 10 ∷ 11 ∷ 12 ∷ 13 ∷ 14 ∷ 15 ∷ []) 2 tt h)
-other-form Dotted h l = refl
-other-form Aa h l = refl
-other-form Aaaa h l = refl
-other-form (Name m) h l = refl
-other-form Str h l = refl
-other-form Strs h l = refl
-other-form Raw h l = refl
-other-form Base32 h l = refl
-other-form Base64 h l = refl
-other-form Hex h l = refl
-other-form Hexc h l = refl
-other-form (Eui w) h l = refl
-other-form Time h l = refl
 
 -- the room that a text needs: 0 if it fits, else its length
 pub fitting-needs : (room : ℕ) (t : List ℕ) → length t ≤ room → length t ≤ 1048576 → Needs room 0 t

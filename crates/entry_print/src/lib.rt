@@ -8,14 +8,14 @@ ghost use Rattle.format.specs.Octets.{Octets};
 ghost use Rattle.format.specs.Entries;
 ghost use Rattle.format.specs.Entries.{done};
 ghost use Rattle.format.specs.Run.{textOf};
-ghost use Rattle.stanza_code.specs.Code.{fieldsOf};
+ghost use Rattle.stanza_form.specs.Code.{fieldsOf};
 ghost use Rattle.run_wire.specs.Run.{kindsFrom, UsableRun};
 ghost use Rattle.run_print.specs.Printing.{Accepted};
 ghost use Rattle.entry.specs.Entries.{Leaves, withRoom, runText};
 ghost use Rattle.entry_print.specs.Needs.{Needs};
 use entry::Reply;
 use run_wire::Checked;
-use stanza_types::Form;
+use stanza_form::Shape;
 
 // Whether the text of `octets` octets surely fits the room: except for R[L], an octet prints as at most 4, and a field adds at
 // most 64. If this denies it, the text is measured.
@@ -29,9 +29,11 @@ fn surely_fits(codes: &[u64; 64], first: usize, many: usize, octets: usize, room
     if room < 4 * octets + 64 * many {
         return false;
     }
-    let d = stanza_code::field(codes[first + many - 1]);
+    let d = stanza_form::field(codes[first + many - 1]);
     let f = d.form;
-    if let Form::Bitmap = f {
+    let y = stanza_form::layout_of(f);
+    let k = y.shape;
+    if let Shape::Windows = k {
         return false;
     }
     true

@@ -11,7 +11,7 @@ use borrow.Author.Tests.{le-leb, lt-leb}
 use Rattle.format.specs.Wire.{labelLength, taken, takesAll}
 use Rattle.format.specs.Name.{isWireName}
 use Rattle.format.specs.Entries.{refusal, reading}
-use Rattle.stanza_code.specs.Code.{fieldsOf}
+use Rattle.stanza_form.specs.Code.{fieldsOf}
 use Rattle.stanza_judge.specs.declared.Outline.{Outline}
 use Rattle.stanza_judge.specs.Stanza.{Outlined}
 use Rattle.run_wire.specs.Run.{kindsFrom}

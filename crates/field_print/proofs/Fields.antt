@@ -11,10 +11,10 @@ use Rattle.format.specs.Wire.{count, labelLength, took, taken}
 use Rattle.format.specs.Field.{anyOctets, start}
 use Rattle.format.proofs.Wire.{at-end, octets-taken}
 use Rattle.octets.proofs.Slices.{none as nothing}
-use Rattle.stanza_types.specs.declared.Form.the-variants.{Int}
-use Rattle.stanza_types.specs.declared.FieldDesc.{FieldDesc}
-use Rattle.stanza_types.specs.Fields.{kindFor, Usable}
-use Rattle.stanza_types.proofs.Fields.{int-some}
+use Rattle.stanza_form.specs.declared.Form.the-variants.{Int}
+use Rattle.stanza_form.specs.declared.FieldDesc.{FieldDesc}
+use Rattle.stanza_form.specs.Fields.{kindFor, Usable}
+use Rattle.stanza_form.proofs.Fields.{int-some}
 
 -- w octets of any value
 pub octets-wide : (p : List ℕ) (i e w : ℕ) → i ≤ e → e ≤ length p → 1 ≤ w → taken (anyOctets w) (slice i e p) ≡ took (e - i) → e ≡ i + w

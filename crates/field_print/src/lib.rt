@@ -8,11 +8,11 @@ ghost use Rattle.format.specs.Wire.{taken, took};
 ghost use Rattle.format.specs.Field.{Symbol, start};
 ghost use Rattle.format.specs.Run.{shown};
 ghost use Rattle.buffer.specs.Writing.{Wrote};
-ghost use Rattle.stanza_types.specs.Types.{kindOf};
-ghost use Rattle.stanza_types.specs.Fields.{kindFor, Usable};
+ghost use Rattle.stanza_form.specs.Forms.{kindOf};
+ghost use Rattle.stanza_form.specs.Fields.{kindFor, Usable};
 use field_wire::Take;
-use stanza_types::FieldDesc;
-use stanza_types::Form;
+use stanza_form::FieldDesc;
+use stanza_form::Form;
 
 // Writes the text of the field in p from i to e, at the start of the buffer.
 pub fn put_field(out: &mut [u8], d: FieldDesc, s: &[u8], p: &[u8], i: usize, e: usize) -> usize

@@ -1,10 +1,8 @@
 -- What the code's answer for a field means, by the definitions of document 01.
 use Prim.Native.Nat.{ℕ, _<_, _≤_}
 use mathlib.Core.Path.{_≡_}
-use mathlib.Core.Bool.{Bool, true, false}
 use mathlib.Core.List.{List}
 use lib.ListN.{length, drop}
-use Rattle.format.specs.Field.{Kind, int, rrtype, bitmap, a4, aa, aaaa, name, str, strs, raw, b32, b64, hex, hexc, eui, time}
 use Rattle.format.specs.Token.{tokens}
 use Rattle.format.specs.Run.{Got, noToken, badToken, got}
 use Rattle.buffer.specs.Writing.{Wrote}
@@ -14,25 +12,6 @@ use Rattle.base.specs.declared.read.Got.{Got as Rest}
 use Rattle.base.specs.declared.read.Got.the-variants.{Missing as NoToken, Fault as BadToken, Upto as RestUpto}
 use Rattle.field_read.specs.declared.Field.{Field}
 use Rattle.field_read.specs.declared.Field.the-variants.{Missing, Fault, Upto}
-
--- "other tails all that are left"
-abbrev pub takesOne : Kind → Bool
-takesOne (int w l) = true
-takesOne rrtype = true
-takesOne bitmap = false
-takesOne a4 = true
-takesOne aa = true
-takesOne aaaa = true
-takesOne (name m) = true
-takesOne str = true
-takesOne strs = false
-takesOne raw = true
-takesOne b32 = true
-takesOne b64 = false
-takesOne hex = false
-takesOne hexc = true
-takesOne (eui w) = true
-takesOne time = true
 
 -- a reader's answer, with the tokens from j on left
 abbrev pub placedAt : Value → ℕ → Field

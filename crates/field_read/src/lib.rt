@@ -11,15 +11,15 @@ ghost use Rattle.format.specs.Token.{tokens};
 ghost use Rattle.format.specs.Name.{isWireName};
 ghost use Rattle.format.specs.Run.{readField, oneToken};
 ghost use Rattle.format.specs.Text.{readString};
-ghost use Rattle.stanza_types.specs.Types.{kindOf};
-ghost use Rattle.stanza_types.specs.Fields.{kindFor, Usable};
-ghost use Rattle.field_read.specs.Fields.{takesOne, placedAt, gotAt, Gives, Onward};
+ghost use Rattle.stanza_form.specs.Forms.{kindOf, ruleOf, takesOne};
+ghost use Rattle.stanza_form.specs.Fields.{kindFor, Usable};
+ghost use Rattle.field_read.specs.Fields.{placedAt, gotAt, Gives, Onward};
 use base::read::Got;
 use base::read::base64_rest;
 use base::read::hex_rest;
 use buffer::Value;
-use stanza_types::FieldDesc;
-use stanza_types::Form;
+use stanza_form::FieldDesc;
+use stanza_form::Form;
 use tokens::Next;
 use tokens::next_token;
 
@@ -43,10 +43,10 @@ fn before(v: Value, j: usize) -> Field
 
 // The answer if no token is left: only N[O] may take none.
 fn none_left(f: Form, n: usize, i: usize) -> Field
-    ensures { λ r. ⌜ ((b t : List ℕ) (l : List Symbol) (o : List ℕ) → i ≤ length t → tokens (drop i t) ≡ [] → takesOne (kindOf l f) ≡ true → Gives b b n t r (readField (kindOf l f) o [])) ⌝ }
+    ensures { λ r. ⌜ ((b t : List ℕ) (l : List Symbol) (o : List ℕ) → i ≤ length t → tokens (drop i t) ≡ [] → takesOne (ruleOf (kindOf l f)) ≡ true → Gives b b n t r (readField (kindOf l f) o [])) ⌝ }
 {
     if let Form::Name(m) = f {
-        if 8 <= m {
+        if stanza_form::is_optional(m) {
             return Field::Upto(n, i);
         }
     }
@@ -63,7 +63,7 @@ fn one_token(
     t: &[u8],
     i: usize,
 ) -> Field
-    requires { ⌜ (n < 2 ^ 30) × Usable (now s) d × (length (now s) ≤ 8192) × (isWireName (now origin) ≡ true) × (i ≤ length (now t)) × (length (now t) ≤ 1048576) × (takesOne (kindFor (now s) d) ≡ true) ⌝ }
+    requires { ⌜ (n < 2 ^ 30) × Usable (now s) d × (length (now s) ≤ 8192) × (isWireName (now origin) ≡ true) × (i ≤ length (now t)) × (length (now t) ≤ 1048576) × (takesOne (ruleOf (kindFor (now s) d)) ≡ true) ⌝ }
     ensures { λ r. ⌜ Gives (now (out .entry)) (now (out .exit)) n (now (t .entry)) r (readField (kindFor (now (s .entry)) d) (now (origin .entry)) (tokens (drop i (now (t .entry))))) ⌝ }
 {
     let f = d.form;

@@ -8,13 +8,12 @@ ghost use lib.Seq.{slice};
 ghost use Rattle.format.specs.Field.{Symbol};
 ghost use Rattle.format.specs.Token.{bare, quoted};
 ghost use Rattle.format.specs.Name.{isWireName};
-ghost use Rattle.stanza_types.specs.Types.{kindOf};
+ghost use Rattle.stanza_form.specs.Forms.{kindOf, ruleOf, valueBy};
 ghost use Rattle.buffer.specs.Writing.{Values};
-ghost use Rattle.stanza_types.specs.Fields.{kindFor, Usable};
-ghost use Rattle.field_read.specs.Values.{tokenValue};
+ghost use Rattle.stanza_form.specs.Fields.{kindFor, Usable};
 use buffer::Value;
-use stanza_types::FieldDesc;
-use stanza_types::Form;
+use stanza_form::FieldDesc;
+use stanza_form::Form;
 
 // Reads the value of a bare token.
 pub fn of_bare(
@@ -28,7 +27,7 @@ pub fn of_bare(
     e: usize,
 ) -> Value
     requires { ⌜ (n < 2 ^ 30) × Usable (now s) d × (length (now s) ≤ 8192) × (isWireName (now origin) ≡ true) × (a ≤ e) × (e ≤ length (now t)) × (length (now t) ≤ 1048576) ⌝ }
-    ensures { λ r. ⌜ Values (now (out .entry)) (now (out .exit)) n r (tokenValue (kindFor (now (s .entry)) d) (now (origin .entry)) (bare (slice a e (now (t .entry))))) ⌝ }
+    ensures { λ r. ⌜ Values (now (out .entry)) (now (out .exit)) n r (valueBy (ruleOf (kindFor (now (s .entry)) d)) (now (origin .entry)) (bare (slice a e (now (t .entry))))) ⌝ }
 {
     let f = d.form;
     let i = d.qualifiers_at as usize;
@@ -56,7 +55,7 @@ pub fn of_bare(
 // Reads the value of a quoted token, which only strings may have.
 pub fn of_quoted(out: &mut [u8], n: usize, f: Form, t: &[u8], a: usize, e: usize) -> Value
     requires { ⌜ (n < 2 ^ 30) × (a ≤ e) × (e ≤ length (now t)) × (length (now t) ≤ 1048576) ⌝ }
-    ensures { λ r. ⌜ ((l : List Symbol) (o : List ℕ) → Values (now (out .entry)) (now (out .exit)) n r (tokenValue (kindOf l f) o (quoted (slice a e (now (t .entry)))))) ⌝ }
+    ensures { λ r. ⌜ ((l : List Symbol) (o : List ℕ) → Values (now (out .entry)) (now (out .exit)) n r (valueBy (ruleOf (kindOf l f)) o (quoted (slice a e (now (t .entry)))))) ⌝ }
 {
     if let Form::Str = f {
         return text::read::string(out, n, t, a, e, true);

@@ -7,9 +7,10 @@ ghost use mathlib.Core.Bool.{false};
 ghost use mathlib.Core.List.{List};
 ghost use Rattle.format.specs.Wire.{taken, count, labelLength, toTheEnd, stringCount, window};
 ghost use Rattle.format.specs.Field.{Symbol, anyOctets, start};
-ghost use Rattle.stanza_types.specs.Types.{kindOf};
+ghost use Rattle.stanza_form.specs.Forms.{kindOf};
 ghost use Rattle.field_wire.specs.Wire.{takenIn};
-use stanza_types::Form;
+use stanza_form::Form;
+use stanza_form::Shape;
 
 // What a field takes: octets are absent; one breaks its rule; or it takes a number of octets.
 pub enum Take {
@@ -153,33 +154,20 @@ fn width(w: u8) -> usize
     w as usize
 }
 
-// Takes a field of the form f.
+// The field of a form, by its shape.
 pub fn take_field(f: Form, s: &[u8], i: usize, e: usize) -> Take
     requires { ⌜ (i ≤ e) × (e ≤ length (now s)) ⌝ }
     ensures { λ r. ⌜ ((l : List Symbol) → takenIn r ≡ taken (start (kindOf l f)) (slice i e (now (s .entry)))) ⌝ }
 {
-    match f {
-        Form::Int(w) => {
-            let n = width(w);
-            octets(i, e, n)
-        }
-        Form::Rrtype => octets(i, e, 2),
-        Form::Bitmap => bitmap(s, i, e),
-        Form::Dotted => octets(i, e, 4),
-        Form::Aa => octets(i, e, 8),
-        Form::Aaaa => octets(i, e, 16),
-        Form::Name(m) => name(s, i, e, 8 <= m),
-        Form::Str => counted(s, i, e, 0),
-        Form::Strs => strings(s, i, e),
-        Form::Raw => rest(i, e),
-        Form::Base32 => counted(s, i, e, 1),
-        Form::Base64 => rest(i, e),
-        Form::Hex => rest(i, e),
-        Form::Hexc => counted(s, i, e, 1),
-        Form::Eui(w) => {
-            let n = width(w);
-            octets(i, e, n)
-        }
-        Form::Time => octets(i, e, 4),
+    let y = stanza_form::layout_of(f);
+    let k = y.shape;
+    let p = y.parameter;
+    match k {
+        Shape::Octets => octets(i, e, width(p)),
+        Shape::Labels => name(s, i, e, stanza_form::is_optional(p)),
+        Shape::Counted => counted(s, i, e, p),
+        Shape::Strings => strings(s, i, e),
+        Shape::Rest => rest(i, e),
+        Shape::Windows => bitmap(s, i, e),
     }
 }

@@ -20,7 +20,7 @@ use Rattle.octets.specs.Octets.{partIn, frontEnd}
 use Rattle.octets.proofs.Slices.{front-within}
 use Rattle.stanza_words.specs.Qualifiers.{piecesIn}
 use Rattle.stanza_words.proofs.Laws.{begins, named, notComma, last-piece, next-piece}
-use Rattle.stanza_types.specs.Types.{symbolsIn}
+use Rattle.stanza_form.specs.Forms.{symbolsIn}
 use Rattle.number.specs.Symbols.{firstOf, firstIn, ifSymbol, nameFor, valueFor}
 
 -- the next piece, and the last

@@ -10,7 +10,7 @@ ghost use Rattle.format.specs.Grammar.{qualifier};
 ghost use Rattle.format.specs.Number.{symbolOrDecimal};
 ghost use Rattle.octets.specs.Octets.{partIn};
 ghost use Rattle.buffer.specs.Writing.{Wrote};
-ghost use Rattle.stanza_types.specs.Types.{symbolsIn};
+ghost use Rattle.stanza_form.specs.Forms.{symbolsIn};
 ghost use Rattle.number.specs.Symbols.{firstIn, ifSymbol, nameFor, spelled, Before};
 use octets::Class;
 use stanza_words::Found;

@@ -9,7 +9,7 @@ ghost use Rattle.format.specs.Field.{Symbol};
 ghost use Rattle.format.specs.Grammar.{qualifier};
 ghost use Rattle.format.specs.Number.{decimalOf, below, symbolValue, readInteger};
 ghost use Rattle.octets.specs.Octets.{partIn, numberOf};
-ghost use Rattle.stanza_types.specs.Types.{symbolsIn};
+ghost use Rattle.stanza_form.specs.Forms.{symbolsIn};
 ghost use Rattle.buffer.specs.Writing.{Values};
 ghost use Rattle.number.specs.Numbers.{octetsOf, integerOf};
 ghost use Rattle.number.specs.Symbols.{firstIn, ifSymbol, valueFor};

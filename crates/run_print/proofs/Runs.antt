@@ -13,13 +13,13 @@ use Rattle.format.proofs.Wire.{fits, alone}
 use Rattle.format.proofs.Fields.{field-laws}
 use Rattle.format.proofs.Bound.{cap-most}
 use Rattle.octets.proofs.Slices.{lent}
-use Rattle.stanza_types.specs.Types.{kindOf, intWidth, symbolsIn, orNone}
-use Rattle.stanza_types.specs.declared.FieldDesc.{FieldDesc}
-use Rattle.stanza_types.specs.Fields.{noField}
+use Rattle.stanza_form.specs.Forms.{kindOf, intWidth, symbolsIn, orNone}
+use Rattle.stanza_form.specs.declared.FieldDesc.{FieldDesc}
+use Rattle.stanza_form.specs.Fields.{noField}
 use Rattle.buffer.specs.Writing.{Wrote}
 use Rattle.buffer.proofs.Laws.{Left, left-piece, wrote-before}
 use Rattle.run_wire.specs.Run.{kindsFrom}
-use Rattle.stanza_types.specs.Fields.{kindFor, Usable}
+use Rattle.stanza_form.specs.Fields.{kindFor, Usable}
 use Rattle.run_wire.proofs.Laws.{next-kind, no-kind}
 use Rattle.run_print.specs.Printing.{lead}
 use Rattle.format.proofs.Run.{First, took-first, first, more}

@@ -4,7 +4,7 @@ use mathlib.Core.Path.{_≡_}
 use mathlib.Core.List.{List, [], _∷_}
 use lib.ListN.{length}
 use Rattle.format.specs.Run.{parts, partsOf}
-use Rattle.stanza_types.specs.declared.FieldDesc.{FieldDesc}
+use Rattle.stanza_form.specs.declared.FieldDesc.{FieldDesc}
 use Rattle.run_wire.specs.Run.{kindsFrom, UsableRun}
 
 -- a run of a judged stanza, and octets that it takes

@@ -7,11 +7,11 @@ ghost use Rattle.format.specs.Wire.{taken, took};
 ghost use Rattle.format.specs.Field.{start};
 ghost use Rattle.format.specs.Run.{shown, textOf};
 ghost use Rattle.buffer.specs.Writing.{Wrote};
-ghost use Rattle.stanza_code.specs.Code.{fieldsOf};
+ghost use Rattle.stanza_form.specs.Code.{fieldsOf};
 ghost use Rattle.run_wire.specs.Run.{kindsFrom};
-ghost use Rattle.stanza_types.specs.Fields.{kindFor, Usable};
+ghost use Rattle.stanza_form.specs.Fields.{kindFor, Usable};
 ghost use Rattle.run_print.specs.Printing.{Accepted, lead};
-use stanza_types::FieldDesc;
+use stanza_form::FieldDesc;
 
 // Writes the text of a field after `at` octets of text, with a space between them if neither is empty.
 fn put_next(
@@ -54,7 +54,7 @@ pub fn put_run(
     let mut i = 0;
     let mut k = 0;
     while k < many {
-        let d = stanza_code::field(codes[first + k]);
+        let d = stanza_form::field(codes[first + k]);
         let form = d.form;
         let e = i + field_print::width(form, p, i);
         at = put_next(out, at, d, s, p, i, e);

@@ -7,7 +7,7 @@ ghost use Rattle.format.specs.Lists.{null};
 ghost use Rattle.format.specs.Token.{tokens};
 ghost use Rattle.format.specs.Name.{isWireName};
 ghost use Rattle.format.specs.Run.{readField, readRun};
-ghost use Rattle.stanza_code.specs.Code.{fieldsOf};
+ghost use Rattle.stanza_form.specs.Code.{fieldsOf};
 ghost use Rattle.run_wire.specs.Run.{kindsFrom, UsableRun};
 ghost use Rattle.run_read.specs.Reading.{Reads};
 use field_read::Field;
@@ -51,7 +51,7 @@ pub fn read_run(
     let mut i = 0;
     let mut k = 0;
     while k < many {
-        let d = stanza_code::field(codes[first + k]);
+        let d = stanza_form::field(codes[first + k]);
         let r = field_read::read_field(out, n, d, s, origin, t, i);
         match r {
             Field::Missing => {

@@ -11,14 +11,14 @@ use Rattle.format.specs.Run.{refused, parts, withFirst, partsOf}
 use Rattle.format.proofs.Lists.{to-end}
 use Rattle.format.proofs.Wire.{fits}
 use Rattle.format.proofs.Run.{more}
-use Rattle.stanza_types.specs.declared.FieldDesc.{FieldDesc}
-use Rattle.stanza_types.specs.Fields.{noField, fieldsFrom}
-use Rattle.stanza_types.specs.Types.{kindOf, intWidth, symbolsIn, orNone}
+use Rattle.stanza_form.specs.declared.FieldDesc.{FieldDesc}
+use Rattle.stanza_form.specs.Fields.{noField, fieldsFrom}
+use Rattle.stanza_form.specs.Forms.{kindOf, intWidth, symbolsIn, orNone}
 use Rattle.field_wire.specs.declared.Take.{Take}
 use Rattle.field_wire.specs.declared.Take.the-variants.{Short, Bad, Took}
 use Rattle.field_wire.specs.Wire.{takenIn}
 use Rattle.run_wire.specs.Run.{kindsFrom}
-use Rattle.stanza_types.specs.Fields.{kindFor}
+use Rattle.stanza_form.specs.Fields.{kindFor}
 
 -- the kinds of a stanza's fields, and of a run of them
 module _ (s : List ℕ) (fs : List FieldDesc) where

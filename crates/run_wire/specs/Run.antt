@@ -7,8 +7,8 @@ use lib.ListN.{length, getD}
 use Rattle.format.specs.Field.{Kind}
 use Rattle.format.specs.Run.{refused, parts, partsOf}
 use Rattle.format.specs.Demands.{tailsLast}
-use Rattle.stanza_types.specs.declared.FieldDesc.{FieldDesc}
-use Rattle.stanza_types.specs.Fields.{noField, kindFor, Usable}
+use Rattle.stanza_form.specs.declared.FieldDesc.{FieldDesc}
+use Rattle.stanza_form.specs.Fields.{noField, kindFor, Usable}
 use Rattle.run_wire.specs.declared.Checked.{Checked}
 use Rattle.run_wire.specs.declared.Checked.the-variants.{Good, Refused}
 

@@ -2,7 +2,7 @@
 ghost use Prim.Native.Nat.{ℕ, _+_, _≤_};
 ghost use mathlib.Core.List.{List};
 ghost use lib.ListN.{length};
-ghost use Rattle.stanza_code.specs.Code.{fieldsOf};
+ghost use Rattle.stanza_form.specs.Code.{fieldsOf};
 ghost use Rattle.run_wire.specs.Run.{kindsFrom, Checks};
 use field_wire::Take;
 
@@ -20,7 +20,7 @@ pub fn check(codes: &[u64; 64], first: usize, many: usize, p: &[u8]) -> Checked
     let mut k = 0;
     let mut at = 0;
     while k < many {
-        let d = stanza_code::field(codes[first + k]);
+        let d = stanza_form::field(codes[first + k]);
         let form = d.form;
         let t = field_wire::take_field(form, p, at, p.len());
         match t {

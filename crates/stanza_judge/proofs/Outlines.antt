@@ -22,11 +22,11 @@ use Rattle.octets.specs.Octets.{inClass, lineEnd, partIn}
 use Rattle.octets.specs.declared.Class.the-variants.{NotNewline}
 use Rattle.octets.proofs.Slices.{front-within}
 use Rattle.octets.proofs.Lines.{linesFrom, next-line, no-line}
-use Rattle.stanza_types.specs.declared.FieldDesc.{FieldDesc}
-use Rattle.stanza_types.specs.Types.{kindIn}
-use Rattle.stanza_types.specs.Fields.{fieldOf, Placed, noField, fieldsFrom}
-use Rattle.stanza_code.specs.Code.{fieldsOf}
-use Rattle.stanza_code.proofs.Codes.{withoutText, withoutTexts, coded-at}
+use Rattle.stanza_form.specs.declared.FieldDesc.{FieldDesc}
+use Rattle.stanza_form.specs.Forms.{kindIn}
+use Rattle.stanza_form.specs.Fields.{fieldOf, Placed, noField, fieldsFrom}
+use Rattle.stanza_form.specs.Code.{fieldsOf}
+use Rattle.stanza_form.proofs.Codes.{withoutText, withoutTexts, coded-at}
 use Rattle.stanza_line.specs.declared.HeaderDesc.{HeaderDesc}
 use Rattle.stanza_line.specs.declared.NewField.{NewField}
 use Rattle.stanza_line.specs.declared.Step.{Step}

@@ -7,9 +7,9 @@ use lib.ListN.{length, getD}
 use lib.Dec.{eqb}
 use Rattle.format.specs.Field.{kinds}
 use Rattle.format.specs.Judge.{Description, Judged, rejected, described, judged}
-use Rattle.stanza_types.specs.declared.FieldDesc.{FieldDesc}
-use Rattle.stanza_types.specs.Fields.{Placed, noField, fieldsFrom}
-use Rattle.stanza_code.specs.Code.{fieldsOf}
+use Rattle.stanza_form.specs.declared.FieldDesc.{FieldDesc}
+use Rattle.stanza_form.specs.Fields.{Placed, noField, fieldsFrom}
+use Rattle.stanza_form.specs.Code.{fieldsOf}
 use Rattle.stanza_judge.specs.declared.Outline.{Outline}
 
 -- the description d, or the refusal

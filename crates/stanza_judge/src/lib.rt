@@ -69,7 +69,7 @@ pub fn judged_outline(s: &[u8], codes: &mut [u64; 64]) -> Outline
             Step::Add(x) => {
                 let f = x.field;
                 let form = f.form;
-                codes[n] = stanza_code::code(form, f.qualifiers_at, f.qualifiers_end);
+                codes[n] = stanza_form::code(form, f.qualifiers_at, f.qualifiers_end);
                 names[n] = x.name_at;
                 ends[n] = x.name_end;
                 last = stanza_line::tail_after(last, form);

@@ -26,13 +26,14 @@ use Rattle.stanza_grammar.specs.declared.FieldShape.{FieldShape}
 use Rattle.stanza_grammar.specs.declared.Shape.{Shape}
 use Rattle.stanza_grammar.specs.declared.Shape.the-variants.{NoField, IsField}
 use Rattle.stanza_grammar.specs.Grammar.{headerIn, shapeIn, Places}
-use Rattle.stanza_types.specs.declared.Form.{Form}
+use Rattle.stanza_form.specs.declared.Form.{Form}
 use Rattle.stanza_types.specs.declared.Meant.{Meant}
 use Rattle.stanza_types.specs.declared.Meant.the-variants.{Malformed, Unknown, Forbidden, Means}
-use Rattle.stanza_types.specs.Types.{kindIn, meantIn, meaningIn}
-use Rattle.stanza_types.specs.Fields.{Placed}
+use Rattle.stanza_types.specs.Types.{meantIn, meaningIn}
+use Rattle.stanza_form.specs.Forms.{kindIn}
+use Rattle.stanza_form.specs.Fields.{Placed}
 use Rattle.stanza_types.proofs.Symbols.{symbols-listed}
-use Rattle.stanza_types.specs.declared.FieldDesc.{FieldDesc}
+use Rattle.stanza_form.specs.declared.FieldDesc.{FieldDesc}
 use Rattle.stanza_line.specs.declared.Step.{Step}
 use Rattle.stanza_line.specs.declared.Step.the-variants.{Skip, Refuse, Head, Add}
 use Rattle.stanza_line.specs.Verdict.{namedFrom, Stands, Fits, Due}

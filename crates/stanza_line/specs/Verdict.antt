@@ -11,7 +11,7 @@ use Rattle.format.specs.Field.{Field}
 use Rattle.format.specs.Grammar.{Header}
 use Rattle.format.specs.Judge.{Description, Progress, beforeHeader, afterHeader, Verdict, faulty, goesOn, afterTail, sameName, withField}
 use Rattle.octets.specs.Octets.{partIn}
-use Rattle.stanza_types.specs.Fields.{fieldOf, Placed}
+use Rattle.stanza_form.specs.Fields.{fieldOf, Placed}
 use Rattle.stanza_line.specs.declared.HeaderDesc.{HeaderDesc}
 use Rattle.stanza_line.specs.declared.HeaderVerdict.{HeaderVerdict}
 use Rattle.stanza_line.specs.declared.HeaderVerdict.the-variants.{BadHeader, GoodHeader}

@@ -12,14 +12,14 @@ ghost use Rattle.format.specs.Judge.{Description, afterHeader, faulty, ofHeader
 ghost use Rattle.octets.specs.Octets.{partIn};
 ghost use Rattle.stanza_grammar.specs.Grammar.{shapeIn, Places};
 ghost use Rattle.stanza_grammar.specs.declared.Shape.the-variants.{IsField};
-ghost use Rattle.stanza_types.specs.Types.{kindOf};
+ghost use Rattle.stanza_form.specs.Forms.{kindOf};
 ghost use Rattle.stanza_line.specs.Verdict.{headerVerdict, fieldVerdict, VerdictWithin, sameText, namedFrom, progressOf, Stands, stepOf, Fits, Due};
 use octets::Class;
+use stanza_form::FieldDesc;
+use stanza_form::Form;
 use stanza_grammar::FieldShape;
 use stanza_grammar::HeaderLine;
 use stanza_grammar::Shape;
-use stanza_types::FieldDesc;
-use stanza_types::Form;
 use stanza_types::Meant;
 
 // The header: where its name lies, the type's number, and where the free text lies.
@@ -133,30 +133,6 @@ fn field_verdict(s: &[u8], at: usize, t: usize, e: usize) -> FieldVerdict
     }
 }
 
-// Whether a form is a tail: S[M], S[X], B64, X without C, R[L], N[O].
-fn is_tail(f: Form) -> bool
-    ensures { λ r. ⌜ ((l : List Symbol) → r ≡ tail (kindOf l f)) ⌝ }
-{
-    match f {
-        Form::Int(w) => false,
-        Form::Rrtype => false,
-        Form::Bitmap => true,
-        Form::Dotted => false,
-        Form::Aa => false,
-        Form::Aaaa => false,
-        Form::Name(m) => 8 <= m,
-        Form::Str => false,
-        Form::Strs => true,
-        Form::Raw => true,
-        Form::Base32 => false,
-        Form::Base64 => true,
-        Form::Hex => true,
-        Form::Hexc => false,
-        Form::Eui(w) => false,
-        Form::Time => false,
-    }
-}
-
 // Whether there is a tail among the fields, of which the last has the form f; `last` says it of those before it.
 pub fn tail_after(last: bool, f: Form) -> bool
     ensures { λ r. ⌜ ((l : List Symbol) → r ≡ last || tail (kindOf l f)) ⌝ }
@@ -164,7 +140,7 @@ pub fn tail_after(last: bool, f: Form) -> bool
     if last {
         return true;
     }
-    is_tail(f)
+    stanza_form::is_tail(f)
 }
 
 // Whether the name from a to e is one of the first n names.

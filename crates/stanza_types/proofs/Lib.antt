@@ -1,4 +1,2 @@
-pub mod Laws
 pub mod Meanings
 pub mod Symbols
-pub mod Fields

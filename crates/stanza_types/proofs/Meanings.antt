@@ -19,11 +19,12 @@ use Rattle.stanza_words.specs.declared.Words.{Words}
 use Rattle.stanza_words.specs.declared.Words.the-variants.{Nothing, OnR, OnN, OnS, OnX}
 use Rattle.stanza_words.specs.declared.Test.the-variants.{Malformed, Unknown, NotSymbol, NotWord, IsWord}
 use Rattle.stanza_words.proofs.Given.{ill-formed, well-formed, not-known, symbols-refused, words-refused, symbols-given, words-given}
-use Rattle.stanza_types.specs.declared.Form.{Form}
-use Rattle.stanza_types.specs.declared.Form.the-variants.{Int, Rrtype, Bitmap, Dotted, Aa, Aaaa, Name, Str, Strs, Raw, Base32, Base64, Hex, Hexc, Eui, Time}
+use Rattle.stanza_form.specs.declared.Form.{Form}
+use Rattle.stanza_form.specs.declared.Form.the-variants.{Int, Name, Str, Strs, Raw}
 use Rattle.stanza_types.specs.declared.Meant.{Meant}
 use Rattle.stanza_types.specs.declared.Meant.the-variants.{Forbidden, Means}
-use Rattle.stanza_types.specs.Types.{kindOf, kindIn, meantIn, meaningBy, qualifiedIn, meaningIn, listed, marksOf, madeOf}
+use Rattle.stanza_types.specs.Types.{meantIn, meaningBy, qualifiedIn, meaningIn, marksOf, madeOf}
+use Rattle.stanza_form.specs.Forms.{kindOf, kindIn, listed}
 
 -- qualifiers that break the grammar; that are unknown; that are known but not allowed
 module _ (f : List Qualifier → Option Kind) (s : List ℕ) (a b : ℕ) where
@@ -137,22 +138,7 @@ nothing-taken k s a b = as-refused (allowed (noWords k)) s a b (λ qs e. none-al
 
 -- a form without qualifiers has the kind without symbols
 pub plain-kind : (s : List ℕ) (a : ℕ) (f : Form) → some (means (kindIn s a a f)) ≡ some (means (kindOf [] f))
-plain-kind s a (Int w) = rw (eq-eqb a a refl)
-plain-kind s a Rrtype = refl
-plain-kind s a Bitmap = refl
-plain-kind s a Dotted = refl
-plain-kind s a Aa = refl
-plain-kind s a Aaaa = refl
-plain-kind s a (Name m) = refl
-plain-kind s a Str = refl
-plain-kind s a Strs = refl
-plain-kind s a Raw = refl
-plain-kind s a Base32 = refl
-plain-kind s a Base64 = refl
-plain-kind s a Hex = refl
-plain-kind s a Hexc = refl
-plain-kind s a (Eui w) = refl
-plain-kind s a Time = refl
+plain-kind s a f = rw (eq-eqb a a refl)
 
 -- an unknown type
 pub no-type-malformed : (s : List ℕ) (a b : ℕ) → anyIn Malformed s a b ≡ true → none ≡ qualifiedIn none s a b

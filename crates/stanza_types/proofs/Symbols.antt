@@ -1,75 +1,19 @@
 -- An integer's symbols are those listed among its qualifiers.
 use Prim.Native.Nat.{ℕ}
-use mathlib.Core.Path.{_≡_, refl, sym, ap, _∙_, subst}
+use mathlib.Core.Path.{_≡_, refl, sym, ap, _∙_}
 use mathlib.Core.Bool.{Bool, true, false, not, cond, _&&_, true≢false}
-use mathlib.Core.List.{List, [], _∷_}
+use mathlib.Core.List.{List}
 use mathlib.Core.Option.{Option, none, some}
-use native.Mathlib.Omega.{arith}
-use Rattle.format.specs.Lists.{_>>=_, provided, eachOf, null, anyOf, allOf, twice}
-use Rattle.format.specs.Octets.{ascii, sameOctets}
-use Rattle.format.specs.Field.{Symbol, Kind, int, rrtype, bitmap, a4, aa, aaaa, name, str, strs, raw, b32, b64, hex, hexc, eui, time}
+use Rattle.format.specs.Lists.{_>>=_, eachOf, anyOf, allOf, twice}
+use Rattle.format.specs.Octets.{sameOctets}
+use Rattle.format.specs.Field.{Symbol, Kind, int}
 use Rattle.format.specs.Grammar.{Qualifier}
-use Rattle.format.specs.Types.{Takes, symbols, words, TypeRow, hasWord, nameKind, stringKind, typeRows, takesOf, unknownWord, symbolOf, wordOf, sameSymbol, allowed, unknown, means, orForbidden, meaningOf, meaning}
+use Rattle.format.specs.Types.{Takes, symbols, words, hasWord, typeRows, takesOf, unknownWord, symbolOf, wordOf, sameSymbol, allowed, unknown, means, orForbidden, meaningOf, meaning}
 use Rattle.format.proofs.Lists.{bind-some, provided-some}
 use Rattle.stanza_words.specs.Qualifiers.{qualifiersIn}
-use Rattle.stanza_types.specs.Types.{symbolsIn, meaningIn}
-
-abbrev isInteger : Kind → Bool
-isInteger (int w l) = true
-isInteger rrtype = false
-isInteger bitmap = false
-isInteger a4 = false
-isInteger aa = false
-isInteger aaaa = false
-isInteger (name m) = false
-isInteger str = false
-isInteger strs = false
-isInteger raw = false
-isInteger b32 = false
-isInteger b64 = false
-isInteger hex = false
-isInteger hexc = false
-isInteger (eui w) = false
-isInteger time = false
-
--- words never make an integer
-abbrev Wordy : Takes → Type 0
-Wordy (symbols w) = Unit {0}
-Wordy (words ws f) = (given : List (List ℕ)) (k : Kind) → f given ≡ some k → isInteger k ≡ false
-
-abbrev All-wordy : List TypeRow → Type 0
-All-wordy [] = Unit {0}
-All-wordy (r ∷ rs) = Wordy (r .takes) × All-wordy rs
-
-always : (j : Kind) → isInteger j ≡ false → (given : List (List ℕ)) (k : Kind) → some j ≡ some k → isInteger k ≡ false
-always j h given k e = let w : j ≡ k = cc in rw (← w) h
-
-either : (i j : Kind) → isInteger i ≡ false → isInteger j ≡ false → (b : Bool) → isInteger (cond b i j) ≡ false
-either i j h k true = h
-either i j h k false = k
-
-strings : (given : List (List ℕ)) (k : Kind) → stringKind given ≡ some k → isInteger k ≡ false
-strings given k e = by (hasWord given (ascii "M")) (hasWord given (ascii "X")) e
-  where
-    by : (m x : Bool) → cond m (provided (not x) strs) (some (cond x raw str)) ≡ some k → isInteger k ≡ false
-    by true true e = cc
-    by true false e = always strs refl given k e
-    by false x e = always (cond x raw str) (either raw str refl refl x) given k e
-
-with-word : (i j : Kind) → isInteger i ≡ false → isInteger j ≡ false → (given : List (List ℕ)) (k : Kind) → some (cond (null given) i j) ≡ some k → isInteger k ≡ false
-with-word i j h l given k e = always (cond (null given) i j) (either i j h l (null given)) given k e
-
-rows-wordy : All-wordy typeRows
-rows-wordy =
-    (tt, (tt, (tt, ((with-word rrtype bitmap refl refl), ((always a4 refl), ((always aa refl), ((always aaaa refl), ((λ given k e. always (nameKind given) refl given k e), (strings, ((always b32 refl), ((always b64 refl), ((with-word hex hexc refl refl), ((always time refl), ((always (eui 6) refl), ((always (eui 8) refl), ((always (eui 6) refl), ((always (eui 8) refl), tt)))))))))))))))))
-
-row-of : (rs : List TypeRow) → All-wordy rs → (k : List ℕ) (t : Takes) → takesOf rs k ≡ some t → Wordy t
-row-of [] h k t e = let z : _≡_ {A = ℕ} 0 1 = cc in absurd (omega arith)
-row-of (r ∷ rs) h k t e = by (sameOctets k (r .typeWord)) e (row-of rs (h .1) k t)
-  where
-    by : (b : Bool) → cond b (some (r .takes)) (takesOf rs k) ≡ some t → (takesOf rs k ≡ some t → Wordy t) → Wordy t
-    by true e ih = let w : r .takes ≡ t = cc in subst Wordy w (h .0)
-    by false e ih = ih e
+use Rattle.stanza_types.specs.Types.{meaningIn}
+use Rattle.stanza_form.specs.Forms.{symbolsIn}
+use Rattle.stanza_form.proofs.Forms.{Wordy, rows-wordy, row-of}
 
 -- so an integer is made of symbols
 allowed-symbols : (t : Takes) → Wordy t → (qs : List Qualifier) (w : ℕ) (l : List Symbol) → allowed t qs ≡ some (int w l) → eachOf (symbolOf w) qs ≡ some l

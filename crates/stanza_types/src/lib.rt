@@ -1,59 +1,18 @@
-// The types of fields.
+// What a type and its qualifiers mean.
 ghost use Prim.Native.Nat.{ℕ, _≤_, _<_, _^_};
-ghost use lib.ListN.{length, drop};
+ghost use lib.ListN.{length};
 ghost use lib.Seq.{slice};
 ghost use mathlib.Core.Path.{_≡_};
-ghost use mathlib.Core.List.{List, [], _∷_};
+ghost use mathlib.Core.List.{List, []};
 ghost use mathlib.Core.Option.{none, some};
-ghost use Rattle.format.specs.Octets.{sameOctets};
-ghost use Rattle.format.specs.Types.{typeRows, takesOf, allowed, symbols, meaningOf};
-ghost use Rattle.stanza_types.specs.Types.{takenBy, longer, meantIn, meaningBy, qualifiedIn, meaningIn, listed, markOf, marksOf, nameForm, madeOf, MadeBy};
+ghost use Rattle.format.specs.Types.{allowed, symbols, meaningOf};
+ghost use Rattle.stanza_types.specs.Types.{meantIn, meaningBy, qualifiedIn, meaningIn, markOf, marksOf, nameForm, madeOf, MadeBy};
+ghost use Rattle.stanza_form.specs.Forms.{takenBy, listed};
 ghost use Rattle.stanza_words.specs.declared.Words.the-variants.{OnN, OnS};
+use stanza_form::FieldType;
+use stanza_form::Form;
 use stanza_words::Test;
 use stanza_words::Words;
-
-// A kind of field. An integer and an EUI have their number of octets; a name has its marks C, A, L, O as 1, 2, 4, 8 in one
-// octet, so that a form is a number and one octet (`stanza_code`).
-pub enum Form {
-    Int(u8),
-    Rrtype,
-    Bitmap,
-    Dotted,
-    Aa,
-    Aaaa,
-    Name(u8),
-    Str,
-    Strs,
-    Raw,
-    Base32,
-    Base64,
-    Hex,
-    Hexc,
-    Eui(u8),
-    Time,
-}
-
-// A field of a description: its form, where its qualifiers lie, and, while the stanza is judged, where its free text lies.
-pub struct FieldDesc {
-    pub form: Form,
-    pub qualifiers_at: u16,
-    pub qualifiers_end: u16,
-    pub text_at: u16,
-    pub text_end: u16,
-}
-
-// A field type: unknown; an integer, which takes symbols; one that takes no qualifier; or R, N, S, X.
-pub enum FieldType {
-    NoType,
-    Int1,
-    Int2,
-    Int4,
-    Plain(Form),
-    TypeR,
-    TypeN,
-    TypeS,
-    TypeX,
-}
 
 // What a type and its qualifiers mean: they break the grammar, are unknown or not allowed, or make a kind of field.
 pub enum Meant {
@@ -67,102 +26,6 @@ pub enum Meant {
 enum ByLetter {
     Other,
     Makes(Form),
-}
-
-// Whether the text from a to e is the word w.
-fn is_word(s: &[u8], a: usize, e: usize, w: &[u8]) -> bool
-    requires { ⌜ (a ≤ e) × (e ≤ length (now s)) ⌝ }
-    ensures { λ r. ⌜ r ≡ sameOctets (slice a e (now (s .entry))) (now (w .entry)) ⌝ }
-{
-    if e - a == w.len() {
-        let mut j = 0;
-        while j < w.len() {
-            if s[a + j] == w[j] {
-                j = j + 1;
-            } else {
-                return false;
-            }
-        }
-        return true;
-    }
-    false
-}
-
-// The type from a to e. Types of one letter are recognized directly.
-fn type_of(s: &[u8], a: usize, e: usize) -> FieldType
-    requires { ⌜ (a ≤ e) × (e ≤ length (now s)) ⌝ }
-    ensures { λ r. ⌜ takenBy r ≡ takesOf typeRows (slice a e (now (s .entry))) ⌝ }
-{
-    if e - a == 1 {
-        return letter_type(s[a]);
-    }
-    word_type(s, a, e)
-}
-
-// The type of one letter.
-fn letter_type(x: u8) -> FieldType
-    ensures { λ r. ⌜ takenBy r ≡ takesOf typeRows (x ∷ []) ⌝ }
-{
-    if x == b'N' {
-        return FieldType::TypeN;
-    }
-    if x == b'S' {
-        return FieldType::TypeS;
-    }
-    if x == b'A' {
-        return FieldType::Plain(Form::Dotted);
-    }
-    if x == b'X' {
-        return FieldType::TypeX;
-    }
-    if x == b'R' {
-        return FieldType::TypeR;
-    }
-    if x == b'T' {
-        return FieldType::Plain(Form::Time);
-    }
-    FieldType::NoType
-}
-
-// The type from a to e, among the types of more than one letter.
-fn word_type(s: &[u8], a: usize, e: usize) -> FieldType
-    requires { ⌜ (a ≤ e) × (e ≤ length (now s)) ⌝ }
-    ensures { λ r. ⌜ takenBy r ≡ takesOf (longer typeRows) (slice a e (now (s .entry))) ⌝ }
-{
-    if is_word(s, a, e, b"I1") {
-        return FieldType::Int1;
-    }
-    if is_word(s, a, e, b"I2") {
-        return FieldType::Int2;
-    }
-    if is_word(s, a, e, b"I4") {
-        return FieldType::Int4;
-    }
-    if is_word(s, a, e, b"AA") {
-        return FieldType::Plain(Form::Aa);
-    }
-    if is_word(s, a, e, b"AAAA") {
-        return FieldType::Plain(Form::Aaaa);
-    }
-    if is_word(s, a, e, b"B32") {
-        return FieldType::Plain(Form::Base32);
-    }
-    if is_word(s, a, e, b"B64") {
-        return FieldType::Plain(Form::Base64);
-    }
-    if is_word(s, a, e, b"EUI48") {
-        return FieldType::Plain(Form::Eui(6));
-    }
-    if is_word(s, a, e, b"EUI64") {
-        return FieldType::Plain(Form::Eui(8));
-    }
-    if is_word(s, a, e, b"X6") {
-        return FieldType::Plain(Form::Eui(6));
-    }
-    if is_word(s, a, e, b"X8") {
-        return FieldType::Plain(Form::Eui(8));
-    }
-    FieldType::NoType
 }
 
 // Why the qualifiers from a to b, which their type does not take, are refused.
@@ -381,7 +244,7 @@ pub fn meaning_of(s: &[u8], k: usize, e: usize, a: usize, b: usize) -> Meant
     requires { ⌜ (k ≤ e) × (e ≤ length (now s)) × (a ≤ b) × (b ≤ length (now s)) ⌝ }
     ensures { λ r. ⌜ meantIn (now (s .entry)) a b r ≡ meaningIn (slice k e (now (s .entry))) (now (s .entry)) a b ⌝ }
 {
-    let t = type_of(s, k, e);
+    let t = stanza_form::type_of(s, k, e);
     if a == b {
         return plain_meant(t);
     }

@@ -2,7 +2,7 @@ use Rattle.entry_print.proofs.Printings.{fitting-needs, measured-needs,
 use Rattle.format.proofs.Lists.{below-each}
 use Rattle.buffer.proofs.Laws.{measured}
 use mathlib.Core.Path.{refl}
-use Rattle.stanza_code.specs.Code.{fieldsOf}
+use Rattle.stanza_form.specs.Code.{fieldsOf}
 use native.Mathlib.Omega.{arith}
 use borrow.Author.Needs.{needs}
 use Rattle.entry_print.proofs.needed.Statement.{statement}

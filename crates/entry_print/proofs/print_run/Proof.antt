@@ -1,9 +1,8 @@
 use Rattle.entry.proofs.Rooms.{leaves-refused}
 use Rattle.entry_print.proofs.Printings.{text-answer, no-answer}
 use Rattle.run_wire.specs.Run.{kindsFrom, Checks}
-use mathlib.Core.Path.{_≡_, refl, subst}
-use Rattle.stanza_code.specs.Code.{fieldsOf}
-use native.Mathlib.Omega.{arith}
+use mathlib.Core.Path.{refl, subst}
+use Rattle.stanza_form.specs.Code.{fieldsOf}
 use borrow.Author.Needs.{needs}
 use Rattle.entry_print.proofs.print_run.Statement.{statement}
 use Rattle.entry_print.proofs.print_run.Tie as tie

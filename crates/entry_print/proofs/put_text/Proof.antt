@@ -1,8 +1,8 @@
 use Rattle.entry.proofs.Rooms.{leaves-done, leaves-measured}
 use Rattle.run_wire.specs.Run.{kindsFrom}
 use Rattle.format.specs.Run.{textOf}
-use mathlib.Core.Path.{refl, _∙_}
-use Rattle.stanza_code.specs.Code.{fieldsOf}
+use mathlib.Core.Path.{refl}
+use Rattle.stanza_form.specs.Code.{fieldsOf}
 use native.Mathlib.Omega.{arith}
 use borrow.Author.Needs.{needs}
 use Rattle.entry_print.proofs.put_text.Statement.{statement}

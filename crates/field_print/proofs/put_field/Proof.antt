@@ -5,7 +5,7 @@ use Rattle.buffer.proofs.Laws.{wrote-text}
 use Rattle.format.specs.Hex.{hexText}
 use Rattle.format.specs.Text.{stringText}
 use Rattle.field_print.proofs.Fields.{int-wide}
-use Rattle.stanza_types.proofs.Fields.{symbolsOf, symbols-of, int-four}
+use Rattle.stanza_form.proofs.Fields.{symbolsOf, symbols-of, int-four}
 use Rattle.format.specs.Run.{shown}
 use Rattle.field_print.proofs.Fields.{octets-wide, counted-some, name-anyhow}
 use mathlib.Core.Path.{sym, ap, _∙_}
@@ -28,7 +28,6 @@ use Rattle.rrtype.proofs.print.field.Reads as rrtype-field-reads
 use Rattle.text.proofs.print.string.Reads as string-reads
 use Rattle.text.proofs.print.strings.Reads as strings-reads
 use Rattle.number.proofs.print.put_number.Reads as put-number-reads
-use Rattle.time.proofs.print.field.Reads as field-reads′
 use Rattle.base.proofs.print.put_hex_upper.Reads as put-hex-upper-reads
 
 number-requires : tie.Need-number-requires

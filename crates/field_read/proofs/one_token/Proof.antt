@@ -1,7 +1,7 @@
-use mathlib.Core.Path.{_≡_, sym, ap, subst, _∙_}
+use mathlib.Core.Path.{sym, subst}
 use Rattle.format.specs.Run.{readField}
 use Rattle.field_read.specs.Fields.{Gives}
-use Rattle.stanza_types.specs.Fields.{kindFor}
+use Rattle.stanza_form.specs.Fields.{kindFor}
 use Rattle.field_read.proofs.Fields.{gives-token, bad-token}
 use native.Mathlib.Omega.{arith}
 use borrow.Author.Needs.{needs}

@@ -1,8 +1,6 @@
-use mathlib.Core.List.{List}
-use Prim.Native.Nat.{ℕ}
 use Rattle.format.specs.Run.{readField}
-use Rattle.field_read.proofs.Fields.{gives-all, gives-rest, one-form}
-use native.Mathlib.Omega.{arith}
+use Rattle.stanza_form.proofs.Forms.{one-form}
+use Rattle.field_read.proofs.Fields.{gives-all, gives-rest}
 use borrow.Author.Needs.{needs}
 use Rattle.field_read.proofs.read_field.Statement.{statement}
 use Rattle.field_read.proofs.read_field.Tie as tie

@@ -1,5 +1,5 @@
-use mathlib.Core.Path.{_≡_, refl, sym, ap, subst, _∙_}
-use Rattle.format.specs.Run.{oneToken, gotOr}
+use mathlib.Core.Path.{refl, sym, ap}
+use Rattle.format.specs.Run.{oneToken}
 use Rattle.format.specs.Text.{readString}
 use Rattle.field_read.proofs.Fields.{gives-string, onward}
 use native.Mathlib.Omega.{arith}

@@ -2,7 +2,7 @@ use Rattle.run_print.proofs.Runs.{turn, field-short, text-went, went-bo
 use Rattle.run_print.specs.Printing.{lead}
 use Rattle.run_wire.proofs.Laws.{all-kinds}
 use Rattle.run_wire.specs.Run.{kindsFrom}
-use Rattle.stanza_types.specs.Fields.{kindFor, Usable}
+use Rattle.stanza_form.specs.Fields.{kindFor, Usable}
 use Rattle.buffer.proofs.Laws.{Left, left-all, left-none}
 use Rattle.format.specs.Run.{shown, parts, partsOf, textOf}
 use lib.Seq.{slice}
@@ -10,15 +10,15 @@ use lib.ListN.{length, drop}
 use mathlib.Core.List.{List}
 use mathlib.Core.Path.{_≡_, sym, subst}
 use Prim.Native.Nat.{ℕ, _+_, _-_, _*_, _≤_}
-use Rattle.stanza_code.specs.Code.{fieldsOf}
-use Rattle.stanza_code.proofs.Codes.{read-at}
+use Rattle.stanza_form.specs.Code.{fieldsOf}
+use Rattle.stanza_form.proofs.Codes.{read-at}
 use native.Mathlib.Omega.{arith}
 use borrow.Author.Needs.{needs}
 use Rattle.run_print.proofs.put_run.Statement.{statement}
 use Rattle.run_print.proofs.put_run.Tie as tie
 use Rattle.run_print.proofs.put_run.Reads as reads
 use Rattle.run_print.proofs.put_run.Lts as lts
-use Rattle.stanza_code.proofs.field.Reads as field-reads
+use Rattle.stanza_form.proofs.field.Reads as field-reads
 use Rattle.field_print.proofs.width.Reads as width-reads
 use Rattle.run_print.proofs.put_next.Reads as put-next-reads
 

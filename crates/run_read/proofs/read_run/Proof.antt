@@ -5,20 +5,20 @@ use lib.ListN.{length, drop}
 use Rattle.format.specs.Token.{tokens}
 use Rattle.format.specs.Run.{readField, readRun, refused}
 use Rattle.run_wire.specs.Run.{kindsFrom}
-use Rattle.stanza_types.specs.Fields.{Usable}
+use Rattle.stanza_form.specs.Fields.{Usable}
 use Rattle.run_wire.proofs.Laws.{all-kinds, no-kind, next-kind}
 use Rattle.run_read.specs.Reading.{Stands}
 use Rattle.run_read.proofs.Runs.{Ahead, ahead-start, ahead-missing, ahead-bad, ahead-got, ahead-over, ahead-done, stands-none}
 use Rattle.run_read.proofs.Runs.{stands-next}
-use Rattle.stanza_code.specs.Code.{fieldsOf}
-use Rattle.stanza_code.proofs.Codes.{read-at}
+use Rattle.stanza_form.specs.Code.{fieldsOf}
+use Rattle.stanza_form.proofs.Codes.{read-at}
 use native.Mathlib.Omega.{arith}
 use borrow.Author.Needs.{needs}
 use Rattle.run_read.proofs.read_run.Statement.{statement}
 use Rattle.run_read.proofs.read_run.Tie as tie
 use Rattle.run_read.proofs.read_run.Reads as reads
 use Rattle.run_read.proofs.read_run.Lts as lts
-use Rattle.stanza_code.proofs.field.Reads as field-reads
+use Rattle.stanza_form.proofs.field.Reads as field-reads
 use Rattle.run_read.proofs.none_from.Reads as none-from-reads
 use Rattle.field_read.proofs.read_field.Reads as read-field-reads
 use Rattle.buffer.proofs.least.Reads as least-reads

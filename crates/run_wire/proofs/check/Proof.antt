@@ -6,15 +6,15 @@ use Rattle.format.specs.Run.{refused, partsOf}
 use Rattle.run_wire.specs.Run.{kindsFrom}
 use Rattle.run_wire.proofs.Laws.{Ahead, all-kinds, no-kind, ahead-start, ahead-over, ahead-done, turn-short, turn-bad, turn-within}
 use Rattle.run_wire.proofs.Laws.{turn-took}
-use Rattle.stanza_code.specs.Code.{fieldsOf}
-use Rattle.stanza_code.proofs.Codes.{read-at}
+use Rattle.stanza_form.specs.Code.{fieldsOf}
+use Rattle.stanza_form.proofs.Codes.{read-at}
 use native.Mathlib.Omega.{arith}
 use borrow.Author.Needs.{needs}
 use Rattle.run_wire.proofs.check.Statement.{statement}
 use Rattle.run_wire.proofs.check.Tie as tie
 use Rattle.run_wire.proofs.check.Reads as reads
 use Rattle.run_wire.proofs.check.Lts as lts
-use Rattle.stanza_code.proofs.field.Reads as field-reads
+use Rattle.stanza_form.proofs.field.Reads as field-reads
 use Rattle.field_wire.proofs.take_field.Reads as take-field-reads
 
 -- The first k fields take the octets before `at`; what the others make of the rest tells what the run makes of all.

@@ -1,8 +1,8 @@
 use Rattle.stanza_judge.proofs.Outlines.{Judging, noHeader, judging-start, line-count, line-within, turn-less, turn-skip, turn-head}
 use Rattle.stanza_judge.proofs.Outlines.{add-room, turn-add, turn-refuse, judging-end}
-use Rattle.stanza_code.specs.Code.{fieldsOf}
-use Rattle.stanza_code.proofs.Codes.{withoutTexts, codes-many, coded-start, coded-more}
-use Rattle.stanza_types.specs.declared.FieldDesc.{FieldDesc}
+use Rattle.stanza_form.specs.Code.{fieldsOf}
+use Rattle.stanza_form.proofs.Codes.{withoutTexts, codes-many, coded-start, coded-more}
+use Rattle.stanza_form.specs.declared.FieldDesc.{FieldDesc}
 use Rattle.stanza_line.specs.declared.HeaderDesc.{HeaderDesc}
 use mathlib.Core.Path.{_≡_, _∙_}
 use mathlib.Core.List.{List}
@@ -14,7 +14,7 @@ use Rattle.stanza_judge.proofs.judged_outline.Statement.{statement}
 use Rattle.stanza_judge.proofs.judged_outline.Tie as tie
 use Rattle.stanza_judge.proofs.judged_outline.Reads as reads
 use Rattle.stanza_judge.proofs.judged_outline.Lts as lts
-use Rattle.stanza_code.proofs.code.Reads as code-reads
+use Rattle.stanza_form.proofs.code.Reads as code-reads
 use Rattle.octets.proofs.line_end.Reads as line-end-reads
 use Rattle.stanza_judge.proofs.at_end.Reads as at-end-reads
 use Rattle.stanza_judge.proofs.at_start.Reads as at-start-reads

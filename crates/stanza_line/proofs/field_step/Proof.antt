@@ -1,5 +1,5 @@
 use Rattle.stanza_line.proofs.Verdicts.{after-tail, named-again, too-many, one-more}
-use Rattle.stanza_types.specs.Fields.{fieldOf}
+use Rattle.stanza_form.specs.Fields.{fieldOf}
 use mathlib.Core.Path.{refl, sym, _∙_}
 use borrow.Author.Needs.{needs}
 use Rattle.stanza_line.proofs.field_step.Statement.{statement}

@@ -1,7 +1,5 @@
-use Prim.Native.Nat.{ℕ, _^_}
-use mathlib.Core.Path.{_≡_, refl, sym, ap, _∙_}
+use mathlib.Core.Path.{_≡_}
 use native.Mathlib.Omega.{arith}
-use borrow.Author.Needs.{needs}
 use Rattle.stanza_types.proofs.limit.Statement.{statement}
 use Rattle.stanza_types.proofs.limit.Tie as tie
 use Rattle.stanza_types.proofs.limit.Reads as reads

@@ -1,7 +1,6 @@
-use Rattle.stanza_types.proofs.Meanings.{malformed, not-of-known, not-allowed, no-symbols, symbols-twice, symbols-once, no-words}
-use Rattle.stanza_types.proofs.Meanings.{words-twice, words-once, nothing-taken}
-use mathlib.Core.Path.{_≡_, refl, sym, ap, _∙_}
-use native.Mathlib.Omega.{arith}
+use Rattle.stanza_types.proofs.Meanings.{no-words}
+use Rattle.stanza_types.proofs.Meanings.{words-twice, words-once}
+use mathlib.Core.Path.{sym, _∙_}
 use borrow.Author.Needs.{needs}
 use Rattle.stanza_types.proofs.listed_meant.Statement.{statement}
 use Rattle.stanza_types.proofs.listed_meant.Tie as tie

@@ -1,5 +1,3 @@
-use mathlib.Core.Path.{_≡_, refl, sym, ap, _∙_}
-use native.Mathlib.Omega.{arith}
 use borrow.Author.Needs.{needs}
 use Rattle.stanza_types.proofs.made.Statement.{statement}
 use Rattle.stanza_types.proofs.made.Tie as tie

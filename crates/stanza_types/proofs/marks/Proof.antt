@@ -1,4 +1,3 @@
-use native.Mathlib.Omega.{arith}
 use borrow.Author.Needs.{needs}
 use Rattle.stanza_types.proofs.marks.Statement.{statement}
 use Rattle.stanza_types.proofs.marks.Tie as tie

@@ -1,7 +1,5 @@
 use Rattle.stanza_types.proofs.Meanings.{plain-in, qualified-in}
 use lib.Seq.{slice}
-use mathlib.Core.Path.{_≡_, refl, sym, ap, _∙_}
-use native.Mathlib.Omega.{arith}
 use borrow.Author.Needs.{needs}
 use Rattle.stanza_types.proofs.meaning_of.Statement.{statement}
 use Rattle.stanza_types.proofs.meaning_of.Tie as tie
@@ -9,7 +7,7 @@ use Rattle.stanza_types.proofs.meaning_of.Reads as reads
 use Rattle.stanza_types.proofs.meaning_of.Lts as lts
 use Rattle.stanza_types.proofs.plain_meant.Reads as plain-meant-reads
 use Rattle.stanza_types.proofs.qualified.Reads as qualified-reads
-use Rattle.stanza_types.proofs.type_of.Reads as type-of-reads
+use Rattle.stanza_form.proofs.type_of.Reads as type-of-reads
 
 returns : tie.Need-returns
 returns c =

@@ -1,6 +1,5 @@
 use mathlib.Core.Path.{ap}
-use Rattle.stanza_types.specs.declared.Form.the-variants.{Name}
-use native.Mathlib.Omega.{arith}
+use Rattle.stanza_form.specs.declared.Form.the-variants.{Name}
 use borrow.Author.Needs.{needs}
 use Rattle.stanza_types.proofs.name_form.Statement.{statement}
 use Rattle.stanza_types.proofs.name_form.Tie as tie

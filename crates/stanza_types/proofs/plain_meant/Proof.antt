@@ -1,7 +1,6 @@
 use Rattle.stanza_types.proofs.Meanings.{plain-kind}
 use borrow.Author.Tests.{eq-eqb}
-use mathlib.Core.Path.{_≡_, refl, sym, ap, _∙_}
-use native.Mathlib.Omega.{arith}
+use mathlib.Core.Path.{refl}
 use borrow.Author.Needs.{needs}
 use Rattle.stanza_types.proofs.plain_meant.Statement.{statement}
 use Rattle.stanza_types.proofs.plain_meant.Tie as tie

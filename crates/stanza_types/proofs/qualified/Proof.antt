@@ -1,8 +1,7 @@
 use mathlib.Core.List.{[]}
-use Rattle.stanza_types.specs.Types.{kindOf}
+use Rattle.stanza_form.specs.Forms.{kindOf}
 use Rattle.stanza_types.proofs.Meanings.{no-type-malformed, no-type, nothing-taken}
-use mathlib.Core.Path.{_≡_, refl, sym, ap, _∙_}
-use native.Mathlib.Omega.{arith}
+use mathlib.Core.Path.{sym, _∙_}
 use borrow.Author.Needs.{needs}
 use Rattle.stanza_types.proofs.qualified.Statement.{statement}
 use Rattle.stanza_types.proofs.qualified.Tie as tie

@@ -1,7 +1,5 @@
-use Rattle.stanza_types.proofs.Meanings.{malformed, not-of-known, not-allowed, no-symbols, symbols-twice, symbols-once, no-words}
-use Rattle.stanza_types.proofs.Meanings.{words-twice, words-once, nothing-taken}
-use mathlib.Core.Path.{_≡_, refl, sym, ap, _∙_}
-use native.Mathlib.Omega.{arith}
+use Rattle.stanza_types.proofs.Meanings.{malformed, not-of-known, not-allowed}
+use mathlib.Core.Path.{refl, sym, _∙_}
 use borrow.Author.Needs.{needs}
 use Rattle.stanza_types.proofs.refused.Statement.{statement}
 use Rattle.stanza_types.proofs.refused.Tie as tie

@@ -1,6 +1,5 @@
 use mathlib.Core.Path.{sym, _∙_}
 use Rattle.stanza_types.proofs.Meanings.{no-symbols, symbols-twice, symbols-once}
-use native.Mathlib.Omega.{arith}
 use borrow.Author.Needs.{needs}
 use Rattle.stanza_types.proofs.symbols_meant.Statement.{statement}
 use Rattle.stanza_types.proofs.symbols_meant.Tie as tie

@@ -1,7 +1,7 @@
 use mathlib.Core.Path.{refl}
 use Rattle.run_wire.specs.Run.{kindsFrom}
 use Rattle.entry_read.proofs.Octets.{refused-leaves, over-leaves, measured-leaves, reads-in, copied-leaves}
-use Rattle.stanza_code.specs.Code.{fieldsOf}
+use Rattle.stanza_form.specs.Code.{fieldsOf}
 use Rattle.entry_read.proofs.room.read_through.Reads as reads
 use Rattle.entry_read.proofs.room.read_through.Lts as lts
 use Rattle.buffer.proofs.least.Reads as least-reads

@@ -1,4 +1,4 @@
-use Rattle.stanza_types.proofs.Fields.{symbolsOf, symbols-of, int-four}
+use Rattle.stanza_form.proofs.Fields.{symbolsOf, symbols-of, int-four}
 use Rattle.field_read.proofs.Forms.{eui-eight}
 use borrow.Author.Needs.{needs}
 use Rattle.field_read.proofs.value.of_bare.Statement.{statement}

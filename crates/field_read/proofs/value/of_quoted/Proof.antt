@@ -1,4 +1,4 @@
-use Rattle.field_read.proofs.Forms.{only-strings}
+use Rattle.stanza_form.proofs.Forms.{only-strings}
 use borrow.Author.Needs.{needs}
 use Rattle.field_read.proofs.value.of_quoted.Statement.{statement}
 use Rattle.field_read.proofs.value.of_quoted.Tie as tie

@@ -1,0 +1,4 @@
+pub mod Forms
+pub mod Words
+pub mod Fields
+pub mod Codes
