@@ -13,7 +13,7 @@ use Rattle.format.specs.Digits.{digits}
 use Rattle.format.specs.Hex.{hexPair}
 use Rattle.format.specs.Eui.{readEui}
 use Rattle.format.specs.Address.{smallNumber, groupOf, readA, groupOctets, readAA}
-use Rattle.address.specs.declared.part.Form.the-variants.{Pair, Small, Group}
+use Rattle.address.specs.declared.part.PartForm.the-variants.{Pair, Small, Group}
 use Rattle.address.specs.Part.{octetsOf, pieceOf, joined, partsBy, partsOf}
 use Rattle.address.proofs.Numbers.{cons-some, pair-octet, small-octet}
 

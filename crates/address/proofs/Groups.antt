@@ -26,7 +26,7 @@ use Rattle.buffer.specs.Writing.{Wrote, Values, after}
 use Rattle.buffer.specs.declared.Value.{Value}
 use Rattle.buffer.specs.declared.Value.the-variants.{Fault, Upto}
 use Rattle.buffer.proofs.Laws.{wrote-append, set-before}
-use Rattle.address.specs.declared.part.Form.the-variants.{Small, Group}
+use Rattle.address.specs.declared.part.PartForm.the-variants.{Small, Group}
 use Rattle.address.specs.Part.{partEnd, pieceOf, partsOf}
 use Rattle.address.specs.Address.{octetsIn, lastIn, groupsIn, sideIn, sixteen, filled, bothSides}
 use Rattle.buffer.proofs.Values.{Begun, begun-none, begun-piece, begun-fault, begun-rest}

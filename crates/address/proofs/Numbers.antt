@@ -24,8 +24,8 @@ use Rattle.octets.specs.declared.Number.{Number}
 use Rattle.octets.specs.declared.Number.the-variants.{Value, Fault}
 use Rattle.octets.specs.Octets.{numberOf}
 use Rattle.octets.proofs.Numbers.{valueIn, value-each, number-none, number-some}
-use Rattle.address.specs.declared.part.Form.{Form}
-use Rattle.address.specs.declared.part.Form.the-variants.{Pair, Small, Group}
+use Rattle.address.specs.declared.part.PartForm.{PartForm}
+use Rattle.address.specs.declared.part.PartForm.the-variants.{Pair, Small, Group}
 use Rattle.address.specs.Part.{hexOf, hexNumber, zeroFirst, widthOf, valueOf, pieceOf}
 
 -- a hex digit, by testing all 256 octets
@@ -236,7 +236,7 @@ module _ (s : List ℕ) (i e : ℕ) (l : e ≤ length s) where
   first-of h = rw (next s i e (omega arith) l, next s (i + 1) e (omega arith) l)
 
 -- the octets of one part
-module _ (f : Form) (t : List ℕ) (r : Number) (d : r ≡ numberOf (valueOf f t)) where
+module _ (f : PartForm) (t : List ℕ) (r : Number) (d : r ≡ numberOf (valueOf f t)) where
   pub piece-some : (v : ℕ) → r ≡ Value v → pieceOf f t ≡ some (digits 256 (widthOf f) v)
   unfolding pieceOf
   piece-some v e = rw (number-some (valueOf f t) v (sym d ∙ e))
@@ -245,12 +245,12 @@ module _ (f : Form) (t : List ℕ) (r : Number) (d : r ≡ numberOf (valueOf f t
   unfolding pieceOf
   piece-none e = rw (number-none (valueOf f t) (sym d ∙ e))
 
-width-small : (f : Form) → widthOf f ≤ 2
+width-small : (f : PartForm) → widthOf f ≤ 2
 width-small Pair = omega arith
 width-small Small = omega arith
 width-small Group = omega arith
 
-pub piece-short : (f : Form) (t xs : List ℕ) → pieceOf f t ≡ some xs → length xs ≤ 2
+pub piece-short : (f : PartForm) (t xs : List ℕ) → pieceOf f t ≡ some xs → length xs ≤ 2
 unfolding pieceOf
 piece-short f t xs e =
     let (v, a, b) = bind-some (valueOf f t) (λ v. some (digits 256 (widthOf f) v)) xs e in

@@ -16,7 +16,7 @@ use Rattle.octets.proofs.Lines.{cut-rest, cut-first}
 use Rattle.buffer.specs.Writing.{Values, after}
 use Rattle.buffer.specs.declared.Value.{Value}
 use Rattle.buffer.specs.declared.Value.the-variants.{Fault, Upto}
-use Rattle.address.specs.declared.part.Form.{Form}
+use Rattle.address.specs.declared.part.PartForm.{PartForm}
 use Rattle.address.specs.Part.{apart, partEnd, pieceOf, joined, partsBy}
 use Rattle.buffer.proofs.Values.{Begun, begun-piece, begun-fault, begun-all}
 use Rattle.address.proofs.Numbers.{piece-short}
@@ -82,7 +82,7 @@ module _ (c : ℕ) (p : List ℕ → Option (List ℕ)) where
     part-few k xs g m f = part-one k xs m f ∙ ap (λ b. provided b (xs ++ [])) (ne-eqb 1 k (λ r. g (sym r)))
 
 -- one step of a reader: the part up to z was read, or it was not
-module _ (f : Form) (c k : ℕ) {o₀ o : List ℕ} {n m : ℕ} {all : Option (List ℕ)} (s : List ℕ) (j e z : ℕ) (h : j ≤ e) (l : e ≤ length s) (q : z ≡ partEnd c s j e)
+module _ (f : PartForm) (c k : ℕ) {o₀ o : List ℕ} {n m : ℕ} {all : Option (List ℕ)} (s : List ℕ) (j e z : ℕ) (h : j ≤ e) (l : e ≤ length s) (q : z ≡ partEnd c s j e)
     (b : Begun o₀ o n m all (partsBy c (pieceOf f) k (slice j e s))) (o′ : List ℕ) (x : Value) (p : Values o o′ m x (pieceOf f (slice j z s))) where
   pub step-fault : x ≡ Fault → all ≡ none
   step-fault y = begun-fault b (part-fault c (pieceOf f) s j e z h l q k (rw y at p))
@@ -103,6 +103,6 @@ module _ (f : Form) (c k : ℕ) {o₀ o : List ℕ} {n m : ℕ} {all : Option (L
     pub step-few : (k ≡ 1 → ⊥) → e ≤ z → all ≡ none
     step-few g v = let (xs, a, w) = got in begun-fault b (part-few c (pieceOf f) s j e z h l q k xs g v a)
 
-pub step-many : (f : Form) (c : ℕ) {o₀ o : List ℕ} {n m : ℕ} {all : Option (List ℕ)} (k : ℕ) (t : List ℕ) → k ≤ 0 → Begun o₀ o n m all (partsBy c (pieceOf f) k t) → all ≡ none
+pub step-many : (f : PartForm) (c : ℕ) {o₀ o : List ℕ} {n m : ℕ} {all : Option (List ℕ)} (k : ℕ) (t : List ℕ) → k ≤ 0 → Begun o₀ o n m all (partsBy c (pieceOf f) k t) → all ≡ none
 step-many f c zero t h b = begun-fault b (none-left c (pieceOf f) t)
 step-many f c (suc k) t h b = absurd (omega arith)

@@ -12,8 +12,8 @@ use Rattle.format.specs.Digits.{digits, number, digitValue}
 use Rattle.format.specs.Hex.{hexPair}
 use Rattle.format.specs.Address.{smallNumber, groupOf}
 use Rattle.octets.specs.Octets.{frontEnd}
-use Rattle.address.specs.declared.part.Form.{Form}
-use Rattle.address.specs.declared.part.Form.the-variants.{Pair, Small, Group}
+use Rattle.address.specs.declared.part.PartForm.{PartForm}
+use Rattle.address.specs.declared.part.PartForm.the-variants.{Pair, Small, Group}
 
 -- the value of a hex digit, or 16 if the octet is none
 unfoldable pub hexOf : ℕ → ℕ
@@ -41,19 +41,19 @@ abbrev pub partEnd : ℕ → List ℕ → ℕ → ℕ → ℕ
 partEnd c t i e = frontEnd (apart c) t i e
 
 -- the mark between parts of a form
-abbrev pub markOf : Form → ℕ
+abbrev pub markOf : PartForm → ℕ
 markOf Pair = code "-"
 markOf Small = code "."
 markOf Group = code ":"
 
 -- the number of octets of a part
-abbrev pub widthOf : Form → ℕ
+abbrev pub widthOf : PartForm → ℕ
 widthOf Pair = 1
 widthOf Small = 1
 widthOf Group = 2
 
 -- the number of a part
-abbrev pub valueOf : Form → List ℕ → Option ℕ
+abbrev pub valueOf : PartForm → List ℕ → Option ℕ
 valueOf Pair t = hexPair t
 valueOf Small t = smallNumber t
 valueOf Group t = groupOf t
@@ -63,7 +63,7 @@ abbrev pub octetsOf : ℕ → Option ℕ → Option (List ℕ)
 octetsOf w o = o >>= λ v. some (digits 256 w v)
 
 -- the octets of a part
-unfoldable pub pieceOf : Form → List ℕ → Option (List ℕ)
+unfoldable pub pieceOf : PartForm → List ℕ → Option (List ℕ)
 pieceOf f t = octetsOf (widthOf f) (valueOf f t)
 
 -- the octets of parts, if they are exactly w
@@ -75,5 +75,5 @@ unfoldable pub partsBy : ℕ → (List ℕ → Option (List ℕ)) → ℕ → Li
 partsBy c p w t = joined w (eachOf p (splitOn c t))
 
 -- exactly w parts of a form
-abbrev pub partsOf : Form → ℕ → List ℕ → Option (List ℕ)
+abbrev pub partsOf : PartForm → ℕ → List ℕ → Option (List ℕ)
 partsOf f w t = partsBy (markOf f) (pieceOf f) w t

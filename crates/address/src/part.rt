@@ -17,7 +17,7 @@ use buffer::put;
 use octets::Number;
 
 // The forms of a part: two hex digits, a number 0 to 255, a group of 1 to 4 hex digits.
-pub enum Form {
+pub enum PartForm {
     Pair,
     Small,
     Group,
@@ -123,59 +123,59 @@ fn small(t: &[u8], i: usize, e: usize) -> Number
 }
 
 // The number of a part of the form f.
-pub fn number(f: Form, t: &[u8], i: usize, e: usize) -> Number
+pub fn number(f: PartForm, t: &[u8], i: usize, e: usize) -> Number
     requires { ⌜ (i ≤ e) × (e ≤ length (now t)) ⌝ }
     ensures { λ r. ⌜ r ≡ numberOf (valueOf f (slice i e (now (t .entry)))) ⌝ }
 {
     match f {
-        Form::Pair => pair(t, i, e),
-        Form::Small => small(t, i, e),
-        Form::Group => group(t, i, e),
+        PartForm::Pair => pair(t, i, e),
+        PartForm::Small => small(t, i, e),
+        PartForm::Group => group(t, i, e),
     }
 }
 
 // The mark between parts of the form f.
-fn mark(f: Form) -> u8
+fn mark(f: PartForm) -> u8
     ensures { λ r. ⌜ r ≡ markOf f ⌝ }
 {
     match f {
-        Form::Pair => b'-',
-        Form::Small => b'.',
-        Form::Group => b':',
+        PartForm::Pair => b'-',
+        PartForm::Small => b'.',
+        PartForm::Group => b':',
     }
 }
 
 // Writes a number in the octets of a part of the form f.
-pub fn put_number(out: &mut [u8], n: usize, f: Form, v: u64) -> usize
-    requires { ⌜ n < 2 ^ 32 ⌝ }
-    ensures { λ r. ⌜ Wrote (now (out .entry)) (now (out .exit)) n r (digits 256 (widthOf f) v) ⌝ }
+pub fn put_number(out: &mut [u8], at: usize, f: PartForm, v: u64) -> usize
+    requires { ⌜ at < 2 ^ 32 ⌝ }
+    ensures { λ r. ⌜ Wrote (now (out .entry)) (now (out .exit)) at r (digits 256 (widthOf f) v) ⌝ }
 {
     match f {
-        Form::Group => {
-            put(out, n, (v / 256 % 256) as u8);
-            put(out, n + 1, (v % 256) as u8);
-            n + 2
+        PartForm::Group => {
+            put(out, at, (v / 256 % 256) as u8);
+            put(out, at + 1, (v % 256) as u8);
+            at + 2
         }
-        Form::Pair => {
-            put(out, n, (v % 256) as u8);
-            n + 1
+        PartForm::Pair => {
+            put(out, at, (v % 256) as u8);
+            at + 1
         }
-        Form::Small => {
-            put(out, n, (v % 256) as u8);
-            n + 1
+        PartForm::Small => {
+            put(out, at, (v % 256) as u8);
+            at + 1
         }
     }
 }
 
 // Reads one part into its octets.
-pub fn piece(out: &mut [u8], n: usize, f: Form, t: &[u8], i: usize, e: usize) -> Value
-    requires { ⌜ (n < 2 ^ 32) × (i ≤ e) × (e ≤ length (now t)) ⌝ }
-    ensures { λ r. ⌜ Values (now (out .entry)) (now (out .exit)) n r (pieceOf f (slice i e (now (t .entry)))) ⌝ }
+pub fn piece(out: &mut [u8], at: usize, f: PartForm, t: &[u8], i: usize, e: usize) -> Value
+    requires { ⌜ (at < 2 ^ 32) × (i ≤ e) × (e ≤ length (now t)) ⌝ }
+    ensures { λ r. ⌜ Values (now (out .entry)) (now (out .exit)) at r (pieceOf f (slice i e (now (t .entry)))) ⌝ }
 {
     let q = number(f, t, i, e);
     match q {
         Number::Value(v) => {
-            let m = put_number(out, n, f, v);
+            let m = put_number(out, at, f, v);
             Value::Upto(m)
         }
         Number::Fault => Value::Fault,
@@ -208,12 +208,20 @@ fn ended(k: usize, r: usize) -> Value
 }
 
 // Reads exactly w parts into their octets.
-pub fn parts(out: &mut [u8], n: usize, f: Form, w: usize, t: &[u8], i: usize, e: usize) -> Value
-    requires { ⌜ (n < 2 ^ 31) × (w ≤ 8) × (i ≤ e) × (e ≤ length (now t)) ⌝ }
-    ensures { λ r. ⌜ Values (now (out .entry)) (now (out .exit)) n r (partsOf f w (slice i e (now (t .entry)))) ⌝ }
+pub fn parts(
+    out: &mut [u8],
+    at: usize,
+    f: PartForm,
+    w: usize,
+    t: &[u8],
+    i: usize,
+    e: usize,
+) -> Value
+    requires { ⌜ (at < 2 ^ 31) × (w ≤ 8) × (i ≤ e) × (e ≤ length (now t)) ⌝ }
+    ensures { λ r. ⌜ Values (now (out .entry)) (now (out .exit)) at r (partsOf f w (slice i e (now (t .entry)))) ⌝ }
 {
     let c = mark(f);
-    let mut m = n;
+    let mut m = at;
     let mut j = i;
     let mut k = w;
     while 0 < k {

@@ -17,14 +17,14 @@ use digits::put_hex_octet;
 use octets::integer::two;
 
 // Writes octets in decimal, with dots between them.
-pub fn dotted(out: &mut [u8], n: usize, p: &[u8], i: usize, e: usize) -> usize
-    requires { ⌜ (n < 2 ^ 30) × (i ≤ e) × (e ≤ length (now p)) × (length (now p) ≤ 65535) ⌝ }
-    ensures { λ r. ⌜ Wrote (now (out .entry)) (now (out .exit)) n r (dottedText (slice i e (now (p .entry)))) ⌝ }
+pub fn dotted(out: &mut [u8], at: usize, p: &[u8], i: usize, e: usize) -> usize
+    requires { ⌜ (at < 2 ^ 30) × (i ≤ e) × (e ≤ length (now p)) × (length (now p) ≤ 65535) ⌝ }
+    ensures { λ r. ⌜ Wrote (now (out .entry)) (now (out .exit)) at r (dottedText (slice i e (now (p .entry)))) ⌝ }
 {
     if e <= i {
-        return n;
+        return at;
     }
-    let mut m = put_decimal(out, n, p[i] as u64);
+    let mut m = put_decimal(out, at, p[i] as u64);
     let mut j = i + 1;
     while j < e {
         m = put_octet(out, m, b'.');
@@ -35,33 +35,33 @@ pub fn dotted(out: &mut [u8], n: usize, p: &[u8], i: usize, e: usize) -> usize
 }
 
 // Writes a group in hex without leading zeros.
-fn group(out: &mut [u8], n: usize, v: u64) -> usize
-    requires { ⌜ (n + 2 < 2 ^ 32) × (v < 65536) ⌝ }
-    ensures { λ r. ⌜ Wrote (now (out .entry)) (now (out .exit)) n r (groupText v) ⌝ }
+fn group(out: &mut [u8], at: usize, v: u64) -> usize
+    requires { ⌜ (at + 2 < 2 ^ 32) × (v < 65536) ⌝ }
+    ensures { λ r. ⌜ Wrote (now (out .entry)) (now (out .exit)) at r (groupText v) ⌝ }
 {
     if v < 16 {
-        return put_octet(out, n, hex_digit(v as u8, b'a'));
+        return put_octet(out, at, hex_digit(v as u8, b'a'));
     }
     if v < 256 {
-        return put_hex_octet(out, n, v as u8, b'a');
+        return put_hex_octet(out, at, v as u8, b'a');
     }
     if v < 4096 {
-        let m = put_octet(out, n, hex_digit((v / 256) as u8, b'a'));
+        let m = put_octet(out, at, hex_digit((v / 256) as u8, b'a'));
         return put_hex_octet(out, m, (v % 256) as u8, b'a');
     }
-    let m = put_hex_octet(out, n, (v / 256) as u8, b'a');
+    let m = put_hex_octet(out, at, (v / 256) as u8, b'a');
     put_hex_octet(out, m, (v % 256) as u8, b'a')
 }
 
 // Writes groups in hex, with colons between them.
-pub fn groups(out: &mut [u8], n: usize, p: &[u8], i: usize, e: usize) -> usize
-    requires { ⌜ (n < 2 ^ 31) × (i ≤ e) × (e ≤ length (now p)) × (length (now p) ≤ 65535) × ((e - i) % 2 ≡ 0) ⌝ }
-    ensures { λ r. ⌜ Wrote (now (out .entry)) (now (out .exit)) n r (colons (Address.groups (slice i e (now (p .entry))))) ⌝ }
+pub fn groups(out: &mut [u8], at: usize, p: &[u8], i: usize, e: usize) -> usize
+    requires { ⌜ (at < 2 ^ 31) × (i ≤ e) × (e ≤ length (now p)) × (length (now p) ≤ 65535) × ((e - i) % 2 ≡ 0) ⌝ }
+    ensures { λ r. ⌜ Wrote (now (out .entry)) (now (out .exit)) at r (colons (Address.groups (slice i e (now (p .entry))))) ⌝ }
 {
     if e <= i {
-        return n;
+        return at;
     }
-    let mut m = group(out, n, two(p, i));
+    let mut m = group(out, at, two(p, i));
     let mut j = i + 2;
     while j < e {
         m = put_octet(out, m, b':');
@@ -72,7 +72,7 @@ pub fn groups(out: &mut [u8], n: usize, p: &[u8], i: usize, e: usize) -> usize
 }
 
 // A run of zero groups: the place of its first octet, and its number of groups.
-struct Run {
+struct ZeroRun {
     at: usize,
     count: usize,
 }
@@ -89,21 +89,21 @@ fn zeros(g: u64, z: usize) -> usize
 }
 
 // The longer of a run and an earlier run of z groups at j; the earlier one if they are equally long.
-fn longer(run: Run, j: usize, z: usize) -> Run
+fn longer(run: ZeroRun, j: usize, z: usize) -> ZeroRun
     ensures { λ r. ⌜ (r .at ≡ cond (leb (run .count) z) j (run .at)) × (r .count ≡ max z (run .count)) ⌝ }
 {
     if run.count <= z {
-        return Run { at: j, count: z };
+        return ZeroRun { at: j, count: z };
     }
     run
 }
 
 // The first of the longest runs of zero groups, searched from the last group backwards.
-fn longest(p: &[u8], i: usize, e: usize) -> Run
+fn longest(p: &[u8], i: usize, e: usize) -> ZeroRun
     requires { ⌜ (i ≤ e) × (e ≤ length (now p)) × (length (now p) ≤ 65535) × ((e - i) % 2 ≡ 0) ⌝ }
     ensures { λ r. ⌜ Longest (now (p .entry)) i e (r .at) (r .count) ⌝ }
 {
-    let mut run = Run { at: e, count: 0 };
+    let mut run = ZeroRun { at: e, count: 0 };
     let mut z = 0;
     let mut j = e;
     while i < j {

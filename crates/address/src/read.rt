@@ -9,25 +9,25 @@ ghost use Rattle.format.specs.Address.{readA, readAA, readAAAA};
 ghost use Rattle.buffer.specs.Writing.{Wrote, Values};
 ghost use Rattle.address.specs.Address.{DoubledAt, lastIn, groupsIn, sideIn, sixteen, filled, bothSides};
 use crate::part;
-use crate::part::Form;
+use crate::part::PartForm;
 use buffer::Value;
 use buffer::put;
 use octets::Number;
 
 // Reads four numbers 0 to 255 with dots between them.
-pub fn dotted(out: &mut [u8], n: usize, t: &[u8], i: usize, e: usize) -> Value
-    requires { ⌜ (n < 2 ^ 30) × (i ≤ e) × (e ≤ length (now t)) × (length (now t) ≤ 1048576) ⌝ }
-    ensures { λ r. ⌜ Values (now (out .entry)) (now (out .exit)) n r (readA (slice i e (now (t .entry)))) ⌝ }
+pub fn dotted(out: &mut [u8], at: usize, t: &[u8], i: usize, e: usize) -> Value
+    requires { ⌜ (at < 2 ^ 30) × (i ≤ e) × (e ≤ length (now t)) × (length (now t) ≤ 1048576) ⌝ }
+    ensures { λ r. ⌜ Values (now (out .entry)) (now (out .exit)) at r (readA (slice i e (now (t .entry)))) ⌝ }
 {
-    part::parts(out, n, Form::Small, 4, t, i, e)
+    part::parts(out, at, PartForm::Small, 4, t, i, e)
 }
 
 // Reads four groups with colons between them.
-pub fn four_groups(out: &mut [u8], n: usize, t: &[u8], i: usize, e: usize) -> Value
-    requires { ⌜ (n < 2 ^ 30) × (i ≤ e) × (e ≤ length (now t)) × (length (now t) ≤ 1048576) ⌝ }
-    ensures { λ r. ⌜ Values (now (out .entry)) (now (out .exit)) n r (readAA (slice i e (now (t .entry)))) ⌝ }
+pub fn four_groups(out: &mut [u8], at: usize, t: &[u8], i: usize, e: usize) -> Value
+    requires { ⌜ (at < 2 ^ 30) × (i ≤ e) × (e ≤ length (now t)) × (length (now t) ≤ 1048576) ⌝ }
+    ensures { λ r. ⌜ Values (now (out .entry)) (now (out .exit)) at r (readAA (slice i e (now (t .entry)))) ⌝ }
 {
-    part::parts(out, n, Form::Group, 4, t, i, e)
+    part::parts(out, at, PartForm::Group, 4, t, i, e)
 }
 
 // Whether two colons stand at j.
@@ -57,19 +57,19 @@ fn double_colon(t: &[u8], i: usize, e: usize) -> usize
 }
 
 // Reads the last part: a group or, if `tail` is true, an address in dotted form.
-fn last_part(out: &mut [u8], n: usize, t: &[u8], i: usize, e: usize, tail: bool) -> Value
-    requires { ⌜ (n < 2 ^ 31) × (i ≤ e) × (e ≤ length (now t)) ⌝ }
-    ensures { λ r. ⌜ Values (now (out .entry)) (now (out .exit)) n r (lastIn tail (slice i e (now (t .entry)))) ⌝ }
+fn last_part(out: &mut [u8], at: usize, t: &[u8], i: usize, e: usize, tail: bool) -> Value
+    requires { ⌜ (at < 2 ^ 31) × (i ≤ e) × (e ≤ length (now t)) ⌝ }
+    ensures { λ r. ⌜ Values (now (out .entry)) (now (out .exit)) at r (lastIn tail (slice i e (now (t .entry)))) ⌝ }
 {
-    let q = part::number(Form::Group, t, i, e);
+    let q = part::number(PartForm::Group, t, i, e);
     match q {
         Number::Value(v) => {
-            let m = part::put_number(out, n, Form::Group, v);
+            let m = part::put_number(out, at, PartForm::Group, v);
             Value::Upto(m)
         }
         Number::Fault => {
             if tail {
-                return part::parts(out, n, Form::Small, 4, t, i, e);
+                return part::parts(out, at, PartForm::Small, 4, t, i, e);
             }
             Value::Fault
         }
@@ -77,15 +77,15 @@ fn last_part(out: &mut [u8], n: usize, t: &[u8], i: usize, e: usize, tail: bool)
 }
 
 // Reads groups with colons between them; the last may be dotted if `tail` is true.
-fn groups(out: &mut [u8], n: usize, t: &[u8], i: usize, e: usize, tail: bool) -> Value
-    requires { ⌜ (n ≤ 2 ^ 30 + 16) × (i ≤ e) × (e ≤ length (now t)) × (length (now t) ≤ 1048576) ⌝ }
-    ensures { λ r. ⌜ Values (now (out .entry)) (now (out .exit)) n r (groupsIn tail (slice i e (now (t .entry)))) ⌝ }
+fn groups(out: &mut [u8], at: usize, t: &[u8], i: usize, e: usize, tail: bool) -> Value
+    requires { ⌜ (at ≤ 2 ^ 30 + 16) × (i ≤ e) × (e ≤ length (now t)) × (length (now t) ≤ 1048576) ⌝ }
+    ensures { λ r. ⌜ Values (now (out .entry)) (now (out .exit)) at r (groupsIn tail (slice i e (now (t .entry)))) ⌝ }
 {
-    let mut m = n;
+    let mut m = at;
     let mut j = i;
     let mut z = part::part_end(t, i, e, b':');
     while z < e {
-        let x = part::piece(out, m, Form::Group, t, j, z);
+        let x = part::piece(out, m, PartForm::Group, t, j, z);
         match x {
             Value::Fault => {
                 return Value::Fault;
@@ -101,22 +101,22 @@ fn groups(out: &mut [u8], n: usize, t: &[u8], i: usize, e: usize, tail: bool) ->
 }
 
 // Reads the groups on one side of a double colon; there may be none.
-fn side(out: &mut [u8], n: usize, t: &[u8], i: usize, e: usize, tail: bool) -> Value
-    requires { ⌜ (n ≤ 2 ^ 30 + 16) × (i ≤ e) × (e ≤ length (now t)) × (length (now t) ≤ 1048576) ⌝ }
-    ensures { λ r. ⌜ Values (now (out .entry)) (now (out .exit)) n r (sideIn tail (slice i e (now (t .entry)))) ⌝ }
+fn side(out: &mut [u8], at: usize, t: &[u8], i: usize, e: usize, tail: bool) -> Value
+    requires { ⌜ (at ≤ 2 ^ 30 + 16) × (i ≤ e) × (e ≤ length (now t)) × (length (now t) ≤ 1048576) ⌝ }
+    ensures { λ r. ⌜ Values (now (out .entry)) (now (out .exit)) at r (sideIn tail (slice i e (now (t .entry)))) ⌝ }
 {
     if i < e {
-        return groups(out, n, t, i, e, tail);
+        return groups(out, at, t, i, e, tail);
     }
-    Value::Upto(n)
+    Value::Upto(at)
 }
 
 // Writes k zero octets.
-fn put_zeros(out: &mut [u8], n: usize, k: usize) -> usize
-    requires { ⌜ (n < 2 ^ 31) × (k ≤ 16) ⌝ }
-    ensures { λ r. ⌜ Wrote (now (out .entry)) (now (out .exit)) n r (replicate k 0) ⌝ }
+fn put_zeros(out: &mut [u8], at: usize, k: usize) -> usize
+    requires { ⌜ (at < 2 ^ 31) × (k ≤ 16) ⌝ }
+    ensures { λ r. ⌜ Wrote (now (out .entry)) (now (out .exit)) at r (replicate k 0) ⌝ }
 {
-    let mut m = n;
+    let mut m = at;
     let mut c = k;
     while 0 < c {
         put(out, m, 0);
@@ -127,52 +127,52 @@ fn put_zeros(out: &mut [u8], n: usize, k: usize) -> usize
 }
 
 // Reads the right side after g octets of the left side, and puts zeros before it. It is read twice: first to know its length.
-fn right(out: &mut [u8], n: usize, g: usize, t: &[u8], i: usize, e: usize) -> Value
-    requires { ⌜ (n ≤ 2 ^ 30 + g) × (g ≤ 14) × (i ≤ e) × (e ≤ length (now t)) × (length (now t) ≤ 1048576) ⌝ }
-    ensures { λ r. ⌜ Values (now (out .entry)) (now (out .exit)) n r (filled g (sideIn true (slice i e (now (t .entry))))) ⌝ }
+fn right(out: &mut [u8], at: usize, g: usize, t: &[u8], i: usize, e: usize) -> Value
+    requires { ⌜ (at ≤ 2 ^ 30 + g) × (g ≤ 14) × (i ≤ e) × (e ≤ length (now t)) × (length (now t) ≤ 1048576) ⌝ }
+    ensures { λ r. ⌜ Values (now (out .entry)) (now (out .exit)) at r (filled g (sideIn true (slice i e (now (t .entry))))) ⌝ }
 {
-    let x = side(out, n, t, i, e, true);
+    let x = side(out, at, t, i, e, true);
     match x {
         Value::Fault => Value::Fault,
         Value::Upto(r) => {
-            let h = r - n;
+            let h = r - at;
             if 14 - g < h {
                 return Value::Fault;
             }
-            let m = put_zeros(out, n, 16 - (g + h));
+            let m = put_zeros(out, at, 16 - (g + h));
             side(out, m, t, i, e, true)
         }
     }
 }
 
-// Reads the text on both sides of the double colon at p.
-fn around(out: &mut [u8], n: usize, t: &[u8], i: usize, p: usize, e: usize) -> Value
-    requires { ⌜ (n < 2 ^ 30) × (i ≤ p) × (p + 2 ≤ e) × (e ≤ length (now t)) × (length (now t) ≤ 1048576) ⌝ }
-    ensures { λ r. ⌜ Values (now (out .entry)) (now (out .exit)) n r (bothSides (slice i p (now (t .entry))) (slice (p + 2) e (now (t .entry)))) ⌝ }
+// Reads the text on both sides of the double colon at `mid`.
+fn around(out: &mut [u8], at: usize, t: &[u8], i: usize, mid: usize, e: usize) -> Value
+    requires { ⌜ (at < 2 ^ 30) × (i ≤ mid) × (mid + 2 ≤ e) × (e ≤ length (now t)) × (length (now t) ≤ 1048576) ⌝ }
+    ensures { λ r. ⌜ Values (now (out .entry)) (now (out .exit)) at r (bothSides (slice i mid (now (t .entry))) (slice (mid + 2) e (now (t .entry)))) ⌝ }
 {
-    let x = side(out, n, t, i, p, false);
+    let x = side(out, at, t, i, mid, false);
     match x {
         Value::Fault => Value::Fault,
         Value::Upto(m) => {
-            let g = m - n;
+            let g = m - at;
             if 14 < g {
                 return Value::Fault;
             }
-            right(out, m, g, t, p + 2, e)
+            right(out, m, g, t, mid + 2, e)
         }
     }
 }
 
 // Reads a text without a double colon: exactly eight groups.
-fn whole(out: &mut [u8], n: usize, t: &[u8], i: usize, e: usize) -> Value
-    requires { ⌜ (n < 2 ^ 30) × (i ≤ e) × (e ≤ length (now t)) × (length (now t) ≤ 1048576) ⌝ }
-    ensures { λ r. ⌜ Values (now (out .entry)) (now (out .exit)) n r (sixteen (groupsIn true (slice i e (now (t .entry))))) ⌝ }
+fn whole(out: &mut [u8], at: usize, t: &[u8], i: usize, e: usize) -> Value
+    requires { ⌜ (at < 2 ^ 30) × (i ≤ e) × (e ≤ length (now t)) × (length (now t) ≤ 1048576) ⌝ }
+    ensures { λ r. ⌜ Values (now (out .entry)) (now (out .exit)) at r (sixteen (groupsIn true (slice i e (now (t .entry))))) ⌝ }
 {
-    let x = groups(out, n, t, i, e, true);
+    let x = groups(out, at, t, i, e, true);
     match x {
         Value::Fault => Value::Fault,
         Value::Upto(r) => {
-            if r - n == 16 {
+            if r - at == 16 {
                 return Value::Upto(r);
             }
             Value::Fault
@@ -181,13 +181,13 @@ fn whole(out: &mut [u8], n: usize, t: &[u8], i: usize, e: usize) -> Value
 }
 
 // Reads eight groups, or fewer with a double colon for the missing ones.
-pub fn aaaa(out: &mut [u8], n: usize, t: &[u8], i: usize, e: usize) -> Value
-    requires { ⌜ (n < 2 ^ 30) × (i ≤ e) × (e ≤ length (now t)) × (length (now t) ≤ 1048576) ⌝ }
-    ensures { λ r. ⌜ Values (now (out .entry)) (now (out .exit)) n r (readAAAA (slice i e (now (t .entry)))) ⌝ }
+pub fn aaaa(out: &mut [u8], at: usize, t: &[u8], i: usize, e: usize) -> Value
+    requires { ⌜ (at < 2 ^ 30) × (i ≤ e) × (e ≤ length (now t)) × (length (now t) ≤ 1048576) ⌝ }
+    ensures { λ r. ⌜ Values (now (out .entry)) (now (out .exit)) at r (readAAAA (slice i e (now (t .entry)))) ⌝ }
 {
     let p = double_colon(t, i, e);
     if p < e {
-        return around(out, n, t, i, p, e);
+        return around(out, at, t, i, p, e);
     }
-    whole(out, n, t, i, e)
+    whole(out, at, t, i, e)
 }

@@ -30,15 +30,15 @@ fn number_of(p: &[u8], i: usize, g: usize) -> usize
 }
 
 // Stores the k lowest digits of v, from the last on; there is room for them.
-fn store(out: &mut [u8], n: usize, t: &[u8], k: usize, v: usize)
-    requires { ⌜ (n + k ≤ length (now out)) × (0 < length (now t)) ⌝ }
-    ensures { λ _. ⌜ now (out .exit) ≡ sets (now (out .entry)) n (chars (now (t .entry)) (digits (length (now (t .entry))) k v)) ⌝ }
+fn store(out: &mut [u8], at: usize, t: &[u8], k: usize, v: usize)
+    requires { ⌜ (at + k ≤ length (now out)) × (0 < length (now t)) ⌝ }
+    ensures { λ _. ⌜ now (out .exit) ≡ sets (now (out .entry)) at (chars (now (t .entry)) (digits (length (now (t .entry))) k v)) ⌝ }
 {
     let mut i = k;
     let mut x = v;
     while 0 < i {
         i = i - 1;
-        out[n + i] = t[x % t.len()];
+        out[at + i] = t[x % t.len()];
         x = x / t.len();
     }
 }
@@ -47,7 +47,7 @@ fn store(out: &mut [u8], n: usize, t: &[u8], k: usize, v: usize)
 // unrolled for each of the two bases.
 fn groups(
     out: &mut [u8],
-    n: usize,
+    at: usize,
     t: &[u8],
     w: usize,
     g: usize,
@@ -55,11 +55,11 @@ fn groups(
     i: usize,
     c: usize,
 ) -> usize
-    requires { ⌜ Grouped w g (now t) × (i + g * c ≤ length (now p)) × (8 * g / w * c ≤ length (now out) - n) ⌝ }
-    ensures { λ r. ⌜ Wrote (now (out .entry)) (now (out .exit)) n r (chars (now (t .entry)) (toDigits w (slice i (i + g * c) (now (p .entry))))) ⌝ }
+    requires { ⌜ Grouped w g (now t) × (i + g * c ≤ length (now p)) × (8 * g / w * c ≤ length (now out) - at) ⌝ }
+    ensures { λ r. ⌜ Wrote (now (out .entry)) (now (out .exit)) at r (chars (now (t .entry)) (toDigits w (slice i (i + g * c) (now (p .entry))))) ⌝ }
 {
     let k = 8 * g / w;
-    let mut m = n;
+    let mut m = at;
     let mut j = i;
     let mut d = c;
     while 0 < d {
@@ -74,7 +74,7 @@ fn groups(
 // Writes the digits of at most one group; a short group is filled up with zeros.
 fn group(
     out: &mut [u8],
-    n: usize,
+    at: usize,
     t: &[u8],
     w: usize,
     g: usize,
@@ -82,21 +82,21 @@ fn group(
     i: usize,
     e: usize,
 ) -> usize
-    requires { ⌜ Grouped w g (now t) × (n < 2 ^ 32) × (i ≤ e) × (e ≤ i + g) × (e ≤ length (now p)) ⌝ }
-    ensures { λ r. ⌜ Wrote (now (out .entry)) (now (out .exit)) n r (chars (now (t .entry)) (toDigits w (slice i e (now (p .entry))))) ⌝ }
+    requires { ⌜ Grouped w g (now t) × (at < 2 ^ 32) × (i ≤ e) × (e ≤ i + g) × (e ≤ length (now p)) ⌝ }
+    ensures { λ r. ⌜ Wrote (now (out .entry)) (now (out .exit)) at r (chars (now (t .entry)) (toDigits w (slice i e (now (p .entry))))) ⌝ }
 {
     let mut octets = [0u8; 5];
     put_all(&mut octets, 0, &p[i..e]);
     let mut text = [0u8; 8];
     store(&mut text, 0, t, 8 * g / w, number_of(&octets, 0, g));
     let k = (8 * (e - i) + w - 1) / w;
-    put_all(out, n, &text[0..k])
+    put_all(out, at, &text[0..k])
 }
 
 // Writes the digits of the octets from i to e: at most one group, or there is no room for what follows the first group.
 fn rest(
     out: &mut [u8],
-    n: usize,
+    at: usize,
     t: &[u8],
     w: usize,
     g: usize,
@@ -104,48 +104,48 @@ fn rest(
     i: usize,
     e: usize,
 ) -> usize
-    requires { ⌜ Grouped w g (now t) × (n < 2 ^ 32) × (i ≤ e) × (e ≤ length (now p)) × (length (now p) ≤ 65535) × (i + g < e → length (now out) ≤ n + 8 * g / w) ⌝ }
-    ensures { λ r. ⌜ Wrote (now (out .entry)) (now (out .exit)) n r (chars (now (t .entry)) (toDigits w (slice i e (now (p .entry))))) ⌝ }
+    requires { ⌜ Grouped w g (now t) × (at < 2 ^ 32) × (i ≤ e) × (e ≤ length (now p)) × (length (now p) ≤ 65535) × (i + g < e → length (now out) ≤ at + 8 * g / w) ⌝ }
+    ensures { λ r. ⌜ Wrote (now (out .entry)) (now (out .exit)) at r (chars (now (t .entry)) (toDigits w (slice i e (now (p .entry))))) ⌝ }
 {
     let h = least(e, i + g);
-    group(out, n, t, w, g, p, i, h);
-    n + (8 * (e - i) + w - 1) / w
+    group(out, at, t, w, g, p, i, h);
+    at + (8 * (e - i) + w - 1) / w
 }
 
 // Writes octets in base 32, without padding. Digits for which there is no room are only counted.
-pub fn base32(out: &mut [u8], n: usize, p: &[u8], i: usize, e: usize) -> usize
-    requires { ⌜ (n < 2 ^ 30) × (i ≤ e) × (e ≤ length (now p)) × (length (now p) ≤ 65535) ⌝ }
-    ensures { λ r. ⌜ Wrote (now (out .entry)) (now (out .exit)) n r (base32Text (slice i e (now (p .entry)))) ⌝ }
+pub fn base32(out: &mut [u8], at: usize, p: &[u8], i: usize, e: usize) -> usize
+    requires { ⌜ (at < 2 ^ 30) × (i ≤ e) × (e ≤ length (now p)) × (length (now p) ≤ 65535) ⌝ }
+    ensures { λ r. ⌜ Wrote (now (out .entry)) (now (out .exit)) at r (base32Text (slice i e (now (p .entry)))) ⌝ }
 {
     let t = b"0123456789ABCDEFGHIJKLMNOPQRSTUV";
-    let c = fitting(out.len(), n, 8, (e - i) / 5);
-    let m = groups(out, n, t, 5, 5, p, i, c);
+    let c = fitting(out.len(), at, 8, (e - i) / 5);
+    let m = groups(out, at, t, 5, 5, p, i, c);
     rest(out, m, t, 5, 5, p, i + 5 * c, e)
 }
 
 // Writes octets in base 64, with padding; else as `base32`.
-pub fn base64(out: &mut [u8], n: usize, p: &[u8], i: usize, e: usize) -> usize
-    requires { ⌜ (n < 2 ^ 30) × (i ≤ e) × (e ≤ length (now p)) × (length (now p) ≤ 65535) ⌝ }
-    ensures { λ r. ⌜ Wrote (now (out .entry)) (now (out .exit)) n r (base64Text (slice i e (now (p .entry)))) ⌝ }
+pub fn base64(out: &mut [u8], at: usize, p: &[u8], i: usize, e: usize) -> usize
+    requires { ⌜ (at < 2 ^ 30) × (i ≤ e) × (e ≤ length (now p)) × (length (now p) ≤ 65535) ⌝ }
+    ensures { λ r. ⌜ Wrote (now (out .entry)) (now (out .exit)) at r (base64Text (slice i e (now (p .entry)))) ⌝ }
 {
     let t = b"ABCDEFGHIJKLMNOPQRSTUVWXYZabcdefghijklmnopqrstuvwxyz0123456789+/";
-    let c = fitting(out.len(), n, 4, (e - i) / 3);
-    let m = groups(out, n, t, 6, 3, p, i, c);
+    let c = fitting(out.len(), at, 4, (e - i) / 3);
+    let m = groups(out, at, t, 6, 3, p, i, c);
     let r = rest(out, m, t, 6, 3, p, i + 3 * c, e);
-    let k = (4 - (r - n) % 4) % 4;
+    let k = (4 - (r - at) % 4) % 4;
     let padding = [b'='; 3];
     put_all(out, r, &padding[0..k])
 }
 
 // Writes two hex digits for each octet; there is room for all.
-fn hex_pairs(out: &mut [u8], n: usize, s: &[u8]) -> usize
-    requires { ⌜ 2 * length (now s) ≤ length (now out) - n ⌝ }
-    ensures { λ r. ⌜ Wrote (now (out .entry)) (now (out .exit)) n r (hexText (now (s .entry))) ⌝ }
+fn hex_pairs(out: &mut [u8], at: usize, xs: &[u8]) -> usize
+    requires { ⌜ 2 * length (now xs) ≤ length (now out) - at ⌝ }
+    ensures { λ r. ⌜ Wrote (now (out .entry)) (now (out .exit)) at r (hexText (now (xs .entry))) ⌝ }
 {
-    let mut m = n;
+    let mut m = at;
     let mut i = 0;
-    while i < s.len() {
-        let b = s[i];
+    while i < xs.len() {
+        let b = xs[i];
         out[m] = hex_digit(b / 16 % 16, b'A');
         out[m + 1] = hex_digit(b % 16, b'A');
         m = m + 2;
@@ -155,15 +155,15 @@ fn hex_pairs(out: &mut [u8], n: usize, s: &[u8]) -> usize
 }
 
 // Writes two hex digits for each octet. The first octet without room for both may have room for one; those after it have none.
-pub fn put_hex_upper(out: &mut [u8], n: usize, s: &[u8]) -> usize
-    requires { ⌜ (n < 2 ^ 32) × (length (now s) < 2 ^ 32) ⌝ }
-    ensures { λ r. ⌜ Wrote (now (out .entry)) (now (out .exit)) n r (hexText (now (s .entry))) ⌝ }
+pub fn put_hex_upper(out: &mut [u8], at: usize, xs: &[u8]) -> usize
+    requires { ⌜ (at < 2 ^ 32) × (length (now xs) < 2 ^ 32) ⌝ }
+    ensures { λ r. ⌜ Wrote (now (out .entry)) (now (out .exit)) at r (hexText (now (xs .entry))) ⌝ }
 {
-    let c = fitting(out.len(), n, 2, s.len());
-    let m = hex_pairs(out, n, &s[0..c]);
-    if s.len() <= c {
+    let c = fitting(out.len(), at, 2, xs.len());
+    let m = hex_pairs(out, at, &xs[0..c]);
+    if xs.len() <= c {
         return m;
     }
-    put_hex_octet(out, m, s[c], b'A');
-    n + 2 * s.len()
+    put_hex_octet(out, m, xs[c], b'A');
+    at + 2 * xs.len()
 }

@@ -156,17 +156,17 @@ fn take_digits(t: &[u8], i: usize, e: usize, a: &[u8], skip: usize, base: usize,
 }
 
 // Writes a number in g octets: with a constant for g the loop is unrolled.
-fn put_group(out: &mut [u8], n: usize, g: usize, v: usize) -> usize
-    requires { ⌜ (n < 2 ^ 32) × (g ≤ 8) ⌝ }
-    ensures { λ r. ⌜ Wrote (now (out .entry)) (now (out .exit)) n r (digits 256 g v) ⌝ }
+fn put_group(out: &mut [u8], at: usize, g: usize, v: usize) -> usize
+    requires { ⌜ (at < 2 ^ 32) × (g ≤ 8) ⌝ }
+    ensures { λ r. ⌜ Wrote (now (out .entry)) (now (out .exit)) at r (digits 256 g v) ⌝ }
 {
     if g == 3 {
-        return put_octets(out, n, 3, v as u64);
+        return put_octets(out, at, 3, v as u64);
     }
     if g == 4 {
-        return put_octets(out, n, 4, v as u64);
+        return put_octets(out, at, 4, v as u64);
     }
-    put_octets(out, n, g, v as u64)
+    put_octets(out, at, g, v as u64)
 }
 
 // 2 to the power z.
@@ -184,9 +184,9 @@ fn power(z: usize) -> usize
 }
 
 // Writes the octets of the last q digits, which make v. The left-over bits must be zero and fewer than w.
-pub fn finish(out: &mut [u8], n: usize, w: usize, q: usize, v: usize) -> Value
-    requires { ⌜ (n < 2 ^ 32) × (0 < w) × (w ≤ 6) × (q ≤ 8) × (v < 2 ^ (w * q)) ⌝ }
-    ensures { λ r. ⌜ Values (now (out .entry)) (now (out .exit)) n r (wholeOctets w 8 0 (digits 2 (w * q) v)) ⌝ }
+pub fn finish(out: &mut [u8], at: usize, w: usize, q: usize, v: usize) -> Value
+    requires { ⌜ (at < 2 ^ 32) × (0 < w) × (w ≤ 6) × (q ≤ 8) × (v < 2 ^ (w * q)) ⌝ }
+    ensures { λ r. ⌜ Values (now (out .entry)) (now (out .exit)) at r (wholeOctets w 8 0 (digits 2 (w * q) v)) ⌝ }
 {
     let z = w * q % 8;
     if w <= z {
@@ -196,13 +196,13 @@ pub fn finish(out: &mut [u8], n: usize, w: usize, q: usize, v: usize) -> Value
     if v % p != 0 {
         return Value::Fault;
     }
-    Value::Upto(put_octets(out, n, w * q / 8, (v / p) as u64))
+    Value::Upto(put_octets(out, at, w * q / 8, (v / p) as u64))
 }
 
 // Reads all whole groups of digits from i on, and the digits after them.
 pub fn groups(
     out: &mut [u8],
-    n: usize,
+    at: usize,
     t: &[u8],
     i: usize,
     e: usize,
@@ -213,10 +213,10 @@ pub fn groups(
     k: usize,
     g: usize,
 ) -> Front
-    requires { ⌜ (n ≤ 2 ^ 30) × (i ≤ e) × (e ≤ length (now t)) × (length (now t) ≤ 2 ^ 24) × (256 ≤ length (now a)) × Grouping w base k g ⌝ }
-    ensures { λ r. ⌜ Begun (now (out .entry)) (now (out .exit)) n (now (a .entry)) skip w base (now (t .entry)) i e k (r .at) (r .end) (r .count) (r .number) × (r .count < k) ⌝ }
+    requires { ⌜ (at ≤ 2 ^ 30) × (i ≤ e) × (e ≤ length (now t)) × (length (now t) ≤ 2 ^ 24) × (256 ≤ length (now a)) × Grouping w base k g ⌝ }
+    ensures { λ r. ⌜ Begun (now (out .entry)) (now (out .exit)) at (now (a .entry)) skip w base (now (t .entry)) i e k (r .at) (r .end) (r .count) (r .number) × (r .count < k) ⌝ }
 {
-    let mut m = n;
+    let mut m = at;
     let d = take_digits(t, i, e, a, skip, base, k);
     let mut j = d.at;
     let mut q = d.count;
@@ -239,7 +239,7 @@ pub fn groups(
 // Reads the digits from i to e; nothing else may stand there, but for what is left out.
 fn octets(
     out: &mut [u8],
-    n: usize,
+    at: usize,
     t: &[u8],
     i: usize,
     e: usize,
@@ -250,10 +250,10 @@ fn octets(
     k: usize,
     g: usize,
 ) -> Value
-    requires { ⌜ (n ≤ 2 ^ 30) × (i ≤ e) × (e ≤ length (now t)) × (length (now t) ≤ 2 ^ 24) × (256 ≤ length (now a)) × Grouping w base k g ⌝ }
-    ensures { λ r. ⌜ Values (now (out .entry)) (now (out .exit)) n r (octetsBy (now (a .entry)) skip w base (slice i e (now (t .entry)))) ⌝ }
+    requires { ⌜ (at ≤ 2 ^ 30) × (i ≤ e) × (e ≤ length (now t)) × (length (now t) ≤ 2 ^ 24) × (256 ≤ length (now a)) × Grouping w base k g ⌝ }
+    ensures { λ r. ⌜ Values (now (out .entry)) (now (out .exit)) at r (octetsBy (now (a .entry)) skip w base (slice i e (now (t .entry)))) ⌝ }
 {
-    let d = groups(out, n, t, i, e, a, skip, w, base, k, g);
+    let d = groups(out, at, t, i, e, a, skip, w, base, k, g);
     let j = d.at;
     if j < e {
         return Value::Fault;
@@ -264,7 +264,7 @@ fn octets(
 // The same with the digits 0 to 9 and then letters, in either case. 64 stands for a blank, 99 for an octet that is no digit.
 pub fn lettered(
     out: &mut [u8],
-    n: usize,
+    at: usize,
     t: &[u8],
     i: usize,
     e: usize,
@@ -274,18 +274,18 @@ pub fn lettered(
     k: usize,
     g: usize,
 ) -> Value
-    requires { ⌜ (n ≤ 2 ^ 30) × (i ≤ e) × (e ≤ length (now t)) × (length (now t) ≤ 2 ^ 24) × Grouping w base k g ⌝ }
-    ensures { λ r. ⌜ Values (now (out .entry)) (now (out .exit)) n r (octetsBy letters skip w base (slice i e (now (t .entry)))) ⌝ }
+    requires { ⌜ (at ≤ 2 ^ 30) × (i ≤ e) × (e ≤ length (now t)) × (length (now t) ≤ 2 ^ 24) × Grouping w base k g ⌝ }
+    ensures { λ r. ⌜ Values (now (out .entry)) (now (out .exit)) at r (octetsBy letters skip w base (slice i e (now (t .entry)))) ⌝ }
 {
     let a =
         b"\x63\x63\x63\x63\x63\x63\x63\x63\x63\x40\x63\x63\x63\x63\x63\x63\x63\x63\x63\x63\x63\x63\x63\x63\x63\x63\x63\x63\x63\x63\x63\x63\x40\x63\x63\x63\x63\x63\x63\x63\x63\x63\x63\x63\x63\x63\x63\x63\x00\x01\x02\x03\x04\x05\x06\x07\x08\x09\x63\x63\x63\x63\x63\x63\x63\x0a\x0b\x0c\x0d\x0e\x0f\x10\x11\x12\x13\x14\x15\x16\x17\x18\x19\x1a\x1b\x1c\x1d\x1e\x1f\x63\x63\x63\x63\x63\x63\x63\x63\x63\x63\x0a\x0b\x0c\x0d\x0e\x0f\x10\x11\x12\x13\x14\x15\x16\x17\x18\x19\x1a\x1b\x1c\x1d\x1e\x1f\x63\x63\x63\x63\x63\x63\x63\x63\x63\x63\x63\x63\x63\x63\x63\x63\x63\x63\x63\x63\x63\x63\x63\x63\x63\x63\x63\x63\x63\x63\x63\x63\x63\x63\x63\x63\x63\x63\x63\x63\x63\x63\x63\x63\x63\x63\x63\x63\x63\x63\x63\x63\x63\x63\x63\x63\x63\x63\x63\x63\x63\x63\x63\x63\x63\x63\x63\x63\x63\x63\x63\x63\x63\x63\x63\x63\x63\x63\x63\x63\x63\x63\x63\x63\x63\x63\x63\x63\x63\x63\x63\x63\x63\x63\x63\x63\x63\x63\x63\x63\x63\x63\x63\x63\x63\x63\x63\x63\x63\x63\x63\x63\x63\x63\x63\x63\x63\x63\x63\x63\x63\x63\x63\x63\x63\x63\x63\x63\x63\x63\x63\x63\x63\x63\x63\x63\x63";
-    octets(out, n, t, i, e, a, skip, w, base, k, g)
+    octets(out, at, t, i, e, a, skip, w, base, k, g)
 }
 
 // Reads digits, and stores the octets after their count, which is stored last.
 pub fn counted(
     out: &mut [u8],
-    n: usize,
+    at: usize,
     t: &[u8],
     i: usize,
     e: usize,
@@ -294,22 +294,22 @@ pub fn counted(
     k: usize,
     g: usize,
 ) -> Value
-    requires { ⌜ (n < 2 ^ 30) × (i ≤ e) × (e ≤ length (now t)) × (length (now t) ≤ 1048576) × Grouping w base k g ⌝ }
-    ensures { λ r. ⌜ Values (now (out .entry)) (now (out .exit)) n r (countedBy w base (slice i e (now (t .entry)))) ⌝ }
+    requires { ⌜ (at < 2 ^ 30) × (i ≤ e) × (e ≤ length (now t)) × (length (now t) ≤ 1048576) × Grouping w base k g ⌝ }
+    ensures { λ r. ⌜ Values (now (out .entry)) (now (out .exit)) at r (countedBy w base (slice i e (now (t .entry)))) ⌝ }
 {
     // no octet has the number 100, so none is left out
-    let v = lettered(out, n + 1, t, i, e, 100, w, base, k, g);
+    let v = lettered(out, at + 1, t, i, e, 100, w, base, k, g);
     match v {
         Value::Fault => Value::Fault,
         Value::Upto(m) => {
-            let count = m - (n + 1);
+            let count = m - (at + 1);
             if count < 1 {
                 return Value::Fault;
             }
             if 255 < count {
                 return Value::Fault;
             }
-            put(out, n, count as u8);
+            put(out, at, count as u8);
             Value::Upto(m)
         }
     }

@@ -13,35 +13,35 @@ ghost use Rattle.buffer.specs.Writing.{Wrote};
 ghost use Rattle.bitmap.specs.Types.{typesText};
 use buffer::put_octet;
 
-// Writes a type, with a space before it if types were written between start and n.
-fn put_type(out: &mut [u8], n: usize, start: usize, v: u64) -> usize
-    requires { ⌜ (start ≤ n) × (n < 2 ^ 31) × (v < 65536) ⌝ }
-    ensures { λ r. ⌜ Wrote (now (out .entry)) (now (out .exit)) n r (typesText (ltb start n) (v ∷ [])) ⌝ }
+// Writes a type, with a space before it if types were written between `start` and `at`.
+fn put_type(out: &mut [u8], at: usize, start: usize, v: u64) -> usize
+    requires { ⌜ (start ≤ at) × (at < 2 ^ 31) × (v < 65536) ⌝ }
+    ensures { λ r. ⌜ Wrote (now (out .entry)) (now (out .exit)) at r (typesText (ltb start at) (v ∷ [])) ⌝ }
 {
-    if start < n {
-        let m = put_octet(out, n, b' ');
+    if start < at {
+        let m = put_octet(out, at, b' ');
         return rrtype::print::number(out, m, v);
     }
-    rrtype::print::number(out, n, v)
+    rrtype::print::number(out, at, v)
 }
 
 // Writes a type if its bit is set.
-fn put_if(out: &mut [u8], n: usize, start: usize, v: u64, bit: u8) -> usize
-    requires { ⌜ (start ≤ n) × (n < 2 ^ 31) × (v < 65536) ⌝ }
-    ensures { λ r. ⌜ Wrote (now (out .entry)) (now (out .exit)) n r (typesText (ltb start n) (setBits v (bit ∷ []))) ⌝ }
+fn put_if(out: &mut [u8], at: usize, start: usize, v: u64, bit: u8) -> usize
+    requires { ⌜ (start ≤ at) × (at < 2 ^ 31) × (v < 65536) ⌝ }
+    ensures { λ r. ⌜ Wrote (now (out .entry)) (now (out .exit)) at r (typesText (ltb start at) (setBits v (bit ∷ []))) ⌝ }
 {
     if bit == 0 {
-        return n;
+        return at;
     }
-    put_type(out, n, start, v)
+    put_type(out, at, start, v)
 }
 
 // Writes the types of the set bits of an octet, whose highest bit is type v.
-fn octet(out: &mut [u8], n: usize, start: usize, v: u64, x: u8) -> usize
-    requires { ⌜ (start ≤ n) × (n + 120 < 2 ^ 31) × (v + 8 ≤ 65536) ⌝ }
-    ensures { λ r. ⌜ Wrote (now (out .entry)) (now (out .exit)) n r (typesText (ltb start n) (setBits v (digits 2 8 x))) ⌝ }
+fn octet(out: &mut [u8], at: usize, start: usize, v: u64, x: u8) -> usize
+    requires { ⌜ (start ≤ at) × (at + 120 < 2 ^ 31) × (v + 8 ≤ 65536) ⌝ }
+    ensures { λ r. ⌜ Wrote (now (out .entry)) (now (out .exit)) at r (typesText (ltb start at) (setBits v (digits 2 8 x))) ⌝ }
 {
-    let mut m = n;
+    let mut m = at;
     let mut t = v;
     let mut y = x;
     while 0 < y {
@@ -53,11 +53,11 @@ fn octet(out: &mut [u8], n: usize, start: usize, v: u64, x: u8) -> usize
 }
 
 // Writes the types of a block's octets, from i to e; the first bit of the first octet is type v.
-fn block(out: &mut [u8], n: usize, start: usize, p: &[u8], i: usize, e: usize, v: u64) -> usize
-    requires { ⌜ (start ≤ n) × (i ≤ e) × (e ≤ length (now p)) × (n + 2 ^ 20 < 2 ^ 31) × (v + 8 * (e - i) ≤ 65536) ⌝ }
-    ensures { λ r. ⌜ Wrote (now (out .entry)) (now (out .exit)) n r (typesText (ltb start n) (typesFrom (atOctets v (e - i)) (slice i e (now (p .entry))))) ⌝ }
+fn block(out: &mut [u8], at: usize, start: usize, p: &[u8], i: usize, e: usize, v: u64) -> usize
+    requires { ⌜ (start ≤ at) × (i ≤ e) × (e ≤ length (now p)) × (at + 2 ^ 20 < 2 ^ 31) × (v + 8 * (e - i) ≤ 65536) ⌝ }
+    ensures { λ r. ⌜ Wrote (now (out .entry)) (now (out .exit)) at r (typesText (ltb start at) (typesFrom (atOctets v (e - i)) (slice i e (now (p .entry))))) ⌝ }
 {
-    let mut m = n;
+    let mut m = at;
     let mut t = v;
     let mut j = i;
     while j < e {
@@ -69,16 +69,16 @@ fn block(out: &mut [u8], n: usize, start: usize, p: &[u8], i: usize, e: usize, v
 }
 
 // Writes the types of the blocks of p from i to e, in rising order, with spaces between them.
-pub fn field(out: &mut [u8], n: usize, p: &[u8], i: usize, e: usize) -> usize
-    requires { ⌜ (n < 2 ^ 30) × (i ≤ e) × (e ≤ length (now p)) × (length (now p) ≤ 65535) × (taken (window 0) (slice i e (now p)) ≡ took (e - i)) ⌝ }
-    ensures { λ r. ⌜ Wrote (now (out .entry)) (now (out .exit)) n r (bitmapText typeText (slice i e (now (p .entry)))) ⌝ }
+pub fn field(out: &mut [u8], at: usize, p: &[u8], i: usize, e: usize) -> usize
+    requires { ⌜ (at < 2 ^ 30) × (i ≤ e) × (e ≤ length (now p)) × (length (now p) ≤ 65535) × (taken (window 0) (slice i e (now p)) ≡ took (e - i)) ⌝ }
+    ensures { λ r. ⌜ Wrote (now (out .entry)) (now (out .exit)) at r (bitmapText typeText (slice i e (now (p .entry)))) ⌝ }
 {
-    let mut m = n;
+    let mut m = at;
     let mut j = i;
     while j < e {
         let w = p[j] as u64;
         let k = j + 2 + p[j + 1] as usize;
-        m = block(out, m, n, p, j + 2, k, w * 256);
+        m = block(out, m, at, p, j + 2, k, w * 256);
         j = k;
     }
     m

@@ -23,12 +23,12 @@ enum NextType {
     Fault,
 }
 
-// The type of the bare token from a to e.
-fn type_of(t: &[u8], a: usize, e: usize) -> NextType
-    requires { ⌜ (a ≤ e) × (e ≤ length (now t)) ⌝ }
-    ensures { λ r. ⌜ r ≡ foundAt e (typeNumber (slice a e (now (t .entry)))) ⌝ }
+// The type of the bare token from i to e.
+fn type_of(t: &[u8], i: usize, e: usize) -> NextType
+    requires { ⌜ (i ≤ e) × (e ≤ length (now t)) ⌝ }
+    ensures { λ r. ⌜ r ≡ foundAt e (typeNumber (slice i e (now (t .entry)))) ⌝ }
 {
-    let q = rrtype::read::number(t, a, e);
+    let q = rrtype::read::number(t, i, e);
     match q {
         Number::Value(v) => NextType::Found(v, e),
         Number::Fault => NextType::Fault,
@@ -49,31 +49,31 @@ fn token_type(t: &[u8], i: usize) -> NextType
     }
 }
 
-// The type at a, if four octets and digits stand there before a blank or the end: then no token need be scanned. It may deny
+// The type at i, if four octets and digits stand there before a blank or the end: then no token need be scanned. It may deny
 // a type that is there.
-fn last_type(t: &[u8], a: usize) -> NextType
-    requires { ⌜ a ≤ length (now t) ⌝ }
-    ensures { λ r. ⌜ PlainAt (now (t .entry)) a r ⌝ }
+fn last_type(t: &[u8], i: usize) -> NextType
+    requires { ⌜ i ≤ length (now t) ⌝ }
+    ensures { λ r. ⌜ PlainAt (now (t .entry)) i r ⌝ }
 {
-    if t.len() - a < 4 {
+    if t.len() - i < 4 {
         return NextType::Fault;
     }
-    let e = octets::skip(t, a + 4, t.len(), Class::Digit);
+    let e = octets::skip(t, i + 4, t.len(), Class::Digit);
     if tokens::parted_at(t, e) {
-        return type_of(t, a, e);
+        return type_of(t, i, e);
     }
     NextType::Fault
 }
 
 // The same. If nine octets are left, the type is read in one pass.
-fn plain_type(t: &[u8], a: usize) -> NextType
-    requires { ⌜ a ≤ length (now t) ⌝ }
-    ensures { λ r. ⌜ PlainAt (now (t .entry)) a r ⌝ }
+fn plain_type(t: &[u8], i: usize) -> NextType
+    requires { ⌜ i ≤ length (now t) ⌝ }
+    ensures { λ r. ⌜ PlainAt (now (t .entry)) i r ⌝ }
 {
-    if t.len() - a < 9 {
-        return last_type(t, a);
+    if t.len() - i < 9 {
+        return last_type(t, i);
     }
-    let f = rrtype::read::plain_front(t, a);
+    let f = rrtype::read::plain_front(t, i);
     match f {
         Front::Other => NextType::Fault,
         Front::Found(v, e) => {
@@ -130,16 +130,16 @@ fn fill(m: &mut [[u8; 32]; 256], t: &[u8], i: usize) -> Filled
 }
 
 // Reads the types of all tokens from i on into blocks.
-pub fn read(out: &mut [u8], n: usize, t: &[u8], i: usize) -> Value
-    requires { ⌜ (n < 2 ^ 30) × (i ≤ length (now t)) × (length (now t) ≤ 1048576) ⌝ }
-    ensures { λ r. ⌜ Values (now (out .entry)) (now (out .exit)) n r (bitmapRead (drop i (now (t .entry)))) ⌝ }
+pub fn read(out: &mut [u8], at: usize, t: &[u8], i: usize) -> Value
+    requires { ⌜ (at < 2 ^ 30) × (i ≤ length (now t)) × (length (now t) ≤ 1048576) ⌝ }
+    ensures { λ r. ⌜ Values (now (out .entry)) (now (out .exit)) at r (bitmapRead (drop i (now (t .entry)))) ⌝ }
 {
     let mut m = [[0u8; 32]; 256];
     let f = fill(&mut m, t, i);
     match f {
         Filled::Fault => Value::Fault,
         Filled::Top(top) => {
-            let e = put_blocks(out, n, &m, top);
+            let e = put_blocks(out, at, &m, top);
             Value::Upto(e)
         }
     }

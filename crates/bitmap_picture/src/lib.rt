@@ -62,28 +62,28 @@ fn is_empty(r: &[u8]) -> bool
 }
 
 // Writes the block of window w, if it holds any type.
-fn put_block(out: &mut [u8], n: usize, w: u8, r: &[u8]) -> usize
-    requires { ⌜ (n < 2 ^ 31) × (length (now r) ≤ 32) ⌝ }
-    ensures { λ k. ⌜ Wrote (now (out .entry)) (now (out .exit)) n k (blockOf w (withoutLastZeros (now (r .entry)))) ⌝ }
+fn put_block(out: &mut [u8], at: usize, w: u8, r: &[u8]) -> usize
+    requires { ⌜ (at < 2 ^ 31) × (length (now r) ≤ 32) ⌝ }
+    ensures { λ k. ⌜ Wrote (now (out .entry)) (now (out .exit)) at k (blockOf w (withoutLastZeros (now (r .entry)))) ⌝ }
 {
     if is_empty(r) {
-        return n;
+        return at;
     }
     let c = count(r);
     if c == 0 {
-        return n;
+        return at;
     }
-    let a = put_octet(out, n, w);
+    let a = put_octet(out, at, w);
     let b = put_octet(out, a, c as u8);
     put_all(out, b, &r[0..c])
 }
 
 // Writes the blocks of a picture.
-pub fn put_blocks(out: &mut [u8], n: usize, m: &[[u8; 32]; 256], top: usize) -> usize
-    requires { ⌜ (n < 2 ^ 30) × (top ≤ 256) ⌝ }
-    ensures { λ r. ⌜ ((ts : List ℕ) → Holds (now (m .entry)) top ts → Wrote (now (out .entry)) (now (out .exit)) n r (blocks ts)) ⌝ }
+pub fn put_blocks(out: &mut [u8], at: usize, m: &[[u8; 32]; 256], top: usize) -> usize
+    requires { ⌜ (at < 2 ^ 30) × (top ≤ 256) ⌝ }
+    ensures { λ r. ⌜ ((ts : List ℕ) → Holds (now (m .entry)) top ts → Wrote (now (out .entry)) (now (out .exit)) at r (blocks ts)) ⌝ }
 {
-    let mut k = n;
+    let mut k = at;
     let mut w = 0;
     while w < top {
         k = put_block(out, k, w as u8, &m[w]);

@@ -40,47 +40,47 @@ pub fn fitting(len: usize, n: usize, w: usize, count: usize) -> usize
 }
 
 // Writes one octet.
-pub fn put_octet(out: &mut [u8], n: usize, b: u8) -> usize
-    requires { ⌜ n < 2 ^ 32 ⌝ }
-    ensures { λ r. ⌜ Wrote (now (out .entry)) (now (out .exit)) n r (b ∷ []) ⌝ }
+pub fn put_octet(out: &mut [u8], at: usize, b: u8) -> usize
+    requires { ⌜ at < 2 ^ 32 ⌝ }
+    ensures { λ r. ⌜ Wrote (now (out .entry)) (now (out .exit)) at r (b ∷ []) ⌝ }
 {
-    put(out, n, b);
-    n + 1
+    put(out, at, b);
+    at + 1
 }
 
 // Writes a whole list of octets for which there is room: without a test at each octet, many are stored at once.
-fn store_all(out: &mut [u8], n: usize, s: &[u8]) -> usize
-    requires { ⌜ n + length (now s) ≤ length (now out) ⌝ }
-    ensures { λ r. ⌜ Wrote (now (out .entry)) (now (out .exit)) n r (now (s .entry)) ⌝ }
+fn store_all(out: &mut [u8], at: usize, xs: &[u8]) -> usize
+    requires { ⌜ at + length (now xs) ≤ length (now out) ⌝ }
+    ensures { λ r. ⌜ Wrote (now (out .entry)) (now (out .exit)) at r (now (xs .entry)) ⌝ }
 {
     let mut i = 0;
-    while i < s.len() {
-        out[n + i] = s[i];
+    while i < xs.len() {
+        out[at + i] = xs[i];
         i = i + 1;
     }
-    n + i
+    at + i
 }
 
 // Writes a whole list of octets.
-pub fn put_all(out: &mut [u8], n: usize, s: &[u8]) -> usize
-    requires { ⌜ (n < 2 ^ 32) × (length (now s) < 2 ^ 32) ⌝ }
-    ensures { λ r. ⌜ Wrote (now (out .entry)) (now (out .exit)) n r (now (s .entry)) ⌝ }
+pub fn put_all(out: &mut [u8], at: usize, xs: &[u8]) -> usize
+    requires { ⌜ (at < 2 ^ 32) × (length (now xs) < 2 ^ 32) ⌝ }
+    ensures { λ r. ⌜ Wrote (now (out .entry)) (now (out .exit)) at r (now (xs .entry)) ⌝ }
 {
-    if n + s.len() <= out.len() {
-        return store_all(out, n, s);
+    if at + xs.len() <= out.len() {
+        return store_all(out, at, xs);
     }
-    put_each(out, n, s)
+    put_each(out, at, xs)
 }
 
 // The same if there may not be room for all.
-fn put_each(out: &mut [u8], n: usize, s: &[u8]) -> usize
-    requires { ⌜ (n < 2 ^ 32) × (length (now s) < 2 ^ 32) ⌝ }
-    ensures { λ r. ⌜ Wrote (now (out .entry)) (now (out .exit)) n r (now (s .entry)) ⌝ }
+fn put_each(out: &mut [u8], at: usize, xs: &[u8]) -> usize
+    requires { ⌜ (at < 2 ^ 32) × (length (now xs) < 2 ^ 32) ⌝ }
+    ensures { λ r. ⌜ Wrote (now (out .entry)) (now (out .exit)) at r (now (xs .entry)) ⌝ }
 {
-    let mut m = n;
+    let mut m = at;
     let mut i = 0;
-    while i < s.len() {
-        put(out, m, s[i]);
+    while i < xs.len() {
+        put(out, m, xs[i]);
         m = m + 1;
         i = i + 1;
     }

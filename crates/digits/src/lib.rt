@@ -9,33 +9,33 @@ ghost use Rattle.digits.specs.Hex.{digitFrom};
 use buffer::put;
 
 // Writes a number in w decimal digits; the last digit is stored first.
-pub fn put_fixed(out: &mut [u8], n: usize, w: usize, v: u64) -> usize
-    requires { ⌜ (n < 2 ^ 33) × (w < 2 ^ 32) ⌝ }
-    ensures { λ r. ⌜ Wrote (now (out .entry)) (now (out .exit)) n r (fixedDecimal w v) ⌝ }
+pub fn put_fixed(out: &mut [u8], at: usize, w: usize, v: u64) -> usize
+    requires { ⌜ (at < 2 ^ 33) × (w < 2 ^ 32) ⌝ }
+    ensures { λ r. ⌜ Wrote (now (out .entry)) (now (out .exit)) at r (fixedDecimal w v) ⌝ }
 {
     let mut k = w;
     let mut x = v;
     while 0 < k {
         k = k - 1;
-        put(out, n + k, b'0' + (x % 10) as u8);
+        put(out, at + k, b'0' + (x % 10) as u8);
         x = x / 10;
     }
-    n + w
+    at + w
 }
 
 // Writes a number in w octets, big-endian; the last octet is stored first.
-pub fn put_octets(out: &mut [u8], n: usize, w: usize, v: u64) -> usize
-    requires { ⌜ (n < 2 ^ 32) × (w ≤ 8) ⌝ }
-    ensures { λ r. ⌜ Wrote (now (out .entry)) (now (out .exit)) n r (digits 256 w v) ⌝ }
+pub fn put_octets(out: &mut [u8], at: usize, w: usize, v: u64) -> usize
+    requires { ⌜ (at < 2 ^ 32) × (w ≤ 8) ⌝ }
+    ensures { λ r. ⌜ Wrote (now (out .entry)) (now (out .exit)) at r (digits 256 w v) ⌝ }
 {
     let mut k = w;
     let mut x = v;
     while 0 < k {
         k = k - 1;
-        put(out, n + k, (x % 256) as u8);
+        put(out, at + k, (x % 256) as u8);
         x = x / 256;
     }
-    n + w
+    at + w
 }
 
 // The hex digit d; `ten` is the letter for ten, `A` or `a`.
@@ -47,13 +47,13 @@ pub fn hex_digit(d: u8, ten: u8) -> u8
 }
 
 // Writes the two hex digits of an octet.
-pub fn put_hex_octet(out: &mut [u8], n: usize, b: u8, ten: u8) -> usize
-    requires { ⌜ (n < 2 ^ 34) × (ten ≤ 97) ⌝ }
-    ensures { λ r. ⌜ Wrote (now (out .entry)) (now (out .exit)) n r (map (digitFrom ten) (digits 16 2 b)) ⌝ }
+pub fn put_hex_octet(out: &mut [u8], at: usize, b: u8, ten: u8) -> usize
+    requires { ⌜ (at < 2 ^ 34) × (ten ≤ 97) ⌝ }
+    ensures { λ r. ⌜ Wrote (now (out .entry)) (now (out .exit)) at r (map (digitFrom ten) (digits 16 2 b)) ⌝ }
 {
-    put(out, n, hex_digit(b / 16 % 16, ten));
-    put(out, n + 1, hex_digit(b % 16, ten));
-    n + 2
+    put(out, at, hex_digit(b / 16 % 16, ten));
+    put(out, at + 1, hex_digit(b % 16, ten));
+    at + 2
 }
 
 // How many digits a number has.
@@ -92,10 +92,10 @@ fn digit_count(v: u64) -> usize
 }
 
 // Writes a number in decimal without leading zeros.
-pub fn put_decimal(out: &mut [u8], n: usize, v: u64) -> usize
-    requires { ⌜ (n < 2 ^ 32) × (v < 10 ^ 10) ⌝ }
-    ensures { λ r. ⌜ Wrote (now (out .entry)) (now (out .exit)) n r (decimal v) ⌝ }
+pub fn put_decimal(out: &mut [u8], at: usize, v: u64) -> usize
+    requires { ⌜ (at < 2 ^ 32) × (v < 10 ^ 10) ⌝ }
+    ensures { λ r. ⌜ Wrote (now (out .entry)) (now (out .exit)) at r (decimal v) ⌝ }
 {
     let w = digit_count(v);
-    put_fixed(out, n, w, v)
+    put_fixed(out, at, w, v)
 }

@@ -12,23 +12,37 @@ pub struct Reply {
     pub place: u32,
 }
 
+// A refusal.
+pub fn refused(number: u32, place: u32) -> Reply
+    ensures { λ r. ⌜ (r .number ≡ number) × (r .place ≡ place) ⌝ }
+{
+    Reply {
+        number: number,
+        place: place,
+    }
+}
+
+// Success, with the count of fields or octets.
+pub fn accepted(count: u32) -> Reply
+    ensures { λ r. ⌜ (r .number ≡ 0) × (r .place ≡ count) ⌝ }
+{
+    Reply {
+        number: 0,
+        place: count,
+    }
+}
+
 // Judges a description: 0 and the number of its fields, or a refusal's number and line.
-pub fn judge(s: &[u8]) -> Reply
-    ensures { λ r. ⌜ Replies r (Entries.judge (now (s .entry))) ⌝ }
+pub fn judge(stanza: &[u8]) -> Reply
+    ensures { λ r. ⌜ Replies r (Entries.judge (now (stanza .entry))) ⌝ }
 {
     let mut codes = [0u64; 64];
-    let o = stanza_judge::judged_outline(s, &mut codes);
-    let n = o.number;
+    let outline = stanza_judge::judged_outline(stanza, &mut codes);
+    let n = outline.number;
     if n == 0 {
-        return Reply {
-            number: 0,
-            place: o.count as u32,
-        };
+        return accepted(outline.count as u32);
     }
-    Reply {
-        number: n as u32,
-        place: o.line as u32,
-    }
+    refused(n as u32, outline.line as u32)
 }
 
 // Whether `many` fields, starting at `first`, are among `count`; the first field is number 1.

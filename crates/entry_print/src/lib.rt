@@ -14,6 +14,8 @@ ghost use Rattle.run_print.specs.Printing.{Accepted};
 ghost use Rattle.entry.specs.Entries.{Leaves, withRoom, runText};
 ghost use Rattle.entry_print.specs.Needs.{Needs};
 use entry::Reply;
+use entry::accepted;
+use entry::refused;
 use run_wire::Checked;
 use stanza_form::Shape;
 
@@ -76,16 +78,10 @@ fn put_text(
     let a = buffer::least(at, n);
     let need = needed(s, codes, first, many, p, out, n - a);
     if n - a < need {
-        return Reply {
-            number: 12,
-            place: need as u32,
-        };
+        return refused(12, need as u32);
     }
     let w = run_print::put_run(&mut out[a..], codes, first, many, s, p);
-    Reply {
-        number: 0,
-        place: w as u32,
-    }
+    accepted(w as u32)
 }
 
 // Prints RDATA under a run of a judged stanza.
@@ -103,40 +99,35 @@ fn print_run(
 {
     let c = run_wire::check(codes, first, many, p);
     match c {
-        Checked::Refused(number, place) => Reply {
-            number: number,
-            place: place,
-        },
+        Checked::Refused(number, place) => refused(number, place),
         Checked::Good => put_text(s, codes, first, many, p, out, at),
     }
 }
 
-// Prints RDATA under `many` fields of a description, starting at `first`: 0 and the number of octets of the text, which stands
+// Prints RDATA under `length` fields of a description, starting at `first`: 0 and the number of octets of the text, which stands
 // in `out` from `at` on; or a refusal's number and place, with `out` as it was.
-pub fn print(s: &[u8], first: usize, many: usize, p: &[u8], out: &mut [u8], at: usize) -> Reply
-    ensures { λ r. ⌜ Leaves r (now (out .exit)) (Entries.print (now (s .entry)) first many (now (p .entry)) (now (out .entry)) at) ⌝ }
+pub fn print(
+    stanza: &[u8],
+    first: usize,
+    length: usize,
+    rdata: &[u8],
+    out: &mut [u8],
+    at: usize,
+) -> Reply
+    ensures { λ r. ⌜ Leaves r (now (out .exit)) (Entries.print (now (stanza .entry)) first length (now (rdata .entry)) (now (out .entry)) at) ⌝ }
 {
-    if 65535 < p.len() {
-        return Reply {
-            number: 1,
-            place: 0,
-        };
+    if 65535 < rdata.len() {
+        return refused(1, 0);
     }
     let mut codes = [0u64; 64];
-    let o = stanza_judge::judged_outline(s, &mut codes);
-    let n = o.number;
+    let outline = stanza_judge::judged_outline(stanza, &mut codes);
+    let n = outline.number;
     if 0 < n {
-        return Reply {
-            number: n as u32,
-            place: o.line as u32,
-        };
+        return refused(n as u32, outline.line as u32);
     }
-    let count = o.count;
-    if entry::is_run(first, many, count) {
-        return print_run(s, &codes, first - 1, many, p, out, at);
+    let count = outline.count;
+    if entry::is_run(first, length, count) {
+        return print_run(stanza, &codes, first - 1, length, rdata, out, at);
     }
-    Reply {
-        number: 6,
-        place: 0,
-    }
+    refused(6, 0)
 }

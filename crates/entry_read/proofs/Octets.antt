@@ -13,8 +13,8 @@ use Rattle.format.specs.Run.{Parts, refused, parts, maxRdata}
 use Rattle.format.specs.Entries.{done}
 use Rattle.buffer.specs.Writing.{Wrote}
 use Rattle.buffer.proofs.Laws.{wrote-length, wrote-text}
-use Rattle.run_read.specs.declared.Run.{Run}
-use Rattle.run_read.specs.declared.Run.the-variants.{Refused, Done}
+use Rattle.run_read.specs.declared.RunRead.{RunRead}
+use Rattle.run_read.specs.declared.RunRead.the-variants.{Refused, Done}
 use Rattle.run_read.specs.Reading.{Stands, Reads}
 use Rattle.entry.specs.declared.Reply.{Reply}
 use Rattle.entry.specs.Entries.{Leaves, withRoom, runParts, runOctets, ReadsIn}
@@ -48,8 +48,8 @@ front-of before after m xs w h = let z : m - 0 ≡ m = omega arith in rw z (by x
 octets-done : (ks : List Kind) (origin text : List ℕ) (ps : List (List ℕ)) → runParts ks origin text ≡ parts ps → length (flat ps) ≤ maxRdata → runOctets ks origin text ≡ done (flat ps)
 octets-done ks origin text ps e h = rw (e, le-leb (length (flat ps)) maxRdata h)
 
-module _ (ks : List Kind) (origin text out : List ℕ) (at : ℕ) (before after : List ℕ) (r : Run) (v : Reads before after r (runParts ks origin text)) where
-  given : (q : Run) → r ≡ q → Reads before after q (runParts ks origin text)
+module _ (ks : List Kind) (origin text out : List ℕ) (at : ℕ) (before after : List ℕ) (r : RunRead) (v : Reads before after r (runParts ks origin text)) where
+  given : (q : RunRead) → r ≡ q → Reads before after q (runParts ks origin text)
   given q e = subst (λ x. Reads before after x (runParts ks origin text)) e v
 
   -- the run refuses the text
@@ -85,7 +85,7 @@ module _ (ks : List Kind) (origin text out : List ℕ) (at : ℕ) (before after 
           (leaves-done o out ys at a w (flat ps) reply q b (omega (arith, x .count)) (wrote-text _ (flat ps) (front-of before after m (flat ps) x (omega (arith, wrote-length x))) u) n i)
 
 -- a second reading finds what the first found: it is not refused, and there is room for what it finds
-module _ {ks : List Kind} {origin text : List ℕ} {room : ℕ} (z : ReadsIn ks origin text room) (before after : List ℕ) (r : Run) (v : Reads before after r (runParts ks origin text)) where
+module _ {ks : List Kind} {origin text : List ℕ} {room : ℕ} (z : ReadsIn ks origin text room) (before after : List ℕ) (r : RunRead) (v : Reads before after r (runParts ks origin text)) where
   pub again-done : (n i : ℕ) → r ≡ Refused n i → ⊥
   again-done n i e = not-refused _ (z .fields) n i (z .reads) (subst (λ x. Reads before after x (runParts ks origin text)) e v)
 

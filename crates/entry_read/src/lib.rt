@@ -9,6 +9,7 @@ ghost use Rattle.format.specs.Entries;
 ghost use Rattle.stanza_judge.specs.Stanza.{Outlined};
 ghost use Rattle.entry.specs.Entries.{Leaves};
 use entry::Reply;
+use entry::refused;
 use field_wire::Take;
 use stanza_judge::Outline;
 
@@ -18,8 +19,8 @@ fn is_name(p: &[u8]) -> bool
 {
     let t = field_wire::name(p, 0, p.len(), false);
     match t {
-        Take::Short => false,
-        Take::Bad => false,
+        Take::Missing => false,
+        Take::Fault => false,
         Take::Took(w) => w == p.len(),
     }
 }
@@ -27,7 +28,7 @@ fn is_name(p: &[u8]) -> bool
 // Reads a text under a stanza that is already judged.
 pub fn read_judged(
     s: &[u8],
-    o: Outline,
+    outline: Outline,
     codes: &[u64; 64],
     first: usize,
     many: usize,
@@ -36,51 +37,49 @@ pub fn read_judged(
     out: &mut [u8],
     at: usize,
 ) -> Reply
-    requires { ⌜ Outlined (now s) (now codes) o × (length (now t) ≤ 1048576) ⌝ }
+    requires { ⌜ Outlined (now s) (now codes) outline × (length (now t) ≤ 1048576) ⌝ }
     ensures { λ r. ⌜ Leaves r (now (out .exit)) (Entries.read (now (s .entry)) first many (now (origin .entry)) (now (t .entry)) (now (out .entry)) at) ⌝ }
 {
-    let n = o.number;
+    let n = outline.number;
     if 0 < n {
-        return Reply {
-            number: n as u32,
-            place: o.line as u32,
-        };
+        return refused(n as u32, outline.line as u32);
     }
-    if entry::is_run(first, many, o.count) {
+    if entry::is_run(first, many, outline.count) {
         if is_name(origin) {
             return crate::room::read_run(s, codes, first - 1, many, origin, t, out, at);
         }
-        return Reply {
-            number: 7,
-            place: 0,
-        };
+        return refused(7, 0);
     }
-    Reply {
-        number: 6,
-        place: 0,
-    }
+    refused(6, 0)
 }
 
-// Reads a text under `many` fields of a description, starting at `first`; names without a final dot are under the origin: 0 and
+// Reads a text under `length` fields of a description, starting at `first`; names without a final dot are under the origin: 0 and
 // the number of octets of the RDATA, which stand in `out` from `at` on; or a refusal's number and place, with `out` as it was.
 pub fn read(
-    s: &[u8],
+    stanza: &[u8],
     first: usize,
-    many: usize,
+    length: usize,
     origin: &[u8],
-    t: &[u8],
+    text: &[u8],
     out: &mut [u8],
     at: usize,
 ) -> Reply
-    ensures { λ r. ⌜ Leaves r (now (out .exit)) (Entries.read (now (s .entry)) first many (now (origin .entry)) (now (t .entry)) (now (out .entry)) at) ⌝ }
+    ensures { λ r. ⌜ Leaves r (now (out .exit)) (Entries.read (now (stanza .entry)) first length (now (origin .entry)) (now (text .entry)) (now (out .entry)) at) ⌝ }
 {
-    if 1048576 < t.len() {
-        return Reply {
-            number: 1,
-            place: 0,
-        };
+    if 1048576 < text.len() {
+        return refused(1, 0);
     }
     let mut codes = [0u64; 64];
-    let o = stanza_judge::judged_outline(s, &mut codes);
-    read_judged(s, o, &codes, first, many, origin, t, out, at)
+    let outline = stanza_judge::judged_outline(stanza, &mut codes);
+    read_judged(
+        stanza,
+        outline,
+        &codes,
+        first,
+        length,
+        origin,
+        text,
+        out,
+        at,
+    )
 }

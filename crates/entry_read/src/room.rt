@@ -8,7 +8,9 @@ ghost use Rattle.stanza_form.specs.Code.{fieldsOf};
 ghost use Rattle.run_wire.specs.Run.{kindsFrom, UsableRun};
 ghost use Rattle.entry.specs.Entries.{Leaves, withRoom, runOctets, ReadsIn};
 use entry::Reply;
-use run_read::Run;
+use entry::accepted;
+use entry::refused;
+use run_read::RunRead;
 
 // Reads a second time, now into the lent buffer, a text that the run reads and for which there is room.
 fn read_again(
@@ -27,24 +29,8 @@ fn read_again(
     let a = buffer::least(at, out.len());
     let r = run_read::read_run(&mut out[a..], codes, first, many, s, origin, t);
     match r {
-        Run::Refused(number, place) => Reply {
-            number: number,
-            place: place,
-        },
-        Run::Done(m) => Reply {
-            number: 0,
-            place: m as u32,
-        },
-    }
-}
-
-// A refusal.
-fn refused(number: u32, place: u32) -> Reply
-    ensures { λ r. ⌜ (r .number ≡ number) × (r .place ≡ place) ⌝ }
-{
-    Reply {
-        number: number,
-        place: place,
+        RunRead::Refused(number, place) => refused(number, place),
+        RunRead::Done(m) => accepted(m as u32),
     }
 }
 
@@ -66,8 +52,8 @@ fn read_through(
 {
     let r = run_read::read_run(short, codes, first, many, s, origin, t);
     match r {
-        Run::Refused(number, place) => refused(number, place),
-        Run::Done(m) => {
+        RunRead::Refused(number, place) => refused(number, place),
+        RunRead::Done(m) => {
             if 65535 < m {
                 return refused(11, 0);
             }
@@ -80,10 +66,7 @@ fn read_through(
                 return read_again(s, codes, first, many, origin, t, out, at);
             }
             let w = buffer::put_all(&mut out[from..], 0, &short[0..m]);
-            Reply {
-                number: 0,
-                place: w as u32,
-            }
+            accepted(w as u32)
         }
     }
 }

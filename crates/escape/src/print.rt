@@ -47,59 +47,59 @@ fn name_special(b: u8) -> bool
 }
 
 // Writes a backslash and the octet.
-fn put_slashed(out: &mut [u8], n: usize, b: u8) -> usize
-    requires { ⌜ n < 2 ^ 32 ⌝ }
-    ensures { λ r. ⌜ Wrote (now (out .entry)) (now (out .exit)) n r (92 ∷ b ∷ []) ⌝ }
+fn put_slashed(out: &mut [u8], at: usize, b: u8) -> usize
+    requires { ⌜ at < 2 ^ 32 ⌝ }
+    ensures { λ r. ⌜ Wrote (now (out .entry)) (now (out .exit)) at r (92 ∷ b ∷ []) ⌝ }
 {
-    put(out, n, b'\\');
-    put(out, n + 1, b);
-    n + 2
+    put(out, at, b'\\');
+    put(out, at + 1, b);
+    at + 2
 }
 
 // Writes a backslash and the octet's three decimal digits.
-fn put_ddd(out: &mut [u8], n: usize, b: u8) -> usize
-    requires { ⌜ n < 2 ^ 32 ⌝ }
-    ensures { λ r. ⌜ Wrote (now (out .entry)) (now (out .exit)) n r (92 ∷ fixedDecimal 3 b) ⌝ }
+fn put_ddd(out: &mut [u8], at: usize, b: u8) -> usize
+    requires { ⌜ at < 2 ^ 32 ⌝ }
+    ensures { λ r. ⌜ Wrote (now (out .entry)) (now (out .exit)) at r (92 ∷ fixedDecimal 3 b) ⌝ }
 {
-    let m = put_octet(out, n, b'\\');
+    let m = put_octet(out, at, b'\\');
     put_fixed(out, m, 3, b as u64)
 }
 
 // Writes an octet from lo to 7E hex as it is, any other as a backslash and three digits.
-fn put_shown(out: &mut [u8], n: usize, lo: u8, b: u8) -> usize
-    requires { ⌜ n < 2 ^ 32 ⌝ }
-    ensures { λ r. ⌜ Wrote (now (out .entry)) (now (out .exit)) n r (cond (inRange lo 0x7E b) (b ∷ []) (92 ∷ fixedDecimal 3 b)) ⌝ }
+fn put_shown(out: &mut [u8], at: usize, lo: u8, b: u8) -> usize
+    requires { ⌜ at < 2 ^ 32 ⌝ }
+    ensures { λ r. ⌜ Wrote (now (out .entry)) (now (out .exit)) at r (cond (inRange lo 0x7E b) (b ∷ []) (92 ∷ fixedDecimal 3 b)) ⌝ }
 {
     if b < lo {
-        return put_ddd(out, n, b);
+        return put_ddd(out, at, b);
     }
     if b'~' < b {
-        return put_ddd(out, n, b);
+        return put_ddd(out, at, b);
     }
-    put_octet(out, n, b)
+    put_octet(out, at, b)
 }
 
 // Writes an octet of a label in a name's text.
-pub fn put_escaped_name(out: &mut [u8], n: usize, b: u8) -> usize
-    requires { ⌜ n < 2 ^ 32 ⌝ }
-    ensures { λ r. ⌜ Wrote (now (out .entry)) (now (out .exit)) n r (nameEscape b) ⌝ }
+pub fn put_escaped_name(out: &mut [u8], at: usize, b: u8) -> usize
+    requires { ⌜ at < 2 ^ 32 ⌝ }
+    ensures { λ r. ⌜ Wrote (now (out .entry)) (now (out .exit)) at r (nameEscape b) ⌝ }
 {
     if name_special(b) {
-        return put_slashed(out, n, b);
+        return put_slashed(out, at, b);
     }
-    put_shown(out, n, b'!', b)
+    put_shown(out, at, b'!', b)
 }
 
 // Writes an octet of a quoted string.
-pub fn put_escaped_string(out: &mut [u8], n: usize, b: u8) -> usize
-    requires { ⌜ n < 2 ^ 32 ⌝ }
-    ensures { λ r. ⌜ Wrote (now (out .entry)) (now (out .exit)) n r (stringEscape b) ⌝ }
+pub fn put_escaped_string(out: &mut [u8], at: usize, b: u8) -> usize
+    requires { ⌜ at < 2 ^ 32 ⌝ }
+    ensures { λ r. ⌜ Wrote (now (out .entry)) (now (out .exit)) at r (stringEscape b) ⌝ }
 {
     if b == b'"' {
-        return put_slashed(out, n, b);
+        return put_slashed(out, at, b);
     }
     if b == b'\\' {
-        return put_slashed(out, n, b);
+        return put_slashed(out, at, b);
     }
-    put_shown(out, n, b' ', b)
+    put_shown(out, at, b' ', b)
 }

@@ -8,14 +8,14 @@ use buffer::put_octet;
 use digits::put_hex_octet;
 
 // Writes two lower-case hex digits for each octet, with hyphens between the octets.
-pub fn field(out: &mut [u8], n: usize, p: &[u8], i: usize, e: usize) -> usize
-    requires { ⌜ (n < 2 ^ 30) × (i ≤ e) × (e ≤ length (now p)) × (length (now p) ≤ 65535) ⌝ }
-    ensures { λ r. ⌜ Wrote (now (out .entry)) (now (out .exit)) n r (euiText (slice i e (now (p .entry)))) ⌝ }
+pub fn field(out: &mut [u8], at: usize, p: &[u8], i: usize, e: usize) -> usize
+    requires { ⌜ (at < 2 ^ 30) × (i ≤ e) × (e ≤ length (now p)) × (length (now p) ≤ 65535) ⌝ }
+    ensures { λ r. ⌜ Wrote (now (out .entry)) (now (out .exit)) at r (euiText (slice i e (now (p .entry)))) ⌝ }
 {
     if e <= i {
-        return n;
+        return at;
     }
-    let mut m = put_hex_octet(out, n, p[i], b'a');
+    let mut m = put_hex_octet(out, at, p[i], b'a');
     let mut j = i + 1;
     while j < e {
         m = put_octet(out, m, b'-');

@@ -55,8 +55,8 @@ pub fn width(f: Form, p: &[u8], i: usize) -> usize
 {
     let t = field_wire::take_field(f, p, i, p.len());
     match t {
-        Take::Short => 0,
-        Take::Bad => 0,
+        Take::Missing => 0,
+        Take::Fault => 0,
         Take::Took(w) => w,
     }
 }

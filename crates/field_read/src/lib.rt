@@ -25,91 +25,91 @@ use tokens::next_token;
 
 // What a field makes of the tokens that are left: none is there; a rule is broken; or its octets are stored up to a place, and
 // the tokens from a place in the text on are left.
-pub enum Field {
+pub enum FieldRead {
     Missing,
     Fault,
     Upto(usize, usize),
 }
 
 // The answer for a value, with the tokens from j on left.
-fn before(v: Value, j: usize) -> Field
+fn before(v: Value, j: usize) -> FieldRead
     ensures { λ r. ⌜ r ≡ placedAt v j ⌝ }
 {
     match v {
-        Value::Fault => Field::Fault,
-        Value::Upto(m) => Field::Upto(m, j),
+        Value::Fault => FieldRead::Fault,
+        Value::Upto(m) => FieldRead::Upto(m, j),
     }
 }
 
 // The answer if no token is left: only N[O] may take none.
-fn none_left(f: Form, n: usize, i: usize) -> Field
+fn none_left(f: Form, n: usize, i: usize) -> FieldRead
     ensures { λ r. ⌜ ((b t : List ℕ) (l : List Symbol) (o : List ℕ) → i ≤ length t → tokens (drop i t) ≡ [] → takesOne (ruleOf (kindOf l f)) ≡ true → Gives b b n t r (readField (kindOf l f) o [])) ⌝ }
 {
     if let Form::Name(m) = f {
         if stanza_form::is_optional(m) {
-            return Field::Upto(n, i);
+            return FieldRead::Upto(n, i);
         }
     }
-    Field::Missing
+    FieldRead::Missing
 }
 
 // Reads a field that takes one token.
 fn one_token(
     out: &mut [u8],
-    n: usize,
+    at: usize,
     d: FieldDesc,
     s: &[u8],
     origin: &[u8],
     t: &[u8],
     i: usize,
-) -> Field
-    requires { ⌜ (n < 2 ^ 30) × Usable (now s) d × (length (now s) ≤ 8192) × (isWireName (now origin) ≡ true) × (i ≤ length (now t)) × (length (now t) ≤ 1048576) × (takesOne (ruleOf (kindFor (now s) d)) ≡ true) ⌝ }
-    ensures { λ r. ⌜ Gives (now (out .entry)) (now (out .exit)) n (now (t .entry)) r (readField (kindFor (now (s .entry)) d) (now (origin .entry)) (tokens (drop i (now (t .entry))))) ⌝ }
+) -> FieldRead
+    requires { ⌜ (at < 2 ^ 30) × Usable (now s) d × (length (now s) ≤ 8192) × (isWireName (now origin) ≡ true) × (i ≤ length (now t)) × (length (now t) ≤ 1048576) × (takesOne (ruleOf (kindFor (now s) d)) ≡ true) ⌝ }
+    ensures { λ r. ⌜ Gives (now (out .entry)) (now (out .exit)) at (now (t .entry)) r (readField (kindFor (now (s .entry)) d) (now (origin .entry)) (tokens (drop i (now (t .entry))))) ⌝ }
 {
     let f = d.form;
     let k = next_token(t, i);
     match k {
-        Next::End => none_left(f, n, i),
-        Next::Bare(a, e) => before(crate::value::of_bare(out, n, d, s, origin, t, a, e), e),
-        Next::Quoted(a, e) => before(crate::value::of_quoted(out, n, f, t, a, e), e + 1),
-        Next::Broken => Field::Fault,
+        Next::End => none_left(f, at, i),
+        Next::Bare(a, e) => before(crate::value::of_bare(out, at, d, s, origin, t, a, e), e),
+        Next::Quoted(a, e) => before(crate::value::of_quoted(out, at, f, t, a, e), e + 1),
+        Next::Broken => FieldRead::Fault,
     }
 }
 
 // Reads the next string.
-fn string(out: &mut [u8], n: usize, t: &[u8], i: usize) -> Field
-    requires { ⌜ (n < 2 ^ 30) × (i ≤ length (now t)) × (length (now t) ≤ 1048576) ⌝ }
-    ensures { λ r. ⌜ Gives (now (out .entry)) (now (out .exit)) n (now (t .entry)) r (oneToken readString (tokens (drop i (now (t .entry))))) × Onward (now (out .entry)) (now (out .exit)) i r ⌝ }
+fn string(out: &mut [u8], at: usize, t: &[u8], i: usize) -> FieldRead
+    requires { ⌜ (at < 2 ^ 30) × (i ≤ length (now t)) × (length (now t) ≤ 1048576) ⌝ }
+    ensures { λ r. ⌜ Gives (now (out .entry)) (now (out .exit)) at (now (t .entry)) r (oneToken readString (tokens (drop i (now (t .entry))))) × Onward (now (out .entry)) (now (out .exit)) i r ⌝ }
 {
     let k = next_token(t, i);
     match k {
-        Next::End => Field::Missing,
-        Next::Bare(a, e) => before(text::read::string(out, n, t, a, e, false), e),
-        Next::Quoted(a, e) => before(text::read::string(out, n, t, a, e, true), e + 1),
-        Next::Broken => Field::Fault,
+        Next::End => FieldRead::Missing,
+        Next::Bare(a, e) => before(text::read::string(out, at, t, a, e, false), e),
+        Next::Quoted(a, e) => before(text::read::string(out, at, t, a, e, true), e + 1),
+        Next::Broken => FieldRead::Fault,
     }
 }
 
 // Reads the strings of all tokens that are left, at least one.
-fn strings(out: &mut [u8], n: usize, t: &[u8], i: usize) -> Field
-    requires { ⌜ (n < 2 ^ 29) × (i ≤ length (now t)) × (length (now t) ≤ 1048576) ⌝ }
-    ensures { λ r. ⌜ ((o : List ℕ) → Gives (now (out .entry)) (now (out .exit)) n (now (t .entry)) r (readField strs o (tokens (drop i (now (t .entry)))))) ⌝ }
+fn strings(out: &mut [u8], at: usize, t: &[u8], i: usize) -> FieldRead
+    requires { ⌜ (at < 2 ^ 29) × (i ≤ length (now t)) × (length (now t) ≤ 1048576) ⌝ }
+    ensures { λ r. ⌜ ((o : List ℕ) → Gives (now (out .entry)) (now (out .exit)) at (now (t .entry)) r (readField strs o (tokens (drop i (now (t .entry)))))) ⌝ }
 {
-    let mut m = n;
+    let mut m = at;
     let mut j = i;
     loop {
         let r = string(out, m, t, j);
         match r {
-            Field::Missing => {
-                if m <= n {
-                    return Field::Missing;
+            FieldRead::Missing => {
+                if m <= at {
+                    return FieldRead::Missing;
                 }
-                return Field::Upto(m, j);
+                return FieldRead::Upto(m, j);
             }
-            Field::Fault => {
-                return Field::Fault;
+            FieldRead::Fault => {
+                return FieldRead::Fault;
             }
-            Field::Upto(p, k) => {
+            FieldRead::Upto(p, k) => {
                 m = p;
                 j = k;
             }
@@ -118,41 +118,41 @@ fn strings(out: &mut [u8], n: usize, t: &[u8], i: usize) -> Field
 }
 
 // The answer for all tokens; none is left from j on.
-fn all(r: Got, j: usize) -> Field
+fn all(r: Got, j: usize) -> FieldRead
     ensures { λ q. ⌜ q ≡ gotAt r j ⌝ }
 {
     match r {
-        Got::Missing => Field::Missing,
-        Got::Fault => Field::Fault,
-        Got::Upto(m) => Field::Upto(m, j),
+        Got::Missing => FieldRead::Missing,
+        Got::Fault => FieldRead::Fault,
+        Got::Upto(m) => FieldRead::Upto(m, j),
     }
 }
 
 // Reads a field from the tokens from i on.
 pub fn read_field(
     out: &mut [u8],
-    n: usize,
+    at: usize,
     d: FieldDesc,
     s: &[u8],
     origin: &[u8],
     t: &[u8],
     i: usize,
-) -> Field
-    requires { ⌜ (n < 2 ^ 29) × Usable (now s) d × (length (now s) ≤ 8192) × (isWireName (now origin) ≡ true) × (i ≤ length (now t)) × (length (now t) ≤ 1048576) ⌝ }
-    ensures { λ r. ⌜ Gives (now (out .entry)) (now (out .exit)) n (now (t .entry)) r (readField (kindFor (now (s .entry)) d) (now (origin .entry)) (tokens (drop i (now (t .entry))))) ⌝ }
+) -> FieldRead
+    requires { ⌜ (at < 2 ^ 29) × Usable (now s) d × (length (now s) ≤ 8192) × (isWireName (now origin) ≡ true) × (i ≤ length (now t)) × (length (now t) ≤ 1048576) ⌝ }
+    ensures { λ r. ⌜ Gives (now (out .entry)) (now (out .exit)) at (now (t .entry)) r (readField (kindFor (now (s .entry)) d) (now (origin .entry)) (tokens (drop i (now (t .entry))))) ⌝ }
 {
     let f = d.form;
     if let Form::Bitmap = f {
-        return before(bitmap::read::read(out, n, t, i), t.len());
+        return before(bitmap::read::read(out, at, t, i), t.len());
     }
     if let Form::Strs = f {
-        return strings(out, n, t, i);
+        return strings(out, at, t, i);
     }
     if let Form::Base64 = f {
-        return all(base64_rest(out, n, t, i), t.len());
+        return all(base64_rest(out, at, t, i), t.len());
     }
     if let Form::Hex = f {
-        return all(hex_rest(out, n, t, i), t.len());
+        return all(hex_rest(out, at, t, i), t.len());
     }
-    one_token(out, n, d, s, origin, t, i)
+    one_token(out, at, d, s, origin, t, i)
 }

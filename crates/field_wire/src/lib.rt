@@ -14,8 +14,8 @@ use stanza_form::Shape;
 
 // What a field takes: octets are absent; one breaks its rule; or it takes a number of octets.
 pub enum Take {
-    Short,
-    Bad,
+    Missing,
+    Fault,
     Took(usize),
 }
 
@@ -25,7 +25,7 @@ fn octets(i: usize, e: usize, w: usize) -> Take
     ensures { λ r. ⌜ ((s : List ℕ) → e ≤ length s → takenIn r ≡ taken (anyOctets w) (slice i e s)) ⌝ }
 {
     if e - i < w {
-        return Take::Short;
+        return Take::Missing;
     }
     Take::Took(w)
 }
@@ -38,7 +38,7 @@ fn rest(i: usize, e: usize) -> Take
     if i < e {
         return Take::Took(e - i);
     }
-    Take::Short
+    Take::Missing
 }
 
 // Takes a count of at least lo, and as many octets.
@@ -47,15 +47,15 @@ fn counted(s: &[u8], i: usize, e: usize, lo: u8) -> Take
     ensures { λ r. ⌜ takenIn r ≡ taken (count lo) (slice i e (now (s .entry))) ⌝ }
 {
     if e <= i {
-        return Take::Short;
+        return Take::Missing;
     }
     let b = s[i];
     if b < lo {
-        return Take::Bad;
+        return Take::Fault;
     }
     let n = b as usize;
     if e - i <= n {
-        return Take::Short;
+        return Take::Missing;
     }
     Take::Took(1 + n)
 }
@@ -69,7 +69,7 @@ pub fn name(s: &[u8], i: usize, e: usize, optional: bool) -> Take
         if optional {
             return Take::Took(0);
         }
-        return Take::Short;
+        return Take::Missing;
     }
     let mut j = i;
     while j < e {
@@ -78,17 +78,17 @@ pub fn name(s: &[u8], i: usize, e: usize, optional: bool) -> Take
             return Take::Took(j - i + 1);
         }
         if 63 < n {
-            return Take::Bad;
+            return Take::Fault;
         }
         if 255 < j - i + 1 + n + 1 {
-            return Take::Bad;
+            return Take::Fault;
         }
         if e - j <= n {
-            return Take::Short;
+            return Take::Missing;
         }
         j = j + 1 + n;
     }
-    Take::Short
+    Take::Missing
 }
 
 // Takes counted strings to the end, at least one.
@@ -97,13 +97,13 @@ fn strings(s: &[u8], i: usize, e: usize) -> Take
     ensures { λ r. ⌜ takenIn r ≡ taken (stringCount false) (slice i e (now (s .entry))) ⌝ }
 {
     if e <= i {
-        return Take::Short;
+        return Take::Missing;
     }
     let mut j = i;
     while j < e {
         let n = s[j] as usize;
         if e - j <= n {
-            return Take::Short;
+            return Take::Missing;
         }
         j = j + 1 + n;
     }
@@ -120,23 +120,23 @@ fn bitmap(s: &[u8], i: usize, e: usize) -> Take
     while j < e {
         let w = s[j] as usize;
         if w < lo {
-            return Take::Bad;
+            return Take::Fault;
         }
         if e - j < 2 {
-            return Take::Short;
+            return Take::Missing;
         }
         let n = s[j + 1] as usize;
         if n < 1 {
-            return Take::Bad;
+            return Take::Fault;
         }
         if 32 < n {
-            return Take::Bad;
+            return Take::Fault;
         }
         if e - j < 2 + n {
-            return Take::Short;
+            return Take::Missing;
         }
         if s[j + 1 + n] == 0 {
-            return Take::Bad;
+            return Take::Fault;
         }
         lo = w + 1;
         j = j + 2 + n;

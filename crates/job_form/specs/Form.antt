@@ -16,8 +16,8 @@ use Rattle.job_form.specs.declared.form.Last.the-variants.{NoLast, From}
 use Rattle.job_form.specs.declared.form.Rest.{Rest}
 use Rattle.job_form.specs.declared.form.Rest.the-variants.{NoRest, Found}
 use Rattle.job_form.specs.declared.form.Places.{Places}
-use Rattle.job_form.specs.declared.form.Form.{Form}
-use Rattle.job_form.specs.declared.form.Form.the-variants.{Bad, Good}
+use Rattle.job_form.specs.declared.form.JobForm.{JobForm}
+use Rattle.job_form.specs.declared.form.JobForm.the-variants.{Bad, Good}
 
 -- "Nothing follows the last section"
 abbrev pub lastOf : List (List ℕ) → Option (List (List ℕ))
@@ -66,6 +66,6 @@ pub record Formed (j buffer : List ℕ) (p : Places) : Type 0 where
   pub stanza-within : p .to ≤ length j
   pub origin-within : p .origin ≤ 255
 
-abbrev pub Forms : List ℕ → List ℕ → Form → Type 0
+abbrev pub Forms : List ℕ → List ℕ → JobForm → Type 0
 Forms j buffer Bad = jobWithin j ≡ none
 Forms j buffer (Good p) = Formed j buffer p

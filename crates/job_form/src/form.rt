@@ -16,7 +16,7 @@ pub struct Places {
 }
 
 // The form of a job: it is broken; or the job's places.
-pub enum Form {
+pub enum JobForm {
     Bad,
     Good(Places),
 }
@@ -74,21 +74,21 @@ fn after_stanza(j: &[u8], at: usize, origin: &mut [u8]) -> Rest
 }
 
 // Reads a job's places; its origin is stored at the start of the lent buffer.
-pub fn read_form(j: &[u8], origin: &mut [u8]) -> Form
+pub fn read_form(j: &[u8], origin: &mut [u8]) -> JobForm
     requires { ⌜ 255 ≤ length (now origin) ⌝ }
     ensures { λ r. ⌜ Forms (now (j .entry)) (now (origin .exit)) r ⌝ }
 {
     if 65535 < j.len() {
-        return Form::Bad;
+        return JobForm::Bad;
     }
     let s = read_section(j, 0);
     match s {
-        Section::Bad => Form::Bad,
+        Section::Bad => JobForm::Bad,
         Section::Lines(from, to, _) => {
             let r = after_stanza(j, to, origin);
             match r {
-                Rest::NoRest => Form::Bad,
-                Rest::Found(n, records) => Form::Good(Places {
+                Rest::NoRest => JobForm::Bad,
+                Rest::Found(n, records) => JobForm::Good(Places {
                     from: from,
                     to: to,
                     origin: n,

@@ -11,23 +11,23 @@ use stanza_judge::Outline;
 // Writes the line that answers a record under a judged stanza. RDATA is read into `rdata`, which has room for any.
 pub fn put_record(
     out: &mut [u8],
-    n: usize,
+    at: usize,
     s: &[u8],
-    o: Outline,
+    outline: Outline,
     codes: &[u64; 64],
     origin: &[u8],
     t: &[u8],
     rdata: &mut [u8],
 ) -> usize
-    requires { ⌜ (n < 2 ^ 31) × Outlined (now s) (now codes) o × (length (now t) ≤ 1048576) × (65535 ≤ length (now rdata)) ⌝ }
-    ensures { λ r. ⌜ Wrote (now (out .entry)) (now (out .exit)) n r (lineUnder (now (s .entry)) (now (origin .entry)) (now (t .entry))) ⌝ }
+    requires { ⌜ (at < 2 ^ 31) × Outlined (now s) (now codes) outline × (length (now t) ≤ 1048576) × (65535 ≤ length (now rdata)) ⌝ }
+    ensures { λ r. ⌜ Wrote (now (out .entry)) (now (out .exit)) at r (lineUnder (now (s .entry)) (now (origin .entry)) (now (t .entry))) ⌝ }
 {
-    let r = entry_read::read_judged(s, o, codes, 1, o.count, origin, t, rdata, 0);
+    let r = entry_read::read_judged(s, outline, codes, 1, outline.count, origin, t, rdata, 0);
     let number = r.number;
     let place = r.place;
     if number == 0 {
         let m = place as usize;
-        return put_ok(out, n, &rdata[0..m]);
+        return put_ok(out, at, &rdata[0..m]);
     }
-    put_no(out, n, number, place)
+    put_no(out, at, number, place)
 }

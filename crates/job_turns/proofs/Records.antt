@@ -8,7 +8,7 @@ use lib.Seq.{slice}
 use Rattle.format.specs.Lists.{flatMap}
 use Rattle.format.specs.Job.{recordLine, written, job}
 use Rattle.job_form.specs.Lines.{linesAt, NextLine}
-use Rattle.job_form.specs.declared.form.Form.the-variants.{Bad, Good}
+use Rattle.job_form.specs.declared.form.JobForm.the-variants.{Bad, Good}
 use Rattle.job_form.specs.declared.form.Places.{Places}
 use Rattle.job_form.specs.Form.{jobAt, Forms}
 use Rattle.job_form.proofs.Places.{no-lines}

@@ -18,8 +18,8 @@ use Rattle.job_form.specs.Lines.{linesAt, NextLine}
 use Rattle.job_form.specs.Form.{Forms, Formed}
 use Rattle.job_record.specs.Answer.{lineUnder}
 use Rattle.job_form.specs.declared.form.Places.{Places}
-use Rattle.job_form.specs.declared.form.Form.{Form}
-use Rattle.job_form.specs.declared.form.Form.the-variants.{Bad, Good}
+use Rattle.job_form.specs.declared.form.JobForm.{JobForm}
+use Rattle.job_form.specs.declared.form.JobForm.the-variants.{Bad, Good}
 use Rattle.job_turns.specs.declared.Job.{Job}
 use Rattle.job_turns.specs.declared.Turn.{Turn}
 use Rattle.job_turns.specs.Job.{formOf, Begins, leftAt, Turns, AllTurns, last, before-others}
@@ -27,10 +27,10 @@ use Rattle.job_line.proofs.Answers.{record-most}
 use Rattle.job_turns.proofs.Records.{bad-written, good-written, next-written, none-written}
 
 -- the form that was found
-pub form-good : {j buffer : List ℕ} {f : Form} {p : Places} → Forms j buffer f → f ≡ Good p → Formed j buffer p
+pub form-good : {j buffer : List ℕ} {f : JobForm} {p : Places} → Forms j buffer f → f ≡ Good p → Formed j buffer p
 form-good {j} {buffer} {f} {p} h e = rw e at h
 
-pub form-bad : (j buffer : List ℕ) {f : Form} → Forms j buffer f → f ≡ Bad → Forms j buffer Bad
+pub form-bad : (j buffer : List ℕ) {f : JobForm} → Forms j buffer f → f ≡ Bad → Forms j buffer Bad
 form-bad j buffer {f} h e = rw e at h
 
 -- the parts of a job that are lent to a call

@@ -12,12 +12,12 @@ use Rattle.stanza_judge.specs.Stanza.{Outlined}
 use Rattle.buffer.specs.Writing.{Wrote}
 use Rattle.job_form.specs.Lines.{linesAt}
 use Rattle.job_form.specs.Form.{jobAt, Forms}
-use Rattle.job_form.specs.declared.form.Form.{Form}
-use Rattle.job_form.specs.declared.form.Form.the-variants.{Bad, Good}
+use Rattle.job_form.specs.declared.form.JobForm.{JobForm}
+use Rattle.job_form.specs.declared.form.JobForm.the-variants.{Bad, Good}
 use Rattle.job_turns.specs.declared.Job.{Job}
 use Rattle.job_turns.specs.declared.Turn.{Turn}
 
-abbrev pub formOf : Job → Form
+abbrev pub formOf : Job → JobForm
 formOf b = cond (b .good) (Good (b .places)) Bad
 
 -- the form is read, and the stanza is judged

@@ -4,7 +4,7 @@ ghost use mathlib.Core.Path.{_≡_};
 ghost use mathlib.Core.Bool.{true};
 ghost use lib.ListN.{length};
 ghost use Rattle.job_turns.specs.Job.{Begins, Turns};
-use job_form::form::Form;
+use job_form::form::JobForm;
 use job_form::form::Places;
 use job_form::form::read_form;
 use job_form::lines::line_end;
@@ -39,7 +39,7 @@ pub fn begin(j: &[u8]) -> Job
     let mut codes = [0u64; 64];
     let f = read_form(j, &mut origin);
     match f {
-        Form::Bad => {
+        JobForm::Bad => {
             let outline = stanza_judge::judged_outline(&j[0..0], &mut codes);
             Job {
                 good: false,
@@ -54,7 +54,7 @@ pub fn begin(j: &[u8]) -> Job
                 codes: codes,
             }
         }
-        Form::Good(places) => {
+        JobForm::Good(places) => {
             let from = places.from;
             let to = places.to;
             let outline = stanza_judge::judged_outline(&j[from..to], &mut codes);

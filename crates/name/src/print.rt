@@ -15,11 +15,11 @@ use buffer::put_octet;
 use escape::print::put_escaped_name;
 
 // Writes the octets of p from i to e, escaped.
-fn escaped(out: &mut [u8], n: usize, p: &[u8], i: usize, e: usize) -> usize
-    requires { ⌜ (n ≤ 2 ^ 31) × (i ≤ e) × (e ≤ length (now p)) × (length (now p) ≤ 65535) ⌝ }
-    ensures { λ r. ⌜ Wrote (now (out .entry)) (now (out .exit)) n r (flatMap nameEscape (slice i e (now (p .entry)))) ⌝ }
+fn escaped(out: &mut [u8], at: usize, p: &[u8], i: usize, e: usize) -> usize
+    requires { ⌜ (at ≤ 2 ^ 31) × (i ≤ e) × (e ≤ length (now p)) × (length (now p) ≤ 65535) ⌝ }
+    ensures { λ r. ⌜ Wrote (now (out .entry)) (now (out .exit)) at r (flatMap nameEscape (slice i e (now (p .entry)))) ⌝ }
 {
-    let mut m = n;
+    let mut m = at;
     let mut j = i;
     while j < e {
         m = put_escaped_name(out, m, p[j]);
@@ -29,11 +29,11 @@ fn escaped(out: &mut [u8], n: usize, p: &[u8], i: usize, e: usize) -> usize
 }
 
 // Writes the labels of the name from i to e, a dot after each.
-fn labels(out: &mut [u8], n: usize, p: &[u8], i: usize, e: usize) -> usize
-    requires { ⌜ (n < 2 ^ 30) × (i < e) × (e ≤ length (now p)) × (length (now p) ≤ 65535) × (taken (labelLength true 0) (slice i e (now p)) ≡ took (e - i)) ⌝ }
-    ensures { λ r. ⌜ Wrote (now (out .entry)) (now (out .exit)) n r (parted (ascii ".") (map (flatMap nameEscape) (pieces (slice i e (now (p .entry)))))) ⌝ }
+fn labels(out: &mut [u8], at: usize, p: &[u8], i: usize, e: usize) -> usize
+    requires { ⌜ (at < 2 ^ 30) × (i < e) × (e ≤ length (now p)) × (length (now p) ≤ 65535) × (taken (labelLength true 0) (slice i e (now p)) ≡ took (e - i)) ⌝ }
+    ensures { λ r. ⌜ Wrote (now (out .entry)) (now (out .exit)) at r (parted (ascii ".") (map (flatMap nameEscape) (pieces (slice i e (now (p .entry)))))) ⌝ }
 {
-    let mut m = n;
+    let mut m = at;
     let mut j = i;
     while j + 1 < e {
         let k = j + 1 + p[j] as usize;
@@ -45,15 +45,15 @@ fn labels(out: &mut [u8], n: usize, p: &[u8], i: usize, e: usize) -> usize
 }
 
 // Writes the name in p from i to e, or nothing if there are no octets.
-pub fn name(out: &mut [u8], n: usize, p: &[u8], i: usize, e: usize) -> usize
-    requires { ⌜ (n < 2 ^ 30) × (i ≤ e) × (e ≤ length (now p)) × (length (now p) ≤ 65535) × (taken (labelLength true 0) (slice i e (now p)) ≡ took (e - i)) ⌝ }
-    ensures { λ r. ⌜ Wrote (now (out .entry)) (now (out .exit)) n r (nameText (slice i e (now (p .entry)))) ⌝ }
+pub fn name(out: &mut [u8], at: usize, p: &[u8], i: usize, e: usize) -> usize
+    requires { ⌜ (at < 2 ^ 30) × (i ≤ e) × (e ≤ length (now p)) × (length (now p) ≤ 65535) × (taken (labelLength true 0) (slice i e (now p)) ≡ took (e - i)) ⌝ }
+    ensures { λ r. ⌜ Wrote (now (out .entry)) (now (out .exit)) at r (nameText (slice i e (now (p .entry)))) ⌝ }
 {
     if e <= i {
-        return n;
+        return at;
     }
     if e <= i + 1 {
-        return put_octet(out, n, b'.');
+        return put_octet(out, at, b'.');
     }
-    labels(out, n, p, i, e)
+    labels(out, at, p, i, e)
 }

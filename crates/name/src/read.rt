@@ -22,12 +22,12 @@ enum LabelEnd {
 }
 
 // The octet of a text of one octet, else 0.
-fn sole_octet(t: &[u8], a: usize, e: usize) -> u8
-    requires { ⌜ (a ≤ e) × (e ≤ length (now t)) ⌝ }
-    ensures { λ r. ⌜ r ≡ sole (slice a e (now (t .entry))) ⌝ }
+fn sole_octet(t: &[u8], i: usize, e: usize) -> u8
+    requires { ⌜ (i ≤ e) × (e ≤ length (now t)) ⌝ }
+    ensures { λ r. ⌜ r ≡ sole (slice i e (now (t .entry))) ⌝ }
 {
-    if e - a == 1 {
-        return t[a];
+    if e - i == 1 {
+        return t[i];
     }
     0
 }
@@ -56,18 +56,18 @@ fn octet(t: &[u8], i: usize, e: usize) -> Escape
 }
 
 // Reads the label that begins at i: stores its octets, and then its count before them.
-fn label(out: &mut [u8], n: usize, t: &[u8], i: usize, e: usize) -> LabelEnd
-    requires { ⌜ (n < 2 ^ 31) × (i < e) × (e ≤ length (now t)) ⌝ }
-    ensures { λ r. ⌜ Labelled (now (out .entry)) (now (out .exit)) n (now (t .entry)) i e r ⌝ }
+fn label(out: &mut [u8], at: usize, t: &[u8], i: usize, e: usize) -> LabelEnd
+    requires { ⌜ (at < 2 ^ 31) × (i < e) × (e ≤ length (now t)) ⌝ }
+    ensures { λ r. ⌜ Labelled (now (out .entry)) (now (out .exit)) at (now (t .entry)) i e r ⌝ }
 {
-    let mut m = n + 1;
+    let mut m = at + 1;
     let mut j = i;
     while j < e {
         if t[j] == b'.' {
-            if m <= n + 1 {
+            if m <= at + 1 {
                 return LabelEnd::Fault;
             }
-            put(out, n, (m - (n + 1)) as u8);
+            put(out, at, (m - (at + 1)) as u8);
             return LabelEnd::Dot(j + 1, m);
         }
         let x = octet(t, j, e);
@@ -76,7 +76,7 @@ fn label(out: &mut [u8], n: usize, t: &[u8], i: usize, e: usize) -> LabelEnd
                 return LabelEnd::Fault;
             }
             Escape::Octet(b, k) => {
-                if n + 63 < m {
+                if at + 63 < m {
                     return LabelEnd::Fault;
                 }
                 put(out, m, b);
@@ -85,28 +85,28 @@ fn label(out: &mut [u8], n: usize, t: &[u8], i: usize, e: usize) -> LabelEnd
             }
         }
     }
-    put(out, n, (m - (n + 1)) as u8);
+    put(out, at, (m - (at + 1)) as u8);
     LabelEnd::Last(m)
 }
 
-// Ends a name whose labels stand from n to m: stores a zero octet, or the origin.
-fn finish(out: &mut [u8], n: usize, m: usize, origin: &[u8], absolute: bool) -> Value
-    requires { ⌜ (n ≤ m) × (m < 2 ^ 31) × (length (now origin) ≤ 255) ⌝ }
-    ensures { λ r. ⌜ Finished (now (out .entry)) (now (out .exit)) n m (nameEnd absolute (now (origin .entry))) r ⌝ }
+// Ends a name whose labels stand from `at` to m: stores a zero octet, or the origin.
+fn finish(out: &mut [u8], at: usize, m: usize, origin: &[u8], absolute: bool) -> Value
+    requires { ⌜ (at ≤ m) × (m < 2 ^ 31) × (length (now origin) ≤ 255) ⌝ }
+    ensures { λ r. ⌜ Finished (now (out .entry)) (now (out .exit)) at m (nameEnd absolute (now (origin .entry))) r ⌝ }
 {
     if absolute {
-        return limited_end(n, put_octet(out, m, 0));
+        return limited_end(at, put_octet(out, m, 0));
     }
-    limited_end(n, put_all(out, m, origin))
+    limited_end(at, put_all(out, m, origin))
 }
 
-// Reads the labels from a on, and ends the name: a zero octet after a final dot, else the origin.
-fn labels(out: &mut [u8], n: usize, t: &[u8], a: usize, e: usize, origin: &[u8]) -> Value
-    requires { ⌜ (n < 2 ^ 30) × (a ≤ e) × (e ≤ length (now t)) × (length (now origin) ≤ 255) ⌝ }
-    ensures { λ r. ⌜ Values (now (out .entry)) (now (out .exit)) n r (limited (spelled (now (origin .entry)) (slice a e (now (t .entry))))) ⌝ }
+// Reads the labels from i on, and ends the name: a zero octet after a final dot, else the origin.
+fn labels(out: &mut [u8], at: usize, t: &[u8], i: usize, e: usize, origin: &[u8]) -> Value
+    requires { ⌜ (at < 2 ^ 30) × (i ≤ e) × (e ≤ length (now t)) × (length (now origin) ≤ 255) ⌝ }
+    ensures { λ r. ⌜ Values (now (out .entry)) (now (out .exit)) at r (limited (spelled (now (origin .entry)) (slice i e (now (t .entry))))) ⌝ }
 {
-    let mut m = n;
-    let mut j = a;
+    let mut m = at;
+    let mut j = i;
     while j < e {
         let x = label(out, m, t, j, e);
         match x {
@@ -114,10 +114,10 @@ fn labels(out: &mut [u8], n: usize, t: &[u8], a: usize, e: usize, origin: &[u8])
                 return Value::Fault;
             }
             LabelEnd::Last(r) => {
-                return finish(out, n, r, origin, false);
+                return finish(out, at, r, origin, false);
             }
             LabelEnd::Dot(k, r) => {
-                if 255 < r - n {
+                if 255 < r - at {
                     return Value::Fault;
                 }
                 j = k;
@@ -125,20 +125,20 @@ fn labels(out: &mut [u8], n: usize, t: &[u8], a: usize, e: usize, origin: &[u8])
             }
         }
     }
-    finish(out, n, m, origin, true)
+    finish(out, at, m, origin, true)
 }
 
-// Reads the name that t spells from a to e: the root, the origin, an absolute name, or a relative one with the origin after it.
-pub fn name(out: &mut [u8], n: usize, t: &[u8], a: usize, e: usize, origin: &[u8]) -> Value
-    requires { ⌜ (n < 2 ^ 30) × (a ≤ e) × (e ≤ length (now t)) × (length (now t) ≤ 1048576) × (isWireName (now origin) ≡ true) ⌝ }
-    ensures { λ r. ⌜ Values (now (out .entry)) (now (out .exit)) n r (readName (now (origin .entry)) (slice a e (now (t .entry)))) ⌝ }
+// Reads the name that t spells from i to e: the root, the origin, an absolute name, or a relative one with the origin after it.
+pub fn name(out: &mut [u8], at: usize, t: &[u8], i: usize, e: usize, origin: &[u8]) -> Value
+    requires { ⌜ (at < 2 ^ 30) × (i ≤ e) × (e ≤ length (now t)) × (length (now t) ≤ 1048576) × (isWireName (now origin) ≡ true) ⌝ }
+    ensures { λ r. ⌜ Values (now (out .entry)) (now (out .exit)) at r (readName (now (origin .entry)) (slice i e (now (t .entry)))) ⌝ }
 {
-    let b = sole_octet(t, a, e);
+    let b = sole_octet(t, i, e);
     if b == b'@' {
-        return Value::Upto(put_all(out, n, origin));
+        return Value::Upto(put_all(out, at, origin));
     }
     if b == b'.' {
-        return Value::Upto(put_octet(out, n, 0));
+        return Value::Upto(put_octet(out, at, 0));
     }
-    labels(out, n, t, a, e, origin)
+    labels(out, at, t, i, e, origin)
 }

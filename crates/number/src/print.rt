@@ -62,16 +62,16 @@ fn first_name(s: &[u8], a: usize, b: usize, v: u64) -> Spelling
 }
 
 // Writes the number v of an integer field: the first listed symbol with that number, else decimal.
-pub fn put_number(out: &mut [u8], n: usize, s: &[u8], a: usize, b: usize, v: u64) -> usize
-    requires { ⌜ (n < 2 ^ 30) × (a ≤ b) × (b ≤ length (now s)) × (length (now s) ≤ 8192) × (v < 2 ^ 32) ⌝ }
-    ensures { λ r. ⌜ ((w : ℕ) (l : List Symbol) → symbolsIn w (now (s .entry)) a b ≡ some l → Wrote (now (out .entry)) (now (out .exit)) n r (symbolOrDecimal l v)) ⌝ }
+pub fn put_number(out: &mut [u8], at: usize, s: &[u8], a: usize, b: usize, v: u64) -> usize
+    requires { ⌜ (at < 2 ^ 30) × (a ≤ b) × (b ≤ length (now s)) × (length (now s) ≤ 8192) × (v < 2 ^ 32) ⌝ }
+    ensures { λ r. ⌜ ((w : ℕ) (l : List Symbol) → symbolsIn w (now (s .entry)) a b ≡ some l → Wrote (now (out .entry)) (now (out .exit)) at r (symbolOrDecimal l v)) ⌝ }
 {
     if a == b {
-        return digits::put_decimal(out, n, v);
+        return digits::put_decimal(out, at, v);
     }
     let q = first_name(s, a, b, v);
     match q {
-        Spelling::At(i, e) => buffer::put_all(out, n, &s[i..e]),
-        Spelling::Nothing => digits::put_decimal(out, n, v),
+        Spelling::At(i, e) => buffer::put_all(out, at, &s[i..e]),
+        Spelling::Nothing => digits::put_decimal(out, at, v),
     }
 }

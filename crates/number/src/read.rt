@@ -71,13 +71,13 @@ pub fn value_of(s: &[u8], a: usize, b: usize, t: &[u8], i: usize, e: usize) -> N
 }
 
 // Stores a number that was read, in w octets.
-pub fn value(out: &mut [u8], n: usize, w: usize, v: Number) -> Value
-    requires { ⌜ (n < 2 ^ 31) × (w ≤ 8) ⌝ }
-    ensures { λ r. ⌜ Values (now (out .entry)) (now (out .exit)) n r (octetsOf w v) ⌝ }
+pub fn value(out: &mut [u8], at: usize, w: usize, v: Number) -> Value
+    requires { ⌜ (at < 2 ^ 31) × (w ≤ 8) ⌝ }
+    ensures { λ r. ⌜ Values (now (out .entry)) (now (out .exit)) at r (octetsOf w v) ⌝ }
 {
     match v {
         Number::Value(x) => {
-            let m = put_octets(out, n, w, x);
+            let m = put_octets(out, at, w, x);
             Value::Upto(m)
         }
         Number::Fault => Value::Fault,
@@ -123,7 +123,7 @@ fn number(m: u64, s: &[u8], a: usize, b: usize, t: &[u8], i: usize, e: usize) ->
 // Reads an integer of w octets: a number in range or a symbol.
 pub fn field(
     out: &mut [u8],
-    n: usize,
+    at: usize,
     w: usize,
     s: &[u8],
     a: usize,
@@ -132,10 +132,10 @@ pub fn field(
     i: usize,
     e: usize,
 ) -> Value
-    requires { ⌜ (n < 2 ^ 30) × (w ≤ 4) × (a ≤ b) × (b ≤ length (now s)) × (length (now s) ≤ 8192) × (i ≤ e) × (e ≤ length (now t)) ⌝ }
-    ensures { λ r. ⌜ ((l : List Symbol) → symbolsIn w (now (s .entry)) a b ≡ some l → Values (now (out .entry)) (now (out .exit)) n r (readInteger w l (slice i e (now (t .entry))))) ⌝ }
+    requires { ⌜ (at < 2 ^ 30) × (w ≤ 4) × (a ≤ b) × (b ≤ length (now s)) × (length (now s) ≤ 8192) × (i ≤ e) × (e ≤ length (now t)) ⌝ }
+    ensures { λ r. ⌜ ((l : List Symbol) → symbolsIn w (now (s .entry)) a b ≡ some l → Values (now (out .entry)) (now (out .exit)) at r (readInteger w l (slice i e (now (t .entry))))) ⌝ }
 {
     let m = stanza_types::limit(w as u8);
     let v = number(m, s, a, b, t, i, e);
-    value(out, n, w, v)
+    value(out, at, w, v)
 }

@@ -107,13 +107,13 @@ pub fn is_in(c: Class, b: u8) -> bool
 }
 
 // The end of the longest run of octets in the class that starts at i, not past e.
-pub fn skip(s: &[u8], i: usize, e: usize, c: Class) -> usize
-    requires { ⌜ (i ≤ e) × (e ≤ length (now s)) ⌝ }
-    ensures { λ r. ⌜ r ≡ i + length (span (inClass c) (slice i e (now (s .entry))) .front) ⌝ }
+pub fn skip(xs: &[u8], i: usize, e: usize, c: Class) -> usize
+    requires { ⌜ (i ≤ e) × (e ≤ length (now xs)) ⌝ }
+    ensures { λ r. ⌜ r ≡ i + length (span (inClass c) (slice i e (now (xs .entry))) .front) ⌝ }
 {
     let mut j = i;
     while j < e {
-        if is_in(c, s[j]) {
+        if is_in(c, xs[j]) {
             j = j + 1;
         } else {
             return j;
@@ -124,102 +124,102 @@ pub fn skip(s: &[u8], i: usize, e: usize, c: Class) -> usize
 
 // Whether the n octets from i on are all in the class. The loop has no early exit, and n is 8 or 16 at each call, so that
 // they are tested at once.
-fn all_in(s: &[u8], i: usize, n: usize, c: Class) -> bool
-    requires { ⌜ i + n ≤ length (now s) ⌝ }
-    ensures { λ r. ⌜ r ≡ allOf (inClass c) (slice i (i + n) (now (s .entry))) ⌝ }
+fn all_in(xs: &[u8], i: usize, n: usize, c: Class) -> bool
+    requires { ⌜ i + n ≤ length (now xs) ⌝ }
+    ensures { λ r. ⌜ r ≡ allOf (inClass c) (slice i (i + n) (now (xs .entry))) ⌝ }
 {
     let mut all = true;
     let mut k = 0;
     while k < n {
-        all = all & is_in(c, s[i + k]);
+        all = all & is_in(c, xs[i + k]);
         k = k + 1;
     }
     all
 }
 
 // Whether at least 16 octets are left from i to e and the first 16 are all in the class.
-fn goes_on(s: &[u8], i: usize, e: usize, c: Class) -> bool
-    requires { ⌜ (i ≤ e) × (e ≤ length (now s)) ⌝ }
-    ensures { λ r. ⌜ r ≡ leb 16 (e - i) && allOf (inClass c) (slice i (i + 16) (now (s .entry))) ⌝ }
+fn goes_on(xs: &[u8], i: usize, e: usize, c: Class) -> bool
+    requires { ⌜ (i ≤ e) × (e ≤ length (now xs)) ⌝ }
+    ensures { λ r. ⌜ r ≡ leb 16 (e - i) && allOf (inClass c) (slice i (i + 16) (now (xs .entry))) ⌝ }
 {
     if e - i < 16 {
         return false;
     }
-    all_in(s, i, 16, c)
+    all_in(xs, i, 16, c)
 }
 
 // A place in the same line as i: 8 octets on if none of them is LF, else i.
-fn eight_on(s: &[u8], i: usize) -> usize
-    requires { ⌜ i ≤ length (now s) ⌝ }
-    ensures { λ r. ⌜ (i ≤ r) × (r ≤ length (now (s .entry))) × (lineEnd (now (s .entry)) r ≡ lineEnd (now (s .entry)) i) ⌝ }
+fn eight_on(xs: &[u8], i: usize) -> usize
+    requires { ⌜ i ≤ length (now xs) ⌝ }
+    ensures { λ r. ⌜ (i ≤ r) × (r ≤ length (now (xs .entry))) × (lineEnd (now (xs .entry)) r ≡ lineEnd (now (xs .entry)) i) ⌝ }
 {
-    if s.len() - i < 8 {
+    if xs.len() - i < 8 {
         return i;
     }
-    if all_in(s, i, 8, Class::NotNewline) {
+    if all_in(xs, i, 8, Class::NotNewline) {
         return i + 8;
     }
     i
 }
 
 // The end of the line that i is in: the place of its LF, or the end of the octets.
-pub fn line_end(s: &[u8], i: usize) -> usize
-    requires { ⌜ i ≤ length (now s) ⌝ }
-    ensures { λ r. ⌜ r ≡ lineEnd (now (s .entry)) i ⌝ }
+pub fn line_end(xs: &[u8], i: usize) -> usize
+    requires { ⌜ i ≤ length (now xs) ⌝ }
+    ensures { λ r. ⌜ r ≡ lineEnd (now (xs .entry)) i ⌝ }
 {
     let mut j = i;
-    while goes_on(s, j, s.len(), Class::NotNewline) {
+    while goes_on(xs, j, xs.len(), Class::NotNewline) {
         j = j + 16;
     }
-    let k = eight_on(s, j);
-    skip(s, k, s.len(), Class::NotNewline)
+    let k = eight_on(xs, j);
+    skip(xs, k, xs.len(), Class::NotNewline)
 }
 
 // Whether the octets from i to e, at least 16, are all free text. The last 16 are tested at once, though some may have been
 // tested before.
-fn long_free(s: &[u8], i: usize, e: usize) -> bool
-    requires { ⌜ (i + 16 ≤ e) × (e ≤ length (now s)) ⌝ }
-    ensures { λ r. ⌜ r ≡ allOf (inClass FreeText) (slice i e (now (s .entry))) ⌝ }
+fn long_free(xs: &[u8], i: usize, e: usize) -> bool
+    requires { ⌜ (i + 16 ≤ e) × (e ≤ length (now xs)) ⌝ }
+    ensures { λ r. ⌜ r ≡ allOf (inClass FreeText) (slice i e (now (xs .entry))) ⌝ }
 {
     let mut j = i;
-    while goes_on(s, j, e, Class::FreeText) {
+    while goes_on(xs, j, e, Class::FreeText) {
         j = j + 16;
     }
     if e - j < 16 {
-        return all_in(s, e - 16, 16, Class::FreeText);
+        return all_in(xs, e - 16, 16, Class::FreeText);
     }
     false
 }
 
 // Whether the octets from i to e are all free text.
-pub fn all_free(s: &[u8], i: usize, e: usize) -> bool
-    requires { ⌜ (i ≤ e) × (e ≤ length (now s)) ⌝ }
-    ensures { λ r. ⌜ r ≡ allOf (inClass FreeText) (slice i e (now (s .entry))) ⌝ }
+pub fn all_free(xs: &[u8], i: usize, e: usize) -> bool
+    requires { ⌜ (i ≤ e) × (e ≤ length (now xs)) ⌝ }
+    ensures { λ r. ⌜ r ≡ allOf (inClass FreeText) (slice i e (now (xs .entry))) ⌝ }
 {
     if 16 <= e - i {
-        return long_free(s, i, e);
+        return long_free(xs, i, e);
     }
     if 8 <= e - i {
-        if all_in(s, i, 8, Class::FreeText) {
-            return all_in(s, e - 8, 8, Class::FreeText);
+        if all_in(xs, i, 8, Class::FreeText) {
+            return all_in(xs, e - 8, 8, Class::FreeText);
         }
         return false;
     }
-    skip(s, i, e, Class::FreeText) == e
+    skip(xs, i, e, Class::FreeText) == e
 }
 
 // The octet at i, or 256 if the part ends before it.
-pub fn octet_at(s: &[u8], i: usize, e: usize) -> u16
-    requires { ⌜ e ≤ length (now s) ⌝ }
-    ensures { λ r. ⌜ r ≡ firstOr (slice i e (now (s .entry))) ⌝ }
+pub fn octet_at(xs: &[u8], i: usize, e: usize) -> u16
+    requires { ⌜ e ≤ length (now xs) ⌝ }
+    ensures { λ r. ⌜ r ≡ firstOr (slice i e (now (xs .entry))) ⌝ }
 {
-    if i < e { s[i] as u16 } else { 256 }
+    if i < e { xs[i] as u16 } else { 256 }
 }
 
 // The decimal number from i to e, of 1 to 10 digits, or a fault.
-pub fn decimal(s: &[u8], i: usize, e: usize) -> Number
-    requires { ⌜ (i ≤ e) × (e ≤ length (now s)) ⌝ }
-    ensures { λ r. ⌜ r ≡ numberOf (decimalOf (slice i e (now (s .entry)))) ⌝ }
+pub fn decimal(xs: &[u8], i: usize, e: usize) -> Number
+    requires { ⌜ (i ≤ e) × (e ≤ length (now xs)) ⌝ }
+    ensures { λ r. ⌜ r ≡ numberOf (decimalOf (slice i e (now (xs .entry)))) ⌝ }
 {
     if e - i < 1 {
         return Number::Fault;
@@ -230,7 +230,7 @@ pub fn decimal(s: &[u8], i: usize, e: usize) -> Number
     let mut v: u64 = 0;
     let mut j = i;
     while j < e {
-        let b = s[j];
+        let b = xs[j];
         if b < b'0' {
             return Number::Fault;
         }

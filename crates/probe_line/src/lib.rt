@@ -9,14 +9,14 @@ use buffer::put_octet;
 use digits::put_decimal;
 
 // Writes octets in hex, '-' for none.
-pub fn put_octets(out: &mut [u8], n: usize, octets: &[u8]) -> usize
-    requires { ⌜ (n < 2 ^ 31) × (length (now octets) < 2 ^ 31) ⌝ }
-    ensures { λ r. ⌜ Wrote (now (out .entry)) (now (out .exit)) n r (octetsText (now (octets .entry))) ⌝ }
+pub fn put_octets(out: &mut [u8], at: usize, octets: &[u8]) -> usize
+    requires { ⌜ (at < 2 ^ 31) × (length (now octets) < 2 ^ 31) ⌝ }
+    ensures { λ r. ⌜ Wrote (now (out .entry)) (now (out .exit)) at r (octetsText (now (octets .entry))) ⌝ }
 {
     if octets.len() == 0 {
-        return put_octet(out, n, b'-');
+        return put_octet(out, at, b'-');
     }
-    put_hex_upper(out, n, octets)
+    put_hex_upper(out, at, octets)
 }
 
 // Writes an answer's number and its place.

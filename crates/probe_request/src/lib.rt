@@ -74,36 +74,36 @@ fn next_word(line: &[u8], end: usize) -> Span
 }
 
 // Reads the octets that the word from i to e spells; '-' spells none.
-fn word_octets(out: &mut [u8], n: usize, t: &[u8], i: usize, e: usize) -> Value
-    requires { ⌜ (n ≤ 2 ^ 30) × (i ≤ e) × (e ≤ length (now t)) × (length (now t) ≤ 2 ^ 24) ⌝ }
-    ensures { λ r. ⌜ Values (now (out .entry)) (now (out .exit)) n r (octetsOf (slice i e (now (t .entry)))) ⌝ }
+fn word_octets(out: &mut [u8], at: usize, t: &[u8], i: usize, e: usize) -> Value
+    requires { ⌜ (at ≤ 2 ^ 30) × (i ≤ e) × (e ≤ length (now t)) × (length (now t) ≤ 2 ^ 24) ⌝ }
+    ensures { λ r. ⌜ Values (now (out .entry)) (now (out .exit)) at r (octetsOf (slice i e (now (t .entry)))) ⌝ }
 {
     if e - i < 1 {
         return Value::Fault;
     }
     if e - i < 2 {
         if t[i] == b'-' {
-            return Value::Upto(n);
+            return Value::Upto(at);
         }
         return Value::Fault;
     }
     // no octet has the number 100, so none is left out
-    base_group::lettered(out, n, t, i, e, 100, 4, 16, 8, 4)
+    base_group::lettered(out, at, t, i, e, 100, 4, 16, 8, 4)
 }
 
-// Reads the octets that the next word spells, and stores them from n on.
-fn next_octets(line: &[u8], end: usize, out: &mut [u8], n: usize) -> Spelled
-    requires { ⌜ (end ≤ length (now line)) × (length (now line) ≤ 2 ^ 24) × (n ≤ 2 ^ 30) ⌝ }
-    ensures { λ r. ⌜ Spells (said octetsOf (wordsAt (now (line .entry)) end)) (now (line .entry)) end (now (out .entry)) (now (out .exit)) n r ⌝ }
+// Reads the octets that the next word spells, and stores them from `at` on.
+fn next_octets(line: &[u8], end: usize, out: &mut [u8], at: usize) -> Spelled
+    requires { ⌜ (end ≤ length (now line)) × (length (now line) ≤ 2 ^ 24) × (at ≤ 2 ^ 30) ⌝ }
+    ensures { λ r. ⌜ Spells (said octetsOf (wordsAt (now (line .entry)) end)) (now (line .entry)) end (now (out .entry)) (now (out .exit)) at r ⌝ }
 {
     let word = next_word(line, end);
     let from = word.from;
     let to = word.to;
-    let v = word_octets(out, n, line, from, to);
+    let v = word_octets(out, at, line, from, to);
     match v {
         Value::Fault => Spelled {
             good: false,
-            to: n,
+            to: at,
             end: to,
         },
         Value::Upto(m) => Spelled {
@@ -158,16 +158,16 @@ fn next_number(line: &[u8], end: usize) -> Count
 }
 
 // Reads the origin's octets, which only a request to read has.
-fn next_origin(line: &[u8], letter: u8, end: usize, out: &mut [u8], n: usize) -> Spelled
-    requires { ⌜ (end ≤ length (now line)) × (length (now line) ≤ 2 ^ 24) × (n ≤ 2 ^ 30) ⌝ }
-    ensures { λ r. ⌜ Spells (originWord letter (wordsAt (now (line .entry)) end)) (now (line .entry)) end (now (out .entry)) (now (out .exit)) n r ⌝ }
+fn next_origin(line: &[u8], letter: u8, end: usize, out: &mut [u8], at: usize) -> Spelled
+    requires { ⌜ (end ≤ length (now line)) × (length (now line) ≤ 2 ^ 24) × (at ≤ 2 ^ 30) ⌝ }
+    ensures { λ r. ⌜ Spells (originWord letter (wordsAt (now (line .entry)) end)) (now (line .entry)) end (now (out .entry)) (now (out .exit)) at r ⌝ }
 {
     if letter == b'R' {
-        return next_octets(line, end, out, n);
+        return next_octets(line, end, out, at);
     }
     Spelled {
         good: true,
-        to: n,
+        to: at,
         end: end,
     }
 }

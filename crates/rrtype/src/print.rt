@@ -11,18 +11,18 @@ use digits::put_decimal;
 use octets::integer::two;
 
 // Writes the type with the number v.
-pub fn number(out: &mut [u8], n: usize, v: u64) -> usize
-    requires { ⌜ (n ≤ 2 ^ 31) × (v < 65536) ⌝ }
-    ensures { λ r. ⌜ Wrote (now (out .entry)) (now (out .exit)) n r (typeText v) ⌝ }
+pub fn number(out: &mut [u8], at: usize, v: u64) -> usize
+    requires { ⌜ (at ≤ 2 ^ 31) × (v < 65536) ⌝ }
+    ensures { λ r. ⌜ Wrote (now (out .entry)) (now (out .exit)) at r (typeText v) ⌝ }
 {
-    let m = put_all(out, n, b"TYPE");
+    let m = put_all(out, at, b"TYPE");
     put_decimal(out, m, v)
 }
 
 // Writes the type in the two octets from i to e.
-pub fn field(out: &mut [u8], n: usize, p: &[u8], i: usize, e: usize) -> usize
-    requires { ⌜ (n < 2 ^ 30) × (e ≡ i + 2) × (e ≤ length (now p)) ⌝ }
-    ensures { λ r. ⌜ Wrote (now (out .entry)) (now (out .exit)) n r (typeText (Digits.number 256 (slice i e (now (p .entry))))) ⌝ }
+pub fn field(out: &mut [u8], at: usize, p: &[u8], i: usize, e: usize) -> usize
+    requires { ⌜ (at < 2 ^ 30) × (e ≡ i + 2) × (e ≤ length (now p)) ⌝ }
+    ensures { λ r. ⌜ Wrote (now (out .entry)) (now (out .exit)) at r (typeText (Digits.number 256 (slice i e (now (p .entry))))) ⌝ }
 {
-    number(out, n, two(p, i))
+    number(out, at, two(p, i))
 }

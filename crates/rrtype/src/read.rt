@@ -112,10 +112,10 @@ pub fn number(t: &[u8], i: usize, e: usize) -> Number
 }
 
 // Reads a type into two octets.
-pub fn field(out: &mut [u8], n: usize, t: &[u8], i: usize, e: usize) -> Value
-    requires { ⌜ (n < 2 ^ 30) × (i ≤ e) × (e ≤ length (now t)) ⌝ }
-    ensures { λ r. ⌜ Values (now (out .entry)) (now (out .exit)) n r (readType (slice i e (now (t .entry)))) ⌝ }
+pub fn field(out: &mut [u8], at: usize, t: &[u8], i: usize, e: usize) -> Value
+    requires { ⌜ (at < 2 ^ 30) × (i ≤ e) × (e ≤ length (now t)) ⌝ }
+    ensures { λ r. ⌜ Values (now (out .entry)) (now (out .exit)) at r (readType (slice i e (now (t .entry)))) ⌝ }
 {
     let v = number(t, i, e);
-    value(out, n, 2, v)
+    value(out, at, 2, v)
 }

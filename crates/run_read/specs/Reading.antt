@@ -6,8 +6,8 @@ use lib.ListN.{length}
 use Rattle.format.specs.Lists.{flat}
 use Rattle.format.specs.Run.{Parts, refused, parts, maxRdata}
 use Rattle.buffer.specs.Writing.{Wrote}
-use Rattle.run_read.specs.declared.Run.{Run}
-use Rattle.run_read.specs.declared.Run.the-variants.{Refused, Done}
+use Rattle.run_read.specs.declared.RunRead.{RunRead}
+use Rattle.run_read.specs.declared.RunRead.the-variants.{Refused, Done}
 
 -- a count of at most 65,535 is that of the run's octets, which stand in the buffer; a higher count says that there are more octets than that
 pub record Stands (before after : List ℕ) (count : ℕ) (xs : List ℕ) : Type 0 where
@@ -15,6 +15,6 @@ pub record Stands (before after : List ℕ) (count : ℕ) (xs : List ℕ) : Type
   pub over : maxRdata < count → maxRdata < length xs
 
 -- the octets are the run's, as said; or the refusal's number and place
-abbrev pub Reads : List ℕ → List ℕ → Run → Parts → Type 0
+abbrev pub Reads : List ℕ → List ℕ → RunRead → Parts → Type 0
 Reads before after (Refused n i) p = p ≡ refused n i
 Reads before after (Done m) p = (ps : List (List ℕ)) × (p ≡ parts ps) × Stands before after m (flat ps)

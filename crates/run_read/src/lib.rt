@@ -10,12 +10,12 @@ ghost use Rattle.format.specs.Run.{readField, readRun};
 ghost use Rattle.stanza_form.specs.Code.{fieldsOf};
 ghost use Rattle.run_wire.specs.Run.{kindsFrom, UsableRun};
 ghost use Rattle.run_read.specs.Reading.{Reads};
-use field_read::Field;
+use field_read::FieldRead;
 use tokens::Next;
 use tokens::next_token;
 
 // What a run makes of a text: a refusal's number and place; or the number of its octets, 65,536 standing for any over 65,535.
-pub enum Run {
+pub enum RunRead {
     Refused(u32, u32),
     Done(usize),
 }
@@ -43,7 +43,7 @@ pub fn read_run(
     s: &[u8],
     origin: &[u8],
     t: &[u8],
-) -> Run
+) -> RunRead
     requires { ⌜ UsableRun (now s) (fieldsOf (now codes)) first many × (isWireName (now origin) ≡ true) × (length (now t) ≤ 1048576) ⌝ }
     ensures { λ r. ⌜ Reads (now (out .entry)) (now (out .exit)) r (readRun (λ k ts. readField k (now (origin .entry)) ts) (kindsFrom (now (s .entry)) (fieldsOf (now (codes .entry))) first many) (tokens (now (t .entry)))) ⌝ }
 {
@@ -54,13 +54,13 @@ pub fn read_run(
         let d = stanza_form::field(codes[first + k]);
         let r = field_read::read_field(out, n, d, s, origin, t, i);
         match r {
-            Field::Missing => {
-                return Run::Refused(8, k as u32 + 1);
+            FieldRead::Missing => {
+                return RunRead::Refused(8, k as u32 + 1);
             }
-            Field::Fault => {
-                return Run::Refused(9, k as u32 + 1);
+            FieldRead::Fault => {
+                return RunRead::Refused(9, k as u32 + 1);
             }
-            Field::Upto(m, j) => {
+            FieldRead::Upto(m, j) => {
                 n = buffer::least(m, 65536);
                 i = j;
             }
@@ -68,7 +68,7 @@ pub fn read_run(
         k = k + 1;
     }
     if none_from(t, i) {
-        return Run::Done(n);
+        return RunRead::Done(n);
     }
-    Run::Refused(10, many as u32 + 1)
+    RunRead::Refused(10, many as u32 + 1)
 }

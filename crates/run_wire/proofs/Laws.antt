@@ -15,7 +15,7 @@ use Rattle.stanza_form.specs.declared.FieldDesc.{FieldDesc}
 use Rattle.stanza_form.specs.Fields.{noField, fieldsFrom}
 use Rattle.stanza_form.specs.Forms.{kindOf, intWidth, symbolsIn, orNone}
 use Rattle.field_wire.specs.declared.Take.{Take}
-use Rattle.field_wire.specs.declared.Take.the-variants.{Short, Bad, Took}
+use Rattle.field_wire.specs.declared.Take.the-variants.{Missing, Fault, Took}
 use Rattle.field_wire.specs.Wire.{takenIn}
 use Rattle.run_wire.specs.Run.{kindsFrom}
 use Rattle.stanza_form.specs.Fields.{kindFor}
@@ -107,10 +107,10 @@ module _ (fs : List FieldDesc) (first many : ℕ) (p : List ℕ) (k at : ℕ) (t
   here : (s : List ℕ) → taken (start (kindFor s d)) (drop at p) ≡ takenIn t
   here s = ap (taken (start (kindFor s d))) (sym (to-end p at)) ∙ sym (g (orNone (symbolsIn (intWidth (d .form)) s (d .«qualifiers_at») (d .«qualifiers_end»))))
 
-  pub turn-short : t ≡ Short → (s : List ℕ) → partsOf (kindsFrom s fs first many) p ≡ refused 8 (k + 1)
+  pub turn-short : t ≡ Missing → (s : List ℕ) → partsOf (kindsFrom s fs first many) p ≡ refused 8 (k + 1)
   turn-short q s = ahead-short (a s) _ _ (next-kind s fs first many k h d e) (here s ∙ ap takenIn q)
 
-  pub turn-bad : t ≡ Bad → (s : List ℕ) → partsOf (kindsFrom s fs first many) p ≡ refused 9 (k + 1)
+  pub turn-bad : t ≡ Fault → (s : List ℕ) → partsOf (kindsFrom s fs first many) p ≡ refused 9 (k + 1)
   turn-bad q s = ahead-bad (a s) _ _ (next-kind s fs first many k h d e) (here s ∙ ap takenIn q)
 
   module _ (w : ℕ) (q : t ≡ Took w) where

@@ -24,10 +24,10 @@ pub fn check(codes: &[u64; 64], first: usize, many: usize, p: &[u8]) -> Checked
         let form = d.form;
         let t = field_wire::take_field(form, p, at, p.len());
         match t {
-            Take::Short => {
+            Take::Missing => {
                 return Checked::Refused(8, k as u32 + 1);
             }
-            Take::Bad => {
+            Take::Fault => {
                 return Checked::Refused(9, k as u32 + 1);
             }
             Take::Took(w) => {

@@ -163,13 +163,13 @@ fn held_by(f: Form) -> u8
 }
 
 // The form of a number and a parameter.
-fn form_at(n: u8, p: u8) -> Form
-    ensures { λ r. ⌜ r ≡ formAt n p ⌝ }
+fn form_at(n: u8, held: u8) -> Form
+    ensures { λ r. ⌜ r ≡ formAt n held ⌝ }
 {
     match n {
-        0 => Form::Int(p),
-        1 => Form::Eui(p),
-        2 => Form::Name(p),
+        0 => Form::Int(held),
+        1 => Form::Eui(held),
+        2 => Form::Name(held),
         3 => Form::Rrtype,
         4 => Form::Dotted,
         5 => Form::Aa,
@@ -187,10 +187,10 @@ fn form_at(n: u8, p: u8) -> Form
 }
 
 // The parts of a code, put together: a field in 64 bits, so that an array of fields is one of numbers, which can be lent.
-fn together(n: u8, p: u8, at: u16, end: u16) -> u64
-    ensures { λ r. ⌜ fieldAt r ≡ fieldWith (formAt n p) at end ⌝ }
+fn together(n: u8, held: u8, at: u16, end: u16) -> u64
+    ensures { λ r. ⌜ fieldAt r ≡ fieldWith (formAt n held) at end ⌝ }
 {
-    let form = n as u64 + (p as u64) * 256;
+    let form = n as u64 + (held as u64) * 256;
     let from = (at as u64) * 65536;
     let to = (end as u64) * 4294967296;
     form + from + to
@@ -201,8 +201,8 @@ pub fn code(form: Form, at: u16, end: u16) -> u64
     ensures { λ r. ⌜ fieldAt r ≡ fieldWith form at end ⌝ }
 {
     let n = number_of(form);
-    let p = held_by(form);
-    together(n, p, at, end)
+    let held = held_by(form);
+    together(n, held, at, end)
 }
 
 // The field of a code.

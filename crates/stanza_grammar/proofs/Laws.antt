@@ -19,10 +19,10 @@ use Rattle.format.specs.Lines.{placed}
 use Rattle.octets.specs.Octets.{partIn, firstOr, frontEnd}
 use Rattle.stanza_words.specs.Qualifiers.{piecesIn, qualifiersIn}
 use Rattle.stanza_words.proofs.Laws.{all-front, front}
-use Rattle.stanza_grammar.specs.Grammar.{headerIn, shapeIn}
+use Rattle.stanza_grammar.specs.Grammar.{headerIn, fieldLineIn}
 use Rattle.stanza_grammar.specs.Parts.{Within, cutIn, restIn, textIn, numberAfter, textAfter, numberIn, bracketsIn, namedIn, NamedWithin, afterType}
 use Rattle.stanza_grammar.specs.declared.HeaderLine.the-variants.{IsHeader}
-use Rattle.stanza_grammar.specs.declared.Shape.the-variants.{IsField}
+use Rattle.stanza_grammar.specs.declared.LineField.the-variants.{IsField}
 use Rattle.stanza_grammar.specs.declared.Place.{Place}
 use Rattle.stanza_grammar.specs.declared.Place.the-variants.{NoPlace, At}
 use Rattle.stanza_grammar.specs.declared.Digits.{Digits}
@@ -306,7 +306,7 @@ module _ (s : List ℕ) (i k e : ℕ) where
           broken-line (λ qs. rw (← q, ← x))
 
       pub line-found : {x : ℕ} → p ≡ At x → textIn s e p ≡ freeTextAt e (slice z e s) → NamedWithin e t → e ≤ length s
-          → shapeIn s i e (IsField (record { «type_end» = k; «qualifiers_at» = a; «qualifiers_end» = b; «name_at» = m; «name_end» = z; «text_at» = x }))
+          → fieldLineIn s i e (IsField (record { «type_end» = k; «qualifiers_at» = a; «qualifiers_end» = b; «name_at» = m; «name_end» = z; «text_at» = x }))
           ≡ afterType e (slice i k s) (slice k e s)
       line-found {x = x} y v u l =
           let w : (m ≤ z) × (z ≤ e) = rw d at u in

@@ -9,9 +9,9 @@ use Rattle.octets.specs.Octets.{partIn}
 use Rattle.stanza_words.specs.Qualifiers.{qualifiersIn}
 use Rattle.stanza_grammar.specs.declared.HeaderLine.{HeaderLine}
 use Rattle.stanza_grammar.specs.declared.HeaderLine.the-variants.{NoHeader, IsHeader}
-use Rattle.stanza_grammar.specs.declared.FieldShape.{FieldShape}
-use Rattle.stanza_grammar.specs.declared.Shape.{Shape}
-use Rattle.stanza_grammar.specs.declared.Shape.the-variants.{NoField, IsField}
+use Rattle.stanza_grammar.specs.declared.FieldParts.{FieldParts}
+use Rattle.stanza_grammar.specs.declared.LineField.{LineField}
+use Rattle.stanza_grammar.specs.declared.LineField.the-variants.{NoField, IsField}
 
 -- a header whose line begins at `at` and ends at `end`
 abbrev pub headerIn : List ℕ → ℕ → ℕ → HeaderLine → Option Header
@@ -19,9 +19,9 @@ headerIn s at end NoHeader = none
 headerIn s at end (IsHeader h) = some (record { typeName = partIn s at (h .«name_end»); typeNo = h .number; headerText = partIn s (h .«text_at») end })
 
 -- a field line whose type begins at `at` and which ends at `end`; its qualifiers are not judged yet
-abbrev pub shapeIn : List ℕ → ℕ → ℕ → Shape → Option FieldLine
-shapeIn s at end NoField = none
-shapeIn s at end (IsField f) =
+abbrev pub fieldLineIn : List ℕ → ℕ → ℕ → LineField → Option FieldLine
+fieldLineIn s at end NoField = none
+fieldLineIn s at end (IsField f) =
     qualifiersIn s (f .«qualifiers_at») (f .«qualifiers_end») >>= λ qs. some (record {
       keyword = slice at (f .«type_end») s;
       qualifiers = qs;
@@ -34,7 +34,7 @@ abbrev pub HeaderWithin : ℕ → HeaderLine → Type 0
 HeaderWithin end NoHeader = Unit {0}
 HeaderWithin end (IsHeader h) = (h .«name_end» ≤ end) × (h .«text_at» ≤ end)
 
-pub record Places (at end : ℕ) (f : FieldShape) : Type 0 where
+pub record Places (at end : ℕ) (f : FieldParts) : Type 0 where
   pub type-from : at ≤ f .«type_end»
   pub type-to : f .«type_end» ≤ end
   pub qualifiers-from : f .«qualifiers_at» ≤ f .«qualifiers_end»
@@ -43,6 +43,6 @@ pub record Places (at end : ℕ) (f : FieldShape) : Type 0 where
   pub name-to : f .«name_end» ≤ end
   pub text-to : f .«text_at» ≤ end
 
-abbrev pub ShapeWithin : ℕ → ℕ → Shape → Type 0
-ShapeWithin at end NoField = Unit {0}
-ShapeWithin at end (IsField f) = Places at end f
+abbrev pub LineFieldWithin : ℕ → ℕ → LineField → Type 0
+LineFieldWithin at end NoField = Unit {0}
+LineFieldWithin at end (IsField f) = Places at end f

@@ -4,7 +4,7 @@ ghost use lib.ListN.{length};
 ghost use lib.Seq.{slice};
 ghost use mathlib.Core.Path.{_≡_};
 ghost use Rattle.format.specs.Grammar.{headerLine, fieldLine, startsWithLetter, nameAt, afterOptions, freeTextAt, qualifiersAt, fieldNameAt};
-ghost use Rattle.stanza_grammar.specs.Grammar.{headerIn, shapeIn, HeaderWithin, ShapeWithin};
+ghost use Rattle.stanza_grammar.specs.Grammar.{headerIn, fieldLineIn, HeaderWithin, LineFieldWithin};
 ghost use Rattle.stanza_grammar.specs.Parts.{
   Within,
   cutIn,
@@ -37,7 +37,7 @@ pub enum HeaderLine {
 }
 
 // A field line: the end of its type, its qualifiers (none if both places are equal), its name, and where its free text begins.
-pub struct FieldShape {
+pub struct FieldParts {
     pub type_end: usize,
     pub qualifiers_at: usize,
     pub qualifiers_end: usize,
@@ -47,9 +47,9 @@ pub struct FieldShape {
 }
 
 // A line by the grammar of field lines: no field, or one.
-pub enum Shape {
+pub enum LineField {
     NoField,
-    IsField(FieldShape),
+    IsField(FieldParts),
 }
 
 // A place in a line, or none.
@@ -229,22 +229,22 @@ fn field_name(s: &[u8], i: usize, end: usize) -> Named
 }
 
 // The field line from at to end whose type ends at e.
-fn after_type(s: &[u8], at: usize, e: usize, end: usize) -> Shape
+fn after_type(s: &[u8], at: usize, e: usize, end: usize) -> LineField
     requires { ⌜ (e ≤ end) × (end ≤ length (now s)) × (at ≤ e) ⌝ }
-    ensures { λ r. ⌜ (shapeIn (now (s .entry)) at end r ≡ afterType end (slice at e (now (s .entry))) (slice e end (now (s .entry)))) × ShapeWithin at end r ⌝ }
+    ensures { λ r. ⌜ (fieldLineIn (now (s .entry)) at end r ≡ afterType end (slice at e (now (s .entry))) (slice e end (now (s .entry)))) × LineFieldWithin at end r ⌝ }
 {
     let b = bracketed(s, e, end);
     match b {
-        Brackets::Unclosed => Shape::NoField,
+        Brackets::Unclosed => LineField::NoField,
         Brackets::Between(qualifiers_at, qualifiers_end, i) => {
             let n = field_name(s, i, end);
             match n {
-                Named::Broken => Shape::NoField,
+                Named::Broken => LineField::NoField,
                 Named::From(name_at, name_end) => {
                     let t = free_text(s, name_end, end);
                     match t {
-                        Place::NoPlace => Shape::NoField,
-                        Place::At(text_at) => Shape::IsField(FieldShape {
+                        Place::NoPlace => LineField::NoField,
+                        Place::At(text_at) => LineField::IsField(FieldParts {
                             type_end: e,
                             qualifiers_at,
                             qualifiers_end,
@@ -260,13 +260,13 @@ fn after_type(s: &[u8], at: usize, e: usize, end: usize) -> Shape
 }
 
 // The field line from at to end; its leading blanks stand before at.
-pub fn field_shape(s: &[u8], at: usize, end: usize) -> Shape
+pub fn field_line(s: &[u8], at: usize, end: usize) -> LineField
     requires { ⌜ (at ≤ end) × (end ≤ length (now s)) ⌝ }
-    ensures { λ r. ⌜ (shapeIn (now (s .entry)) at end r ≡ fieldLine end (slice at end (now (s .entry)))) × ShapeWithin at end r ⌝ }
+    ensures { λ r. ⌜ (fieldLineIn (now (s .entry)) at end r ≡ fieldLine end (slice at end (now (s .entry)))) × LineFieldWithin at end r ⌝ }
 {
     if starts_with_letter(s, at, end) {
         let e = octets::skip(s, at, end, Class::Alphanumeric);
         return after_type(s, at, e, end);
     }
-    Shape::NoField
+    LineField::NoField
 }

@@ -46,8 +46,8 @@ pub fn judged_outline(s: &[u8], codes: &mut [u64; 64]) -> Outline
     let mut names = [0u16; 64];
     let mut ends = [0u16; 64];
     let mut n = 0;
-    let mut have = false;
-    let mut last = false;
+    let mut header_seen = false;
+    let mut tail_seen = false;
     let mut number = at_start(s.len());
     let mut place: u16 = 0;
     let mut at = first_line(number, s.len());
@@ -55,7 +55,7 @@ pub fn judged_outline(s: &[u8], codes: &mut [u64; 64]) -> Outline
     while at < s.len() {
         line = line + 1;
         let e = octets::line_end(s, at);
-        let step = stanza_line::line_step(s, at, e, have, last, &names, &ends, n);
+        let step = stanza_line::line_step(s, at, e, header_seen, tail_seen, &names, &ends, n);
         at = e + 1;
         match step {
             Step::Skip => {}
@@ -65,14 +65,14 @@ pub fn judged_outline(s: &[u8], codes: &mut [u64; 64]) -> Outline
                 // no line after it is judged
                 at = s.len();
             }
-            Step::Head(_) => have = true,
+            Step::Head(_) => header_seen = true,
             Step::Add(x) => {
                 let f = x.field;
                 let form = f.form;
                 codes[n] = stanza_form::code(form, f.qualifiers_at, f.qualifiers_end);
                 names[n] = x.name_at;
                 ends[n] = x.name_end;
-                last = stanza_line::tail_after(last, form);
+                tail_seen = stanza_line::tail_after(tail_seen, form);
                 n = n + 1;
             }
         }

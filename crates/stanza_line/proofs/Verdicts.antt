@@ -22,10 +22,10 @@ use Rattle.stanza_words.specs.Qualifiers.{qualifiersIn}
 use Rattle.stanza_grammar.specs.declared.HeaderShape.{HeaderShape}
 use Rattle.stanza_grammar.specs.declared.HeaderLine.{HeaderLine}
 use Rattle.stanza_grammar.specs.declared.HeaderLine.the-variants.{NoHeader, IsHeader}
-use Rattle.stanza_grammar.specs.declared.FieldShape.{FieldShape}
-use Rattle.stanza_grammar.specs.declared.Shape.{Shape}
-use Rattle.stanza_grammar.specs.declared.Shape.the-variants.{NoField, IsField}
-use Rattle.stanza_grammar.specs.Grammar.{headerIn, shapeIn, Places}
+use Rattle.stanza_grammar.specs.declared.FieldParts.{FieldParts}
+use Rattle.stanza_grammar.specs.declared.LineField.{LineField}
+use Rattle.stanza_grammar.specs.declared.LineField.the-variants.{NoField, IsField}
+use Rattle.stanza_grammar.specs.Grammar.{headerIn, fieldLineIn, Places}
 use Rattle.stanza_form.specs.declared.Form.{Form}
 use Rattle.stanza_types.specs.declared.Meant.{Meant}
 use Rattle.stanza_types.specs.declared.Meant.the-variants.{Malformed, Unknown, Forbidden, Means}
@@ -61,7 +61,7 @@ module _ (s : List ℕ) (t e : ℕ) (h : HeaderLine) (g : headerIn s t e h ≡ h
   good-header {x} q k l = rw (← g, q, le-leb 1 (x .number) k, le-leb (x .number) 65535 l)
 
 -- field lines: the verdict on a line of a given shape, by what its type and qualifiers mean
-abbrev lineOf : List ℕ → ℕ → ℕ → FieldShape → List Qualifier → FieldLine
+abbrev lineOf : List ℕ → ℕ → ℕ → FieldParts → List Qualifier → FieldLine
 lineOf s t e x qs = record { keyword = slice t (x .«type_end») s; qualifiers = qs; fieldName = partIn s (x .«name_at») (x .«name_end»); freeText = partIn s (x .«text_at») e }
 
 -- the verdict by that meaning; 2 if there is none
@@ -69,7 +69,7 @@ abbrev byMeaning : Description → FieldLine → Option Meaning → Verdict
 byMeaning d l none = faulty 2
 byMeaning d l (some n) = ofMeaning d l n
 
-meaning-verdict : (s : List ℕ) (t e : ℕ) (x : FieldShape) (d : Description) (o : Option (List Qualifier))
+meaning-verdict : (s : List ℕ) (t e : ℕ) (x : FieldParts) (d : Description) (o : Option (List Qualifier))
     → ofFieldLine d (o >>= λ qs. some (lineOf s t e x qs)) ≡ byMeaning d (lineOf s t e x []) (o >>= λ qs. some (meaning (slice t (x .«type_end») s) qs))
 meaning-verdict s t e x d none = refl
 meaning-verdict s t e x d (some qs) = by (meaning (slice t (x .«type_end») s) qs)
@@ -79,26 +79,26 @@ meaning-verdict s t e x d (some qs) = by (meaning (slice t (x .«type_end») s) 
     by forbidden = refl
     by (means k) = refl
 
-module _ (s : List ℕ) (t e : ℕ) (x : FieldShape) (m : Meant)
+module _ (s : List ℕ) (t e : ℕ) (x : FieldParts) (m : Meant)
     (g : meantIn s (x .«qualifiers_at») (x .«qualifiers_end») m ≡ meaningIn (slice t (x .«type_end») s) s (x .«qualifiers_at») (x .«qualifiers_end»)) (d : Description) where
-  line-verdict : ofFieldLine d (shapeIn s t e (IsField x)) ≡ byMeaning d (lineOf s t e x []) (meantIn s (x .«qualifiers_at») (x .«qualifiers_end») m)
+  line-verdict : ofFieldLine d (fieldLineIn s t e (IsField x)) ≡ byMeaning d (lineOf s t e x []) (meantIn s (x .«qualifiers_at») (x .«qualifiers_end») m)
   line-verdict = meaning-verdict s t e x d (qualifiersIn s (x .«qualifiers_at») (x .«qualifiers_end»)) ∙ ap (byMeaning d (lineOf s t e x [])) (sym g)
 
-  pub line-malformed : m ≡ Malformed → faulty 2 ≡ ofFieldLine d (shapeIn s t e (IsField x))
+  pub line-malformed : m ≡ Malformed → faulty 2 ≡ ofFieldLine d (fieldLineIn s t e (IsField x))
   line-malformed q = sym (line-verdict ∙ rw q)
 
-  pub line-unknown : m ≡ Unknown → faulty 3 ≡ ofFieldLine d (shapeIn s t e (IsField x))
+  pub line-unknown : m ≡ Unknown → faulty 3 ≡ ofFieldLine d (fieldLineIn s t e (IsField x))
   line-unknown q = sym (line-verdict ∙ rw q)
 
-  pub line-forbidden : m ≡ Forbidden → faulty 4 ≡ ofFieldLine d (shapeIn s t e (IsField x))
+  pub line-forbidden : m ≡ Forbidden → faulty 4 ≡ ofFieldLine d (fieldLineIn s t e (IsField x))
   line-forbidden q = sym (line-verdict ∙ rw q)
 
   pub line-means : {f : Form} → m ≡ Means f
-      → withField d (record { kind = kindIn s (x .«qualifiers_at») (x .«qualifiers_end») f; fieldName = partIn s (x .«name_at») (x .«name_end»); freeText = partIn s (x .«text_at») e }) ≡ ofFieldLine d (shapeIn s t e (IsField x))
+      → withField d (record { kind = kindIn s (x .«qualifiers_at») (x .«qualifiers_end») f; fieldName = partIn s (x .«name_at») (x .«name_end»); freeText = partIn s (x .«text_at») e }) ≡ ofFieldLine d (fieldLineIn s t e (IsField x))
   line-means q = sym (line-verdict ∙ rw q)
 
 -- where a field's qualifiers lie, and its symbols
-pub line-placed : (s : List ℕ) (t e : ℕ) (x : FieldShape) (d : FieldDesc) → Places t e x → e ≤ length s
+pub line-placed : (s : List ℕ) (t e : ℕ) (x : FieldParts) (d : FieldDesc) → Places t e x → e ≤ length s
     → meantIn s (x .«qualifiers_at») (x .«qualifiers_end») (Means (d .form)) ≡ meaningIn (slice t (x .«type_end») s) s (x .«qualifiers_at») (x .«qualifiers_end»)
     → d .«qualifiers_at» ≡ x .«qualifiers_at» → d .«qualifiers_end» ≡ x .«qualifiers_end» → Placed s d
 line-placed s t e x d p l g a b = record {
@@ -147,11 +147,11 @@ module _ (s : List ℕ) (at e t : ℕ) (l : at ≤ e) (k : e ≤ length s) (q : 
   line-read p v h r = r ∙ sym (line-is p ∙ rw h)
 
 -- the shape of a field line
-module _ (s : List ℕ) (t e : ℕ) (f : Shape) (g : shapeIn s t e f ≡ fieldLine e (slice t e s)) (d : Description) where
+module _ (s : List ℕ) (t e : ℕ) (f : LineField) (g : fieldLineIn s t e f ≡ fieldLine e (slice t e s)) (d : Description) where
   pub no-field : f ≡ NoField → faulty 2 ≡ ofFieldLine d (fieldLine e (slice t e s))
   no-field q = rw (← g, q)
 
-  pub is-field : {x : FieldShape} → f ≡ IsField x → ofFieldLine d (shapeIn s t e (IsField x)) ≡ ofFieldLine d (fieldLine e (slice t e s))
+  pub is-field : {x : FieldParts} → f ≡ IsField x → ofFieldLine d (fieldLineIn s t e (IsField x)) ≡ ofFieldLine d (fieldLine e (slice t e s))
   is-field q = rw (← g, q)
 
 -- the first nonblank lies in the line

@@ -49,16 +49,16 @@ namedFrom s names ends a e k (suc m) = sameText (slice (getD names k 0) (getD en
 
 -- the state of the judge: before the header, or after it with a description
 abbrev pub progressOf : Bool → Description → Progress
-progressOf have d = cond have (afterHeader d) beforeHeader
+progressOf headerSeen d = cond headerSeen (afterHeader d) beforeHeader
 
 abbrev pub withMore : Progress → Field → Verdict
 withMore beforeHeader f = faulty 0
 withMore (afterHeader d) f = goesOn (afterHeader (record { header = d .header; fields = d .fields ++ f ∷ [] }))
 
--- a description of n fields; `last` says whether one is a tail, and their names stand from `names` to `ends`
-pub record Stands (s : List ℕ) (d : Description) (last : Bool) (names ends : List ℕ) (n : ℕ) : Type 0 where
+-- a description of n fields; `tailSeen` says whether one is a tail, and their names stand from `names` to `ends`
+pub record Stands (s : List ℕ) (d : Description) (tailSeen : Bool) (names ends : List ℕ) (n : ℕ) : Type 0 where
   pub many : length (d .fields) ≡ n
-  pub tails : afterTail (d .fields) ≡ last
+  pub tails : afterTail (d .fields) ≡ tailSeen
   pub named : (f : Field) (a e : ℕ) → f .fieldName ≡ partIn s a e → anyOf (λ g. sameName g f) (d .fields) ≡ namedFrom s names ends a e 0 n
 
 -- what a line does
@@ -77,7 +77,7 @@ Fits s n (Add f) = (n < 64) × Placed s (f .field)
 
 -- a header is found only if there was none, and a field only after it
 abbrev pub Due : List ℕ → Bool → ℕ → Step → Type 0
-Due s have n Skip = Unit {0}
-Due s have n (Refuse k) = Unit {0}
-Due s have n (Head h) = have ≡ false
-Due s have n (Add f) = (n < 64) × (have ≡ true) × Placed s (f .field)
+Due s headerSeen n Skip = Unit {0}
+Due s headerSeen n (Refuse k) = Unit {0}
+Due s headerSeen n (Head h) = headerSeen ≡ false
+Due s headerSeen n (Add f) = (n < 64) × (headerSeen ≡ true) × Placed s (f .field)

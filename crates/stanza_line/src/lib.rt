@@ -10,16 +10,16 @@ ghost use Rattle.format.specs.Field.{tail, Symbol};
 ghost use Rattle.format.specs.Grammar.{headerLine, fieldLine};
 ghost use Rattle.format.specs.Judge.{Description, afterHeader, faulty, ofHeader, ofFieldLine, lineVerdict};
 ghost use Rattle.octets.specs.Octets.{partIn};
-ghost use Rattle.stanza_grammar.specs.Grammar.{shapeIn, Places};
-ghost use Rattle.stanza_grammar.specs.declared.Shape.the-variants.{IsField};
+ghost use Rattle.stanza_grammar.specs.Grammar.{fieldLineIn, Places};
+ghost use Rattle.stanza_grammar.specs.declared.LineField.the-variants.{IsField};
 ghost use Rattle.stanza_form.specs.Forms.{kindOf};
 ghost use Rattle.stanza_line.specs.Verdict.{headerVerdict, fieldVerdict, VerdictWithin, sameText, namedFrom, progressOf, Stands, stepOf, Fits, Due};
 use octets::Class;
 use stanza_form::FieldDesc;
 use stanza_form::Form;
-use stanza_grammar::FieldShape;
+use stanza_grammar::FieldParts;
 use stanza_grammar::HeaderLine;
-use stanza_grammar::Shape;
+use stanza_grammar::LineField;
 use stanza_types::Meant;
 
 // The header: where its name lies, the type's number, and where the free text lies.
@@ -58,15 +58,15 @@ pub enum Step {
     Add(NewField),
 }
 
-// The verdict on the header line from at to e, whose first nonblank is at t.
-fn header_verdict(s: &[u8], at: usize, t: usize, e: usize) -> HeaderVerdict
-    requires { ⌜ (at ≤ t) × (t ≤ e) × (e ≤ length (now s)) × (length (now s) ≤ 8192) ⌝ }
-    ensures { λ r. ⌜ headerVerdict (now (s .entry)) r ≡ cond (not (eqb t at)) (faulty 2) (ofHeader (headerLine e (slice t e (now (s .entry))))) ⌝ }
+// The verdict on the header line from `at` to e, whose first nonblank is at i.
+fn header_verdict(s: &[u8], at: usize, i: usize, e: usize) -> HeaderVerdict
+    requires { ⌜ (at ≤ i) × (i ≤ e) × (e ≤ length (now s)) × (length (now s) ≤ 8192) ⌝ }
+    ensures { λ r. ⌜ headerVerdict (now (s .entry)) r ≡ cond (not (eqb i at)) (faulty 2) (ofHeader (headerLine e (slice i e (now (s .entry))))) ⌝ }
 {
-    if at < t {
+    if at < i {
         return HeaderVerdict::BadHeader(2);
     }
-    let h = stanza_grammar::header_line(s, t, e);
+    let h = stanza_grammar::header_line(s, i, e);
     match h {
         HeaderLine::NoHeader => HeaderVerdict::BadHeader(2),
         HeaderLine::IsHeader(x) => {
@@ -78,7 +78,7 @@ fn header_verdict(s: &[u8], at: usize, t: usize, e: usize) -> HeaderVerdict
                 return HeaderVerdict::BadHeader(4);
             }
             HeaderVerdict::GoodHeader(HeaderDesc {
-                name_at: t as u16,
+                name_at: i as u16,
                 name_end: x.name_end as u16,
                 number: n as u16,
                 text_at: x.text_at as u16,
@@ -88,15 +88,15 @@ fn header_verdict(s: &[u8], at: usize, t: usize, e: usize) -> HeaderVerdict
     }
 }
 
-// The verdict on the field line from t to e, which has the shape x by the grammar.
-fn field_meant(s: &[u8], t: usize, e: usize, x: FieldShape) -> FieldVerdict
-    requires { ⌜ Places t e x × (e ≤ length (now s)) × (length (now s) ≤ 8192) ⌝ }
-    ensures { λ r. ⌜ VerdictWithin (now (s .entry)) r × ((d : Description) → fieldVerdict (now (s .entry)) d r ≡ ofFieldLine d (shapeIn (now (s .entry)) t e (IsField x))) ⌝ }
+// The verdict on the field line from i to e, whose parts are x by the grammar.
+fn field_meant(s: &[u8], i: usize, e: usize, x: FieldParts) -> FieldVerdict
+    requires { ⌜ Places i e x × (e ≤ length (now s)) × (length (now s) ≤ 8192) ⌝ }
+    ensures { λ r. ⌜ VerdictWithin (now (s .entry)) r × ((d : Description) → fieldVerdict (now (s .entry)) d r ≡ ofFieldLine d (fieldLineIn (now (s .entry)) i e (IsField x))) ⌝ }
 {
     let k = x.type_end;
     let a = x.qualifiers_at;
     let b = x.qualifiers_end;
-    let m = stanza_types::meaning_of(s, t, k, a, b);
+    let m = stanza_types::meaning_of(s, i, k, a, b);
     match m {
         Meant::Malformed => FieldVerdict::BadField(2),
         Meant::Unknown => FieldVerdict::BadField(3),
@@ -118,26 +118,26 @@ fn field_meant(s: &[u8], t: usize, e: usize, x: FieldShape) -> FieldVerdict
     }
 }
 
-// The verdict on the field line from at to e, whose first nonblank is at t.
-fn field_verdict(s: &[u8], at: usize, t: usize, e: usize) -> FieldVerdict
-    requires { ⌜ (at ≤ t) × (t ≤ e) × (e ≤ length (now s)) × (length (now s) ≤ 8192) ⌝ }
-    ensures { λ r. ⌜ VerdictWithin (now (s .entry)) r × ((d : Description) → fieldVerdict (now (s .entry)) d r ≡ cond (not (eqb t at)) (ofFieldLine d (fieldLine e (slice t e (now (s .entry))))) (faulty 2)) ⌝ }
+// The verdict on the field line from `at` to e, whose first nonblank is at i.
+fn field_verdict(s: &[u8], at: usize, i: usize, e: usize) -> FieldVerdict
+    requires { ⌜ (at ≤ i) × (i ≤ e) × (e ≤ length (now s)) × (length (now s) ≤ 8192) ⌝ }
+    ensures { λ r. ⌜ VerdictWithin (now (s .entry)) r × ((d : Description) → fieldVerdict (now (s .entry)) d r ≡ cond (not (eqb i at)) (ofFieldLine d (fieldLine e (slice i e (now (s .entry))))) (faulty 2)) ⌝ }
 {
-    if t <= at {
+    if i <= at {
         return FieldVerdict::BadField(2);
     }
-    let f = stanza_grammar::field_shape(s, t, e);
+    let f = stanza_grammar::field_line(s, i, e);
     match f {
-        Shape::NoField => FieldVerdict::BadField(2),
-        Shape::IsField(x) => field_meant(s, t, e, x),
+        LineField::NoField => FieldVerdict::BadField(2),
+        LineField::IsField(x) => field_meant(s, i, e, x),
     }
 }
 
-// Whether there is a tail among the fields, of which the last has the form f; `last` says it of those before it.
-pub fn tail_after(last: bool, f: Form) -> bool
-    ensures { λ r. ⌜ ((l : List Symbol) → r ≡ last || tail (kindOf l f)) ⌝ }
+// Whether there is a tail among the fields, of which the last has the form f; `tail_seen` says it of those before it.
+pub fn tail_after(tail_seen: bool, f: Form) -> bool
+    ensures { λ r. ⌜ ((l : List Symbol) → r ≡ «tail_seen» || tail (kindOf l f)) ⌝ }
 {
-    if last {
+    if tail_seen {
         return true;
     }
     stanza_form::is_tail(f)
@@ -176,52 +176,59 @@ pub fn line_step(
     s: &[u8],
     at: usize,
     e: usize,
-    have: bool,
-    last: bool,
+    header_seen: bool,
+    tail_seen: bool,
     names: &[u16],
     ends: &[u16],
     n: usize,
 ) -> Step
     requires { ⌜ (at ≤ e) × (e ≤ length (now s)) × (length (now s) ≤ 8192) × (n ≤ length (now names)) × (n ≤ length (now ends)) ⌝ }
-    ensures { λ r. ⌜ Due (now (s .entry)) have n r × ((d : Description) → Stands (now (s .entry)) d last (now (names .entry)) (now (ends .entry)) n
-        → stepOf (now (s .entry)) (progressOf have d) r ≡ lineVerdict (progressOf have d) (partIn (now (s .entry)) at e)) ⌝ }
+    ensures { λ r. ⌜ Due (now (s .entry)) «header_seen» n r × ((d : Description) → Stands (now (s .entry)) d «tail_seen» (now (names .entry)) (now (ends .entry)) n
+        → stepOf (now (s .entry)) (progressOf «header_seen» d) r ≡ lineVerdict (progressOf «header_seen» d) (partIn (now (s .entry)) at e)) ⌝ }
 {
-    let t = octets::skip(s, at, e, Class::Blank);
-    if ignored(s, t, e) {
+    let i = octets::skip(s, at, e, Class::Blank);
+    if ignored(s, i, e) {
         return Step::Skip;
     }
-    if have {
-        let f = field_verdict(s, at, t, e);
-        return field_step(s, f, last, names, ends, n);
+    if header_seen {
+        let f = field_verdict(s, at, i, e);
+        return field_step(s, f, tail_seen, names, ends, n);
     }
-    let h = header_verdict(s, at, t, e);
+    let h = header_verdict(s, at, i, e);
     match h {
         HeaderVerdict::BadHeader(k) => Step::Refuse(k),
         HeaderVerdict::GoodHeader(x) => Step::Head(x),
     }
 }
 
-// Whether a line is ignored: it is blank, or its first nonblank, at t, is `#`.
-fn ignored(s: &[u8], t: usize, e: usize) -> bool
-    requires { ⌜ (t ≤ e) × (e ≤ length (now s)) ⌝ }
-    ensures { λ r. ⌜ r ≡ Rattle.format.specs.Judge.ignored (slice t e (now (s .entry))) ⌝ }
+// Whether a line is ignored: it is blank, or its first nonblank, at i, is `#`.
+fn ignored(s: &[u8], i: usize, e: usize) -> bool
+    requires { ⌜ (i ≤ e) × (e ≤ length (now s)) ⌝ }
+    ensures { λ r. ⌜ r ≡ Rattle.format.specs.Judge.ignored (slice i e (now (s .entry))) ⌝ }
 {
-    if t < e {
-        return s[t] == b'#';
+    if i < e {
+        return s[i] == b'#';
     }
     true
 }
 
 // What a field line does after the n fields before it.
-fn field_step(s: &[u8], f: FieldVerdict, last: bool, names: &[u16], ends: &[u16], n: usize) -> Step
+fn field_step(
+    s: &[u8],
+    f: FieldVerdict,
+    tail_seen: bool,
+    names: &[u16],
+    ends: &[u16],
+    n: usize,
+) -> Step
     requires { ⌜ VerdictWithin (now s) f × (n ≤ length (now names)) × (n ≤ length (now ends)) ⌝ }
-    ensures { λ r. ⌜ Fits (now (s .entry)) n r × ((d : Description) → Stands (now (s .entry)) d last (now (names .entry)) (now (ends .entry)) n
+    ensures { λ r. ⌜ Fits (now (s .entry)) n r × ((d : Description) → Stands (now (s .entry)) d «tail_seen» (now (names .entry)) (now (ends .entry)) n
         → stepOf (now (s .entry)) (afterHeader d) r ≡ fieldVerdict (now (s .entry)) d f) ⌝ }
 {
     match f {
         FieldVerdict::BadField(k) => Step::Refuse(k),
         FieldVerdict::GoodField(x) => {
-            if last {
+            if tail_seen {
                 return Step::Refuse(4);
             }
             let a = x.name_at as usize;

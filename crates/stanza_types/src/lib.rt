@@ -223,10 +223,10 @@ fn listed_meant(s: &[u8], a: usize, b: usize, w: Words) -> Meant
 }
 
 // What a type means without qualifiers.
-fn plain_meant(t: FieldType) -> Meant
-    ensures { λ r. ⌜ ((s : List ℕ) (a : ℕ) → meantIn s a a r ≡ some (meaningOf (takenBy t) [])) ⌝ }
+fn plain_meant(ty: FieldType) -> Meant
+    ensures { λ r. ⌜ ((s : List ℕ) (a : ℕ) → meantIn s a a r ≡ some (meaningOf (takenBy ty) [])) ⌝ }
 {
-    match t {
+    match ty {
         FieldType::NoType => Meant::Unknown,
         FieldType::Int1 => Meant::Means(Form::Int(1)),
         FieldType::Int2 => Meant::Means(Form::Int(2)),
@@ -252,11 +252,11 @@ pub fn meaning_of(s: &[u8], k: usize, e: usize, a: usize, b: usize) -> Meant
 }
 
 // What a type means with the qualifiers from a to b, of which there is at least one.
-fn qualified(t: FieldType, s: &[u8], a: usize, b: usize) -> Meant
+fn qualified(ty: FieldType, s: &[u8], a: usize, b: usize) -> Meant
     requires { ⌜ (a < b) × (b ≤ length (now s)) ⌝ }
-    ensures { λ r. ⌜ meantIn (now (s .entry)) a b r ≡ qualifiedIn (takenBy t) (now (s .entry)) a b ⌝ }
+    ensures { λ r. ⌜ meantIn (now (s .entry)) a b r ≡ qualifiedIn (takenBy ty) (now (s .entry)) a b ⌝ }
 {
-    match t {
+    match ty {
         FieldType::NoType => {
             if stanza_words::any(Test::Malformed, s, a, b) {
                 return Meant::Malformed;

@@ -131,10 +131,10 @@ fn known_letter(x: u8) -> bool
 }
 
 // Whether a letter is a word that the type takes.
-fn takes_letter(t: Words, x: u8) -> bool
-    ensures { λ r. ⌜ r ≡ hasWord (wordsFor t) (x ∷ []) ⌝ }
+fn takes_letter(words: Words, x: u8) -> bool
+    ensures { λ r. ⌜ r ≡ hasWord (wordsFor words) (x ∷ []) ⌝ }
 {
-    match t {
+    match words {
         Words::Nothing => false,
         Words::OnR => x == b'L',
         Words::OnN => {
@@ -160,10 +160,10 @@ fn takes_letter(t: Words, x: u8) -> bool
 }
 
 // Whether a test holds of a text that is no qualifier.
-fn holds_bad(t: Test) -> bool
-    ensures { λ r. ⌜ r ≡ holdsOf t none ⌝ }
+fn holds_bad(test: Test) -> bool
+    ensures { λ r. ⌜ r ≡ holdsOf test none ⌝ }
 {
-    match t {
+    match test {
         Test::Malformed => true,
         Test::Unknown => false,
         Test::NotSymbol(limit) => true,
@@ -173,10 +173,10 @@ fn holds_bad(t: Test) -> bool
 }
 
 // Whether a test holds of a symbol with the number v.
-fn holds_symbol(t: Test, v: u64) -> bool
-    ensures { λ r. ⌜ r ≡ holdsOf t (some (symbol (record { spelling = partIn [] 0 0; value = v }))) ⌝ }
+fn holds_symbol(test: Test, v: u64) -> bool
+    ensures { λ r. ⌜ r ≡ holdsOf test (some (symbol (record { spelling = partIn [] 0 0; value = v }))) ⌝ }
 {
-    match t {
+    match test {
         Test::Malformed => false,
         Test::Unknown => false,
         Test::NotSymbol(limit) => limit <= v,
@@ -186,10 +186,10 @@ fn holds_symbol(t: Test, v: u64) -> bool
 }
 
 // Whether a test holds of a word of one letter.
-fn holds_letter(t: Test, x: u8) -> bool
-    ensures { λ r. ⌜ r ≡ holdsOf t (some (word (x ∷ []))) ⌝ }
+fn holds_letter(test: Test, x: u8) -> bool
+    ensures { λ r. ⌜ r ≡ holdsOf test (some (word (x ∷ []))) ⌝ }
 {
-    match t {
+    match test {
         Test::Malformed => false,
         Test::Unknown => {
             if known_letter(x) {
@@ -209,10 +209,10 @@ fn holds_letter(t: Test, x: u8) -> bool
 }
 
 // Whether a test holds of a word that is not one letter, which no type takes.
-fn holds_long(t: Test) -> bool
-    ensures { λ r. ⌜ r ≡ holdsOf t (some (word [])) ⌝ }
+fn holds_long(test: Test) -> bool
+    ensures { λ r. ⌜ r ≡ holdsOf test (some (word [])) ⌝ }
 {
-    match t {
+    match test {
         Test::Malformed => false,
         Test::Unknown => true,
         Test::NotSymbol(limit) => true,
@@ -222,45 +222,45 @@ fn holds_long(t: Test) -> bool
 }
 
 // Whether a test holds of the qualifier from a to z.
-fn holds(t: Test, s: &[u8], a: usize, z: usize) -> bool
+fn holds(test: Test, s: &[u8], a: usize, z: usize) -> bool
     requires { ⌜ (a ≤ z) × (z ≤ length (now s)) ⌝ }
-    ensures { λ r. ⌜ r ≡ holdsOf t (qualifier (partIn (now (s .entry)) a z)) ⌝ }
+    ensures { λ r. ⌜ r ≡ holdsOf test (qualifier (partIn (now (s .entry)) a z)) ⌝ }
 {
     let q = find(s, a, z);
     match q {
-        Found::Bad => holds_bad(t),
+        Found::Bad => holds_bad(test),
         Found::Word => {
             if z - a == 1 {
-                return holds_letter(t, s[a]);
+                return holds_letter(test, s[a]);
             }
-            holds_long(t)
+            holds_long(test)
         }
-        Found::Numbered(e, v) => holds_symbol(t, v),
+        Found::Numbered(e, v) => holds_symbol(test, v),
     }
 }
 
 // Whether a test holds of some qualifier between a and b. Most often there is one, of one letter, which is tested directly.
-pub fn any(t: Test, s: &[u8], a: usize, b: usize) -> bool
+pub fn any(test: Test, s: &[u8], a: usize, b: usize) -> bool
     requires { ⌜ (a ≤ b) × (b ≤ length (now s)) ⌝ }
-    ensures { λ r. ⌜ r ≡ anyIn t (now (s .entry)) a b ⌝ }
+    ensures { λ r. ⌜ r ≡ anyIn test (now (s .entry)) a b ⌝ }
 {
     if b - a == 1 {
         if octets::is_in(octets::Class::Letter, s[a]) {
-            return holds_letter(t, s[a]);
+            return holds_letter(test, s[a]);
         }
     }
-    any_of(t, s, a, b)
+    any_of(test, s, a, b)
 }
 
 // The same, one qualifier after another.
-fn any_of(t: Test, s: &[u8], a: usize, b: usize) -> bool
+fn any_of(test: Test, s: &[u8], a: usize, b: usize) -> bool
     requires { ⌜ (a ≤ b) × (b ≤ length (now s)) ⌝ }
-    ensures { λ r. ⌜ r ≡ anyIn t (now (s .entry)) a b ⌝ }
+    ensures { λ r. ⌜ r ≡ anyIn test (now (s .entry)) a b ⌝ }
 {
     let mut i = a;
     loop {
         let end = octets::skip(s, i, b, octets::Class::NotComma);
-        if holds(t, s, i, end) {
+        if holds(test, s, i, end) {
             return true;
         }
         if end == b {

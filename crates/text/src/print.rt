@@ -100,22 +100,22 @@ fn plain_end(p: &[u8], i: usize, e: usize) -> usize
 }
 
 // Writes the run of octets from i on that stand for themselves, and returns where it ends.
-fn copy_plain(out: &mut [u8], n: usize, p: &[u8], i: usize, e: usize) -> usize
-    requires { ⌜ (n < 2 ^ 32) × (i ≤ e) × (e ≤ length (now p)) × (length (now p) ≤ 65535) ⌝ }
-    ensures { λ r. ⌜ (r ≡ plainEnd (now (p .entry)) i e) × Wrote (now (out .entry)) (now (out .exit)) n (n + (r - i)) (slice i r (now (p .entry))) ⌝ }
+fn copy_plain(out: &mut [u8], at: usize, p: &[u8], i: usize, e: usize) -> usize
+    requires { ⌜ (at < 2 ^ 32) × (i ≤ e) × (e ≤ length (now p)) × (length (now p) ≤ 65535) ⌝ }
+    ensures { λ r. ⌜ (r ≡ plainEnd (now (p .entry)) i e) × Wrote (now (out .entry)) (now (out .exit)) at (at + (r - i)) (slice i r (now (p .entry))) ⌝ }
 {
     let j = plain_end(p, i, e);
-    put_all(out, n, &p[i..j]);
+    put_all(out, at, &p[i..j]);
     j
 }
 
 // Writes the octets of p from i to e, escaped; those that stand for themselves are copied many at once.
-fn escaped(out: &mut [u8], n: usize, p: &[u8], i: usize, e: usize) -> usize
-    requires { ⌜ (n ≤ 2 ^ 31) × (i ≤ e) × (e ≤ length (now p)) × (length (now p) ≤ 65535) ⌝ }
-    ensures { λ r. ⌜ Wrote (now (out .entry)) (now (out .exit)) n r (flatMap stringEscape (slice i e (now (p .entry)))) ⌝ }
+fn escaped(out: &mut [u8], at: usize, p: &[u8], i: usize, e: usize) -> usize
+    requires { ⌜ (at ≤ 2 ^ 31) × (i ≤ e) × (e ≤ length (now p)) × (length (now p) ≤ 65535) ⌝ }
+    ensures { λ r. ⌜ Wrote (now (out .entry)) (now (out .exit)) at r (flatMap stringEscape (slice i e (now (p .entry)))) ⌝ }
 {
-    let mut j = copy_plain(out, n, p, i, e);
-    let mut m = n + (j - i);
+    let mut j = copy_plain(out, at, p, i, e);
+    let mut m = at + (j - i);
     while j < e {
         let a = put_escaped_string(out, m, p[j]);
         let b = j + 1;
@@ -126,22 +126,22 @@ fn escaped(out: &mut [u8], n: usize, p: &[u8], i: usize, e: usize) -> usize
 }
 
 // Writes the octets of p from i to e as one string.
-pub fn string(out: &mut [u8], n: usize, p: &[u8], i: usize, e: usize) -> usize
-    requires { ⌜ (n < 2 ^ 31) × (i ≤ e) × (e ≤ length (now p)) × (length (now p) ≤ 65535) ⌝ }
-    ensures { λ r. ⌜ Wrote (now (out .entry)) (now (out .exit)) n r (stringText (slice i e (now (p .entry)))) ⌝ }
+pub fn string(out: &mut [u8], at: usize, p: &[u8], i: usize, e: usize) -> usize
+    requires { ⌜ (at < 2 ^ 31) × (i ≤ e) × (e ≤ length (now p)) × (length (now p) ≤ 65535) ⌝ }
+    ensures { λ r. ⌜ Wrote (now (out .entry)) (now (out .exit)) at r (stringText (slice i e (now (p .entry)))) ⌝ }
 {
-    let a = put_octet(out, n, b'"');
+    let a = put_octet(out, at, b'"');
     let b = escaped(out, a, p, i, e);
     put_octet(out, b, b'"')
 }
 
 // Writes the strings that stand in p from i to e, each after its count, with a space between them.
-pub fn strings(out: &mut [u8], n: usize, p: &[u8], i: usize, e: usize) -> usize
-    requires { ⌜ (n < 2 ^ 30) × (i ≤ e) × (e ≤ length (now p)) × (length (now p) ≤ 65535) × (taken (stringCount false) (slice i e (now p)) ≡ took (e - i)) ⌝ }
-    ensures { λ r. ⌜ Wrote (now (out .entry)) (now (out .exit)) n r (parted (ascii " ") (map stringText (pieces (slice i e (now (p .entry)))))) ⌝ }
+pub fn strings(out: &mut [u8], at: usize, p: &[u8], i: usize, e: usize) -> usize
+    requires { ⌜ (at < 2 ^ 30) × (i ≤ e) × (e ≤ length (now p)) × (length (now p) ≤ 65535) × (taken (stringCount false) (slice i e (now p)) ≡ took (e - i)) ⌝ }
+    ensures { λ r. ⌜ Wrote (now (out .entry)) (now (out .exit)) at r (parted (ascii " ") (map stringText (pieces (slice i e (now (p .entry)))))) ⌝ }
 {
     let mut j = i + 1 + p[i] as usize;
-    let mut m = string(out, n, p, i + 1, j);
+    let mut m = string(out, at, p, i + 1, j);
     while j < e {
         let k = j + 1 + p[j] as usize;
         let a = put_octet(out, m, b' ');

@@ -67,39 +67,39 @@ fn far_end(t: &[u8], i: usize, e: usize) -> usize
 }
 
 // Writes the octets from i to e.
-fn copy(out: &mut [u8], n: usize, t: &[u8], i: usize, e: usize) -> usize
-    requires { ⌜ (n < 2 ^ 31) × (i ≤ e) × (e ≤ length (now t)) × (length (now t) ≤ 1048576) ⌝ }
-    ensures { λ r. ⌜ Wrote (now (out .entry)) (now (out .exit)) n r (slice i e (now (t .entry))) ⌝ }
+fn copy(out: &mut [u8], at: usize, t: &[u8], i: usize, e: usize) -> usize
+    requires { ⌜ (at < 2 ^ 31) × (i ≤ e) × (e ≤ length (now t)) × (length (now t) ≤ 1048576) ⌝ }
+    ensures { λ r. ⌜ Wrote (now (out .entry)) (now (out .exit)) at r (slice i e (now (t .entry))) ⌝ }
 {
-    buffer::put_all(out, n, &t[i..e])
+    buffer::put_all(out, at, &t[i..e])
 }
 
 // Writes the run of octets from i on that begin no escape, and returns where it ends.
-fn copy_plain(out: &mut [u8], n: usize, t: &[u8], i: usize, e: usize) -> usize
-    requires { ⌜ (n < 2 ^ 31) × (i ≤ e) × (e ≤ length (now t)) × (length (now t) ≤ 1048576) ⌝ }
-    ensures { λ r. ⌜ (r ≡ plainEnd (now (t .entry)) i e) × Wrote (now (out .entry)) (now (out .exit)) n (n + (r - i)) (slice i r (now (t .entry))) ⌝ }
+fn copy_plain(out: &mut [u8], at: usize, t: &[u8], i: usize, e: usize) -> usize
+    requires { ⌜ (at < 2 ^ 31) × (i ≤ e) × (e ≤ length (now t)) × (length (now t) ≤ 1048576) ⌝ }
+    ensures { λ r. ⌜ (r ≡ plainEnd (now (t .entry)) i e) × Wrote (now (out .entry)) (now (out .exit)) at (at + (r - i)) (slice i r (now (t .entry))) ⌝ }
 {
     let j = far_end(t, i, e);
-    copy(out, n, t, i, j);
+    copy(out, at, t, i, j);
     j
 }
 
 // The same after an escape, where the next one is often near.
-fn copy_near(out: &mut [u8], n: usize, t: &[u8], i: usize, e: usize) -> usize
-    requires { ⌜ (n < 2 ^ 31) × (i ≤ e) × (e ≤ length (now t)) × (length (now t) ≤ 1048576) ⌝ }
-    ensures { λ r. ⌜ (r ≡ plainEnd (now (t .entry)) i e) × Wrote (now (out .entry)) (now (out .exit)) n (n + (r - i)) (slice i r (now (t .entry))) ⌝ }
+fn copy_near(out: &mut [u8], at: usize, t: &[u8], i: usize, e: usize) -> usize
+    requires { ⌜ (at < 2 ^ 31) × (i ≤ e) × (e ≤ length (now t)) × (length (now t) ≤ 1048576) ⌝ }
+    ensures { λ r. ⌜ (r ≡ plainEnd (now (t .entry)) i e) × Wrote (now (out .entry)) (now (out .exit)) at (at + (r - i)) (slice i r (now (t .entry))) ⌝ }
 {
     let j = near_end(t, i, e);
-    copy(out, n, t, i, j);
+    copy(out, at, t, i, j);
     j
 }
 
 // Reads the value of a quoted token's octets from i on, where an escape begins.
-fn escaped(out: &mut [u8], n: usize, t: &[u8], i: usize, e: usize) -> Value
-    requires { ⌜ (n + (e - i) < 2 ^ 31) × (i ≤ e) × (e ≤ length (now t)) × (length (now t) ≤ 1048576) × (plainEnd (now t) i e ≡ i) ⌝ }
-    ensures { λ r. ⌜ Values (now (out .entry)) (now (out .exit)) n r (stringValue (quoted (slice i e (now (t .entry))))) ⌝ }
+fn escaped(out: &mut [u8], at: usize, t: &[u8], i: usize, e: usize) -> Value
+    requires { ⌜ (at + (e - i) < 2 ^ 31) × (i ≤ e) × (e ≤ length (now t)) × (length (now t) ≤ 1048576) × (plainEnd (now t) i e ≡ i) ⌝ }
+    ensures { λ r. ⌜ Values (now (out .entry)) (now (out .exit)) at r (stringValue (quoted (slice i e (now (t .entry))))) ⌝ }
 {
-    let mut m = n;
+    let mut m = at;
     let mut j = i;
     while j < e {
         let x = escape::read::read(t, j + 1, e);
@@ -117,13 +117,13 @@ fn escaped(out: &mut [u8], n: usize, t: &[u8], i: usize, e: usize) -> Value
     Value::Upto(m)
 }
 
-// Reads the value of a token's octets from a to e.
-fn value(out: &mut [u8], n: usize, t: &[u8], a: usize, e: usize, quoted: bool) -> Value
-    requires { ⌜ (n ≤ 2 ^ 30) × (a ≤ e) × (e ≤ length (now t)) × (length (now t) ≤ 1048576) ⌝ }
-    ensures { λ r. ⌜ Values (now (out .entry)) (now (out .exit)) n r (stringValue (tokenOf quoted (slice a e (now (t .entry))))) ⌝ }
+// Reads the value of a token's octets from i to e.
+fn value(out: &mut [u8], at: usize, t: &[u8], i: usize, e: usize, quoted: bool) -> Value
+    requires { ⌜ (at ≤ 2 ^ 30) × (i ≤ e) × (e ≤ length (now t)) × (length (now t) ≤ 1048576) ⌝ }
+    ensures { λ r. ⌜ Values (now (out .entry)) (now (out .exit)) at r (stringValue (tokenOf quoted (slice i e (now (t .entry))))) ⌝ }
 {
-    let j = copy_plain(out, n, t, a, e);
-    let m = n + (j - a);
+    let j = copy_plain(out, at, t, i, e);
+    let m = at + (j - i);
     if e <= j {
         return Value::Upto(m);
     }
@@ -133,35 +133,35 @@ fn value(out: &mut [u8], n: usize, t: &[u8], a: usize, e: usize, quoted: bool) -
     Value::Fault
 }
 
-// Reads the value of the token whose octets stand from a to e, quoted or bare, and stores it after its count.
-pub fn string(out: &mut [u8], n: usize, t: &[u8], a: usize, e: usize, quoted: bool) -> Value
-    requires { ⌜ (n < 2 ^ 30) × (a ≤ e) × (e ≤ length (now t)) × (length (now t) ≤ 1048576) ⌝ }
-    ensures { λ r. ⌜ Values (now (out .entry)) (now (out .exit)) n r (readString (tokenOf quoted (slice a e (now (t .entry))))) ⌝ }
+// Reads the value of the token whose octets stand from i to e, quoted or bare, and stores it after its count.
+pub fn string(out: &mut [u8], at: usize, t: &[u8], i: usize, e: usize, quoted: bool) -> Value
+    requires { ⌜ (at < 2 ^ 30) × (i ≤ e) × (e ≤ length (now t)) × (length (now t) ≤ 1048576) ⌝ }
+    ensures { λ r. ⌜ Values (now (out .entry)) (now (out .exit)) at r (readString (tokenOf quoted (slice i e (now (t .entry))))) ⌝ }
 {
-    let v = value(out, n + 1, t, a, e, quoted);
+    let v = value(out, at + 1, t, i, e, quoted);
     match v {
         Value::Fault => Value::Fault,
         Value::Upto(m) => {
-            let count = m - (n + 1);
+            let count = m - (at + 1);
             if 255 < count {
                 return Value::Fault;
             }
-            put(out, n, count as u8);
+            put(out, at, count as u8);
             Value::Upto(m)
         }
     }
 }
 
 // The same without a count; the value must not be empty.
-pub fn raw(out: &mut [u8], n: usize, t: &[u8], a: usize, e: usize, quoted: bool) -> Value
-    requires { ⌜ (n < 2 ^ 30) × (a ≤ e) × (e ≤ length (now t)) × (length (now t) ≤ 1048576) ⌝ }
-    ensures { λ r. ⌜ Values (now (out .entry)) (now (out .exit)) n r (readRaw (tokenOf quoted (slice a e (now (t .entry))))) ⌝ }
+pub fn raw(out: &mut [u8], at: usize, t: &[u8], i: usize, e: usize, quoted: bool) -> Value
+    requires { ⌜ (at < 2 ^ 30) × (i ≤ e) × (e ≤ length (now t)) × (length (now t) ≤ 1048576) ⌝ }
+    ensures { λ r. ⌜ Values (now (out .entry)) (now (out .exit)) at r (readRaw (tokenOf quoted (slice i e (now (t .entry))))) ⌝ }
 {
-    let v = value(out, n, t, a, e, quoted);
+    let v = value(out, at, t, i, e, quoted);
     match v {
         Value::Fault => Value::Fault,
         Value::Upto(m) => {
-            if m <= n {
+            if m <= at {
                 return Value::Fault;
             }
             Value::Upto(m)

@@ -124,11 +124,11 @@ fn day_of(d: u64) -> Day
 }
 
 // Writes a day and the seconds of that day as 14 digits.
-fn moment(out: &mut [u8], n: usize, month: u64, day: u64, s: u64) -> usize
-    requires { ⌜ (n < 2 ^ 30) × (day < 31) ⌝ }
-    ensures { λ r. ⌜ Wrote (now (out .entry)) (now (out .exit)) n r (momentText (record { month = month; day = day }) s) ⌝ }
+fn moment(out: &mut [u8], at: usize, month: u64, day: u64, s: u64) -> usize
+    requires { ⌜ (at < 2 ^ 30) × (day < 31) ⌝ }
+    ensures { λ r. ⌜ Wrote (now (out .entry)) (now (out .exit)) at r (momentText (record { month = month; day = day }) s) ⌝ }
 {
-    let a = put_fixed(out, n, 4, 1970 + month / 12);
+    let a = put_fixed(out, at, 4, 1970 + month / 12);
     let b = put_fixed(out, a, 2, month % 12 + 1);
     let c = put_fixed(out, b, 2, day + 1);
     let d = put_fixed(out, c, 2, s / 3600);
@@ -137,11 +137,11 @@ fn moment(out: &mut [u8], n: usize, month: u64, day: u64, s: u64) -> usize
 }
 
 // Writes the time in the four octets from i to e.
-pub fn field(out: &mut [u8], n: usize, p: &[u8], i: usize, e: usize) -> usize
-    requires { ⌜ (n < 2 ^ 30) × (e ≡ i + 4) × (e ≤ length (now p)) ⌝ }
-    ensures { λ r. ⌜ Wrote (now (out .entry)) (now (out .exit)) n r (timeText (Digits.number 256 (slice i e (now (p .entry))))) ⌝ }
+pub fn field(out: &mut [u8], at: usize, p: &[u8], i: usize, e: usize) -> usize
+    requires { ⌜ (at < 2 ^ 30) × (e ≡ i + 4) × (e ≤ length (now p)) ⌝ }
+    ensures { λ r. ⌜ Wrote (now (out .entry)) (now (out .exit)) at r (timeText (Digits.number 256 (slice i e (now (p .entry))))) ⌝ }
 {
     let v = number(p, i, e);
     let d = day_of(v / 86400);
-    moment(out, n, d.month, d.day, v % 86400)
+    moment(out, at, d.month, d.day, v % 86400)
 }

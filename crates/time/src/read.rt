@@ -149,10 +149,10 @@ fn seconds(t: &[u8], i: usize, e: usize) -> Number
 }
 
 // Reads a time into four octets.
-pub fn field(out: &mut [u8], n: usize, t: &[u8], i: usize, e: usize) -> Value
-    requires { ⌜ (n < 2 ^ 30) × (i ≤ e) × (e ≤ length (now t)) ⌝ }
-    ensures { λ r. ⌜ Values (now (out .entry)) (now (out .exit)) n r (readTime (slice i e (now (t .entry)))) ⌝ }
+pub fn field(out: &mut [u8], at: usize, t: &[u8], i: usize, e: usize) -> Value
+    requires { ⌜ (at < 2 ^ 30) × (i ≤ e) × (e ≤ length (now t)) ⌝ }
+    ensures { λ r. ⌜ Values (now (out .entry)) (now (out .exit)) at r (readTime (slice i e (now (t .entry)))) ⌝ }
 {
     let v = seconds(t, i, e);
-    value(out, n, 4, v)
+    value(out, at, 4, v)
 }

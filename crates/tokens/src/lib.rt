@@ -9,7 +9,7 @@ ghost use Rattle.format.specs.Token.{textOctet, scanned, tokens};
 ghost use Rattle.tokens.specs.Tokens.{tokensBy, Within, inside, standing, frontEnd, blockAt, escapes, partedOff, closes, endedAt, From};
 use octets::Class;
 
-// The next token: none is left; a bare one from a to e; a quoted one, whose octets between the quotes stand from a to e; or one
+// The next token: none is left; a bare one from i to e; a quoted one, whose octets between the quotes stand from i to e; or one
 // with a fault inside.
 pub enum Next {
     End,
@@ -197,32 +197,32 @@ fn closes_at(t: &[u8], j: usize, q: u8) -> bool
     parted_at(t, j + 1)
 }
 
-// The token whose octets stand from a to j, if it properly ends there, else a broken one.
-fn ended(t: &[u8], a: usize, j: usize, q: u8) -> Next
-    ensures { λ r. ⌜ r ≡ endedAt (now (t .entry)) a q j ⌝ }
+// The token whose octets stand from i to j, if it properly ends there, else a broken one.
+fn ended(t: &[u8], i: usize, j: usize, q: u8) -> Next
+    ensures { λ r. ⌜ r ≡ endedAt (now (t .entry)) i q j ⌝ }
 {
     if q == 0 {
         if parted_at(t, j) {
-            return Next::Bare(a, j);
+            return Next::Bare(i, j);
         }
         return Next::Broken;
     }
     if closes_at(t, j, q) {
-        return Next::Quoted(a, j);
+        return Next::Quoted(i, j);
     }
     Next::Broken
 }
 
-// The token whose octets start at a: after the quote q, or bare if q is 0.
-fn token(t: &[u8], a: usize, q: u8) -> Next
-    requires { ⌜ (a ≤ length (now t)) × (q < 92) ⌝ }
-    ensures { λ r. ⌜ (tokensBy (now (t .entry)) r ≡ scanned (inside q) (drop a (now (t .entry)))) × From (now (t .entry)) q a r ⌝ }
+// The token whose octets start at i: after the quote q, or bare if q is 0.
+fn token(t: &[u8], i: usize, q: u8) -> Next
+    requires { ⌜ (i ≤ length (now t)) × (q < 92) ⌝ }
+    ensures { λ r. ⌜ (tokensBy (now (t .entry)) r ≡ scanned (inside q) (drop i (now (t .entry)))) × From (now (t .entry)) q i r ⌝ }
 {
-    let mut j = skip(t, a, q);
+    let mut j = skip(t, i, q);
     while escape_at(t, j) {
         j = skip(t, j + 2, q);
     }
-    ended(t, a, j, q)
+    ended(t, i, j, q)
 }
 
 // The next token from i on.

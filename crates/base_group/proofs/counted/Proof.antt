@@ -16,7 +16,7 @@ sub-count c =
     let c9 = c5 .before .before .before .before in
     omega (
       arith,
-      count-is 1 (c9 .args .out .now) (c5 .lettered .last .0) (c9 .args .n) (c .before .v .given .0 .0)
+      count-is 1 (c9 .args .out .now) (c5 .lettered .last .0) (c9 .args .at) (c .before .v .given .0 .0)
           (octetsBy letters 100 (c9 .args .w) (c9 .args .base) (slice (c9 .args .i) (c9 .args .e) (c9 .args .t .now)))
           (rw (c .before .v .given .1) at (c5 .lettered .ensures)),
     )
@@ -26,7 +26,7 @@ returns c =
     let c2 = c .before .before in
     let c6 = c2 .before .before .before .before in
     let c10 = c6 .before .before .before .before in
-    too-short 1 (c10 .args .out .now) (c6 .lettered .last .0) (c10 .args .n) (c2 .v .given .0 .0)
+    too-short 1 (c10 .args .out .now) (c6 .lettered .last .0) (c10 .args .at) (c2 .v .given .0 .0)
     (octetsBy letters 100 (c10 .args .w) (c10 .args .base) (slice (c10 .args .i) (c10 .args .e) (c10 .args .t .now)))
     (rw (c2 .v .given .1) at (c6 .lettered .ensures)) (c .if1 .taken)
 
@@ -35,7 +35,7 @@ returns-2 c =
     let c3 = c .before .before .before in
     let c7 = c3 .before .before .before .before in
     let c11 = c7 .before .before .before .before in
-    too-long 1 (c11 .args .out .now) (c7 .lettered .last .0) (c11 .args .n) (c3 .v .given .0 .0)
+    too-long 1 (c11 .args .out .now) (c7 .lettered .last .0) (c11 .args .at) (c3 .v .given .0 .0)
     (octetsBy letters 100 (c11 .args .w) (c11 .args .base) (slice (c11 .args .i) (c11 .args .e) (c11 .args .t .now)))
     (rw (c3 .v .given .1) at (c7 .lettered .ensures)) (c .before .if1 .left) (c .if2 .taken)
 
@@ -52,7 +52,7 @@ returns-4 c =
     let c7 = c5 .before .before in
     let c11 = c7 .before .before .before .before in
     let c15 = c11 .before .before .before .before in
-    counted-value 1 (c15 .args .out .now) (c11 .lettered .last .0) (c15 .args .n) (c7 .v .given .0 .0)
+    counted-value 1 (c15 .args .out .now) (c11 .lettered .last .0) (c15 .args .at) (c7 .v .given .0 .0)
     (octetsBy letters 100 (c15 .args .w) (c15 .args .base) (slice (c15 .args .i) (c15 .args .e) (c15 .args .t .now)))
     (rw (c7 .v .given .1) at (c11 .lettered .ensures)) _ (c5 .if1 .left) (c4 .if2 .left) (c2 .put .ensures)
 

@@ -18,9 +18,9 @@ abbrev μ-loop : tie.MeasureT-loop
 
 loop-holds : tie.Need-loop-holds Inv-loop μ-loop
 loop-holds c =
-    let z : c .args .n + 0 ≡ c .args .n = omega arith in (
+    let z : c .args .at + 0 ≡ c .args .at = omega arith in (
       search needs,
-      subst (λ m. Left (c .args .out .now) (c .args .n) (c .args .s .now) (c .args .out .now) m (c .args .s .now)) (sym z) (left-all _ _ _),
+      subst (λ m. Left (c .args .out .now) (c .args .at) (c .args .xs .now) (c .args .out .now) m (c .args .xs .now)) (sym z) (left-all _ _ _),
     )
 
 shared-slice-read-out : tie.Need-shared-slice-read-out Inv-loop μ-loop
@@ -46,7 +46,7 @@ loop-again : tie.Need-loop-again Inv-loop μ-loop
 loop-again c =
     let c2 = c .before .before in
     let c3 = c2 .before in
-    let z : c3 .args .n + c2 .loop .i + 1 ≡ c3 .args .n + (c2 .loop .i + 1) = omega arith in
+    let z : c3 .args .at + c2 .loop .i + 1 ≡ c3 .args .at + (c2 .loop .i + 1) = omega arith in
     (search needs, rw (← z) (left-one _ _ _ (c2 .loop .inv .1) (next _ _ (c .before .loop-test .taken)) refl))
 
 add-result : tie.Need-add-result Inv-loop μ-loop

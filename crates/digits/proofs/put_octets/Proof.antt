@@ -40,7 +40,7 @@ loop-again c =
     let c5 = c4 .before in
     let c7 = c5 .before .before in (
       search needs,
-      last-octet _ _ (c7 .args .n) (c5 .loop .k) (c5 .loop .x) (c4 .loop-test .taken) (c2 .put .ensures) ∙ c5 .loop .inv .1,
+      last-octet _ _ (c7 .args .at) (c5 .loop .k) (c5 .loop .x) (c4 .loop-test .taken) (c2 .put .ensures) ∙ c5 .loop .inv .1,
       search needs,
     )
 

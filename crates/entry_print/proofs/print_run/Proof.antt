@@ -10,6 +10,7 @@ use Rattle.entry_print.proofs.print_run.Reads as reads
 use Rattle.entry_print.proofs.print_run.Lts as lts
 use Rattle.entry_print.proofs.put_text.Reads as put-text-reads
 use Rattle.run_wire.proofs.check.Reads as check-reads
+use Rattle.entry.proofs.refused.Reads as refused-reads
 
 put-text-requires : tie.Need-put-text-requires
 put-text-requires c κs =
@@ -25,13 +26,14 @@ put-text-requires c κs =
 
 returns : tie.Need-returns
 returns c =
-    let c3 = c .before .before .before in
-    let c7 = c3 .before .before .before .before in
-    leaves-refused _ (c7 .args .at) _ _ _ _
+    let c2 = c .before .before in
+    let c4 = c2 .before .before in
+    let c8 = c4 .before .before .before .before in
+    leaves-refused _ (c8 .args .at) _ _ _ _
     (no-answer _ _ _ _
     (subst
-    (Checks (kindsFrom (c7 .args .s .now) (fieldsOf (c7 .args .codes .now)) (c7 .args .first) (c7 .args .many))
-    (c7 .args .p .now)) (c .before .c .given .1) (c3 .check .ensures (c7 .args .s .now)))) refl refl
+    (Checks (kindsFrom (c8 .args .s .now) (fieldsOf (c8 .args .codes .now)) (c8 .args .first) (c8 .args .many))
+    (c8 .args .p .now)) (c2 .c .given .1) (c4 .check .ensures (c8 .args .s .now)))) (c .refused .ensures .0) (c .refused .ensures .1)
 
 returns-2 : tie.Need-returns-2
 returns-2 c =
@@ -50,6 +52,7 @@ print-run-spec =
     (tie.spec
     (λ c κs. search needs)
     (λ c. search needs)
+    (λ c κs. search needs)
     (λ c. search needs)
     put-text-requires
     returns

@@ -13,14 +13,16 @@ use Rattle.entry_read.proofs.read_judged.Lts as lts
 use Rattle.entry_read.proofs.is_name.Reads as is-name-reads
 use Rattle.entry.proofs.is_run.Reads as is-run-reads
 use Rattle.entry_read.proofs.room.read_run.Reads as read-run-reads
+use Rattle.entry.proofs.refused.Reads as refused-reads
 
 returns : tie.Need-returns
 unfolding read
 returns c =
-    let c6 = c .before .before .before .before .before .before in
-    leaves-refused _ (c6 .args .at) _ _ _ _
-    (read-rejected (c6 .pre .0) (c6 .args .origin .now) (c6 .args .t .now) (c6 .pre .1) (c6 .args .first) (c6 .args .many)
-    (c .before .if1 .taken)) refl refl
+    let c2 = c .before .before in
+    let c7 = c2 .before .before .before .before .before in
+    leaves-refused _ (c7 .args .at) _ _ _ _
+    (read-rejected (c7 .pre .0) (c7 .args .origin .now) (c7 .args .t .now) (c7 .pre .1) (c7 .args .first) (c7 .args .many)
+    (c2 .if1 .taken)) (c .refused .ensures .0) (c .refused .ensures .1)
 
 sub-read-run : tie.Need-sub-read-run
 sub-read-run c =
@@ -68,19 +70,23 @@ returns-3 c =
     let c2 = c .before .before in
     let c3 = c2 .before in
     let c4 = c3 .before in
-    let c9 = c4 .before .before .before .before .before in
-    leaves-refused _ (c9 .args .at) _ _ _ _
-    (read-no-origin (c9 .pre .0) (c9 .args .origin .now) (c9 .args .t .now) (c9 .pre .1) (omega (arith, c4 .if1 .left)) (c9 .args .first)
-    (c9 .args .many) (sym (c2 .if2 .taken) ∙ c3 .is-run .ensures) (sym (c .before .is-name .ensures) ∙ c .if3 .left)) refl refl
+    let c5 = c4 .before in
+    let c10 = c5 .before .before .before .before .before in
+    leaves-refused _ (c10 .args .at) _ _ _ _
+    (read-no-origin (c10 .pre .0) (c10 .args .origin .now) (c10 .args .t .now) (c10 .pre .1) (omega (arith, c5 .if1 .left))
+    (c10 .args .first)
+    (c10 .args .many) (sym (c3 .if2 .taken) ∙ c4 .is-run .ensures)
+    (sym (c2 .is-name .ensures) ∙ c .before .if3 .left)) (c .refused2 .ensures .0) (c .refused2 .ensures .1)
 
 returns-4 : tie.Need-returns-4
 unfolding read
 returns-4 c =
     let c2 = c .before .before in
-    let c7 = c2 .before .before .before .before .before in
-    leaves-refused _ (c7 .args .at) _ _ _ _
-    (read-no-run (c7 .pre .0) (c7 .args .origin .now) (c7 .args .t .now) (c7 .pre .1) (omega (arith, c2 .if1 .left)) (c7 .args .first)
-    (c7 .args .many) (sym (c .if2 .left) ∙ c .before .is-run .ensures)) refl refl
+    let c3 = c2 .before in
+    let c8 = c3 .before .before .before .before .before in
+    leaves-refused _ (c8 .args .at) _ _ _ _
+    (read-no-run (c8 .pre .0) (c8 .args .origin .now) (c8 .args .t .now) (c8 .pre .1) (omega (arith, c3 .if1 .left)) (c8 .args .first)
+    (c8 .args .many) (sym (c .before .if2 .left) ∙ c2 .is-run .ensures)) (c .refused3 .ensures .0) (c .refused3 .ensures .1)
 
 pub read-judged-spec : {M : Type 1} → statement M
 read-judged-spec =
@@ -88,6 +94,7 @@ read-judged-spec =
     (tie.spec
     (λ c. search needs)
     (λ c. search needs)
+    (λ c κs. search needs)
     returns
     (λ c κs. search needs)
     (λ c κs. search needs)
@@ -95,5 +102,7 @@ read-judged-spec =
     read-run-requires
     (λ c. search needs)
     returns-2
+    (λ c κs. search needs)
     returns-3
+    (λ c κs. search needs)
     returns-4)

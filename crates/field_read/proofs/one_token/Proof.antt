@@ -43,7 +43,7 @@ returns c =
     let c8 = c3 .before .before .before .before .before in
     let q = rw (c .before .enum-told .given .1) at (c3 .next-token .ensures .0) in
     subst
-    (λ ts. Gives (c8 .args .out .now) (c8 .args .out .now) (c8 .args .n) (c8 .args .t .now) (c .none-left .result)
+    (λ ts. Gives (c8 .args .out .now) (c8 .args .out .now) (c8 .args .at) (c8 .args .t .now) (c .none-left .result)
     (readField (kindFor (c8 .args .s .now) (c8 .args .d)) (c8 .args .origin .now) ts)) q
     (c .none-left .ensures (c8 .args .out .now) (c8 .args .t .now) _ (c8 .args .origin .now) (c8 .pre .4) (sym q) (c8 .pre .6))
 

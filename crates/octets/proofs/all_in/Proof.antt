@@ -42,7 +42,7 @@ loop-again c =
       search needs,
       let z : c5 .args .i + (c3 .loop .k + 1) ≡ c5 .args .i + c3 .loop .k + 1 = omega arith in
           rw (z, c .is-in .ensures)
-          (all-next (inClass (c5 .args .c)) (c5 .args .s .now) (c5 .args .i + c3 .loop .k) (c5 .args .i + c5 .args .n) (c3 .loop .all)
+          (all-next (inClass (c5 .args .c)) (c5 .args .xs .now) (c5 .args .i + c3 .loop .k) (c5 .args .i + c5 .args .n) (c3 .loop .all)
           (omega arith) (c5 .pre)
           ∙ c3 .loop .inv .1),
     )
@@ -51,7 +51,7 @@ returns : tie.Need-returns Inv-loop μ-loop
 returns c =
     let c3 = c .before .before .before in
     sym
-    (all-none (inClass (c3 .args .c)) (c3 .args .s .now) (c3 .args .i + c .before .loop .k) (c3 .args .i + c3 .args .n)
+    (all-none (inClass (c3 .args .c)) (c3 .args .xs .now) (c3 .args .i + c .before .loop .k) (c3 .args .i + c3 .args .n)
     (c .before .loop .all) (omega arith))
     ∙ c .before .loop .inv .1
 

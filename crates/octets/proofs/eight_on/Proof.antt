@@ -14,7 +14,7 @@ returns-2 c =
     let c4 = c .before .before .before .before in (
       omega arith,
       omega arith,
-      all-front (inClass NotNewline) (c4 .args .s .now) (c4 .args .i) (c4 .args .i + 8) (length (c4 .args .s .now)) (omega arith)
+      all-front (inClass NotNewline) (c4 .args .xs .now) (c4 .args .i) (c4 .args .i + 8) (length (c4 .args .xs .now)) (omega arith)
           (omega arith) (omega arith) (sym (c .before .all-in .ensures) ∙ c .if2 .taken),
     )
 

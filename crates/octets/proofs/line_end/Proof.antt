@@ -30,8 +30,8 @@ add-j c =
     let c4 = c2 .before .before in
     omega (
       arith,
-      block-there 16 (length (c4 .args .s .now) - c2 .loop .j)
-          (allOf (inClass NotNewline) (slice (c2 .loop .j) (c2 .loop .j + 16) (c4 .args .s .now)))
+      block-there 16 (length (c4 .args .xs .now) - c2 .loop .j)
+          (allOf (inClass NotNewline) (slice (c2 .loop .j) (c2 .loop .j + 16) (c4 .args .xs .now)))
           (sym (c .before .goes-on .ensures) ∙ c .if1 .taken),
     )
 
@@ -41,8 +41,8 @@ loop-less c =
     let c4 = c2 .before .before in
     omega (
       arith,
-      block-there 16 (length (c4 .args .s .now) - c2 .loop .j)
-          (allOf (inClass NotNewline) (slice (c2 .loop .j) (c2 .loop .j + 16) (c4 .args .s .now)))
+      block-there 16 (length (c4 .args .xs .now) - c2 .loop .j)
+          (allOf (inClass NotNewline) (slice (c2 .loop .j) (c2 .loop .j + 16) (c4 .args .xs .now)))
           (sym (c .before .goes-on .ensures) ∙ c .if1 .taken),
     )
 
@@ -50,14 +50,14 @@ loop-again : tie.Need-loop-again Inv-loop μ-loop
 loop-again c =
     let c2 = c .before .before in
     let c4 = c2 .before .before in
-    let n = block-there 16 (length (c4 .args .s .now) - c2 .loop .j)
-    (allOf (inClass NotNewline) (slice (c2 .loop .j) (c2 .loop .j + 16) (c4 .args .s .now)))
+    let n = block-there 16 (length (c4 .args .xs .now) - c2 .loop .j)
+    (allOf (inClass NotNewline) (slice (c2 .loop .j) (c2 .loop .j + 16) (c4 .args .xs .now)))
     (sym (c .before .goes-on .ensures) ∙ c .if1 .taken) in (
       omega (arith, n),
-      all-front (inClass NotNewline) (c4 .args .s .now) (c2 .loop .j) (c2 .loop .j + 16) (length (c4 .args .s .now)) (omega arith)
+      all-front (inClass NotNewline) (c4 .args .xs .now) (c2 .loop .j) (c2 .loop .j + 16) (length (c4 .args .xs .now)) (omega arith)
           (omega (arith, n)) (omega arith)
-          (block-passes 16 (length (c4 .args .s .now) - c2 .loop .j)
-          (allOf (inClass NotNewline) (slice (c2 .loop .j) (c2 .loop .j + 16) (c4 .args .s .now)))
+          (block-passes 16 (length (c4 .args .xs .now) - c2 .loop .j)
+          (allOf (inClass NotNewline) (slice (c2 .loop .j) (c2 .loop .j + 16) (c4 .args .xs .now)))
           (sym (c .before .goes-on .ensures) ∙ c .if1 .taken))
           ∙ c2 .loop .inv .1,
     )

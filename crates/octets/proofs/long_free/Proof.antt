@@ -20,7 +20,7 @@ abbrev μ-loop : tie.MeasureT-loop
 μ-loop s i e j₀ j = e - j
 
 loop-holds : tie.Need-loop-holds Inv-loop μ-loop
-loop-holds c = (omega arith, omega arith, rw (none (c .before .args .s .now) (c .before .args .i) (c .before .args .i) (omega arith)))
+loop-holds c = (omega arith, omega arith, rw (none (c .before .args .xs .now) (c .before .args .i) (c .before .args .i) (omega arith)))
 
 goes-on-requires : tie.Need-goes-on-requires Inv-loop μ-loop
 goes-on-requires c κs = search needs
@@ -31,7 +31,7 @@ add-j c =
     let c4 = c2 .before .before in
     omega (
       arith,
-      block-there 16 (c4 .args .e - c2 .loop .j) (allOf (inClass FreeText) (slice (c2 .loop .j) (c2 .loop .j + 16) (c4 .args .s .now)))
+      block-there 16 (c4 .args .e - c2 .loop .j) (allOf (inClass FreeText) (slice (c2 .loop .j) (c2 .loop .j + 16) (c4 .args .xs .now)))
           (sym (c .before .goes-on .ensures) ∙ c .if1 .taken),
     )
 
@@ -41,7 +41,7 @@ loop-less c =
     let c4 = c2 .before .before in
     omega (
       arith,
-      block-there 16 (c4 .args .e - c2 .loop .j) (allOf (inClass FreeText) (slice (c2 .loop .j) (c2 .loop .j + 16) (c4 .args .s .now)))
+      block-there 16 (c4 .args .e - c2 .loop .j) (allOf (inClass FreeText) (slice (c2 .loop .j) (c2 .loop .j + 16) (c4 .args .xs .now)))
           (sym (c .before .goes-on .ensures) ∙ c .if1 .taken),
     )
 
@@ -50,13 +50,13 @@ loop-again c =
     let c2 = c .before .before in
     let c4 = c2 .before .before in
     let n = block-there 16 (c4 .args .e - c2 .loop .j)
-    (allOf (inClass FreeText) (slice (c2 .loop .j) (c2 .loop .j + 16) (c4 .args .s .now)))
+    (allOf (inClass FreeText) (slice (c2 .loop .j) (c2 .loop .j + 16) (c4 .args .xs .now)))
     (sym (c .before .goes-on .ensures) ∙ c .if1 .taken) in (
       omega arith,
       omega (arith, n),
-      all-whole (inClass FreeText) (c4 .args .s .now) (c4 .args .i) (c2 .loop .j) (c2 .loop .j + 16) (c2 .loop .inv .0) (omega arith)
+      all-whole (inClass FreeText) (c4 .args .xs .now) (c4 .args .i) (c2 .loop .j) (c2 .loop .j + 16) (c2 .loop .inv .0) (omega arith)
           (omega (arith, n)) (c2 .loop .inv .2)
-          (block-passes 16 (c4 .args .e - c2 .loop .j) (allOf (inClass FreeText) (slice (c2 .loop .j) (c2 .loop .j + 16) (c4 .args .s .now)))
+          (block-passes 16 (c4 .args .e - c2 .loop .j) (allOf (inClass FreeText) (slice (c2 .loop .j) (c2 .loop .j + 16) (c4 .args .xs .now)))
           (sym (c .before .goes-on .ensures) ∙ c .if1 .taken)),
     )
 
@@ -74,7 +74,7 @@ returns c =
     let c4 = c .before .before .before .before in
     let c6 = c4 .before .before in
     let z : c6 .args .e - 16 + 16 ≡ c6 .args .e = omega arith in
-    rw z at (c .all-in .ensures) ∙ all-over (inClass FreeText) (c6 .args .s .now) (c6 .args .i) (c4 .loop .j) (c6 .args .e - 16)
+    rw z at (c .all-in .ensures) ∙ all-over (inClass FreeText) (c6 .args .xs .now) (c6 .args .i) (c4 .loop .j) (c6 .args .e - 16)
     (c6 .args .e) (omega arith) (omega arith) (c4 .loop .inv .1) (c6 .pre .1) (c4 .loop .inv .2)
 
 returns-2 : tie.Need-returns-2 Inv-loop μ-loop
@@ -82,7 +82,7 @@ returns-2 c =
     let c2 = c .before .before in
     let c3 = c2 .before in
     let c5 = c3 .before .before in
-    all-off (inClass FreeText) (c5 .args .s .now) (c5 .args .i) (c3 .loop .j) (c3 .loop .j + 16) (c5 .args .e) (c3 .loop .inv .0)
+    all-off (inClass FreeText) (c5 .args .xs .now) (c5 .args .i) (c3 .loop .j) (c3 .loop .j + 16) (c5 .args .e) (c3 .loop .inv .0)
     (omega arith) (omega arith) (c5 .pre .1)
     (block-broken 16 (c5 .args .e - c3 .loop .j) _ (omega arith) (sym (c2 .goes-on .ensures) ∙ c .before .if1 .left))
 

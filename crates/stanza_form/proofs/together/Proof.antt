@@ -6,7 +6,7 @@ use Rattle.stanza_form.proofs.together.Reads as reads
 use Rattle.stanza_form.proofs.together.Lts as lts
 
 returns : tie.Need-returns
-returns c = code-parts (c .args .n) (c .args .p) (c .args .at) (c .args .end) (search needs) (search needs) (search needs) (search needs)
+returns c = code-parts (c .args .n) (c .args .held) (c .args .at) (c .args .end) (search needs) (search needs) (search needs) (search needs)
 
 pub together-spec : {M : Type 1} → statement M
 together-spec =

@@ -15,7 +15,7 @@ returns c =
     let c2 = c .before .before in
     let c4 = c2 .before .before in (
       tt,
-      λ d. line-malformed (c4 .args .s .now) (c4 .args .t) (c4 .args .e) (c4 .args .x) (c2 .meaning-of .result) (c2 .meaning-of .ensures) d
+      λ d. line-malformed (c4 .args .s .now) (c4 .args .i) (c4 .args .e) (c4 .args .x) (c2 .meaning-of .result) (c2 .meaning-of .ensures) d
           (c .enum-told .given .1),
     )
 
@@ -24,7 +24,7 @@ returns-2 c =
     let c2 = c .before .before in
     let c4 = c2 .before .before in (
       tt,
-      λ d. line-unknown (c4 .args .s .now) (c4 .args .t) (c4 .args .e) (c4 .args .x) (c2 .meaning-of .result) (c2 .meaning-of .ensures) d
+      λ d. line-unknown (c4 .args .s .now) (c4 .args .i) (c4 .args .e) (c4 .args .x) (c2 .meaning-of .result) (c2 .meaning-of .ensures) d
           (c .enum-told2 .given .1),
     )
 
@@ -33,7 +33,7 @@ returns-3 c =
     let c2 = c .before .before in
     let c4 = c2 .before .before in (
       tt,
-      λ d. line-forbidden (c4 .args .s .now) (c4 .args .t) (c4 .args .e) (c4 .args .x) (c2 .meaning-of .result) (c2 .meaning-of .ensures) d
+      λ d. line-forbidden (c4 .args .s .now) (c4 .args .i) (c4 .args .e) (c4 .args .x) (c2 .meaning-of .result) (c2 .meaning-of .ensures) d
           (c .enum-told3 .given .1),
     )
 
@@ -45,13 +45,13 @@ returns-4 c =
       (
         c8 .pre .0 .name-from,
         omega (arith, c8 .pre .0 .name-to, c8 .pre .1),
-        line-placed (c8 .args .s .now) (c8 .args .t) (c8 .args .e) (c8 .args .x) _ (c8 .pre .0) (c8 .pre .1)
+        line-placed (c8 .args .s .now) (c8 .args .i) (c8 .args .e) (c8 .args .x) _ (c8 .pre .0) (c8 .pre .1)
             (subst
             (λ m. meantIn (c8 .args .s .now) (c8 .args .x .«qualifiers_at») (c8 .args .x .«qualifiers_end») m ≡ meaningIn
-            (slice (c8 .args .t) (c8 .args .x .«type_end») (c8 .args .s .now)) (c8 .args .s .now) (c8 .args .x .«qualifiers_at»)
+            (slice (c8 .args .i) (c8 .args .x .«type_end») (c8 .args .s .now)) (c8 .args .s .now) (c8 .args .x .«qualifiers_at»)
             (c8 .args .x .«qualifiers_end»)) (c4 .m .given .1) (c6 .meaning-of .ensures)) refl refl,
       ),
-      λ d. line-means (c8 .args .s .now) (c8 .args .t) (c8 .args .e) (c8 .args .x) (c6 .meaning-of .result) (c6 .meaning-of .ensures) d
+      λ d. line-means (c8 .args .s .now) (c8 .args .i) (c8 .args .e) (c8 .args .x) (c6 .meaning-of .result) (c6 .meaning-of .ensures) d
           (c4 .m .given .1),
     )
 

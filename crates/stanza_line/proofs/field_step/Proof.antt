@@ -14,7 +14,7 @@ returns c =
     let c7 = c2 .before .before .before .before .before in (
       tt,
       λ d st. rw (c2 .f2 .given .1)
-          (after-tail (c7 .args .s .now) d (c7 .args .last) (c7 .args .names .now) (c7 .args .ends .now) (c7 .args .n) st
+          (after-tail (c7 .args .s .now) d (c7 .args .tail-seen) (c7 .args .names .now) (c7 .args .ends .now) (c7 .args .n) st
           (fieldOf (c7 .args .s .now) ((c2 .f2 .given .0 .0) .field) ((c2 .f2 .given .0 .0) .«name_at»)
           ((c2 .f2 .given .0 .0) .«name_end»)) ((c2 .f2 .given .0 .0) .«name_at») ((c2 .f2 .given .0 .0) .«name_end») refl
           (c .if1 .taken)),
@@ -33,7 +33,7 @@ returns-2 c =
     let c11 = c6 .before .before .before .before .before in (
       tt,
       λ d st. rw (c6 .f2 .given .1)
-          (named-again (c11 .args .s .now) d (c11 .args .last) (c11 .args .names .now) (c11 .args .ends .now) (c11 .args .n) st
+          (named-again (c11 .args .s .now) d (c11 .args .tail-seen) (c11 .args .names .now) (c11 .args .ends .now) (c11 .args .n) st
           (fieldOf (c11 .args .s .now) ((c6 .f2 .given .0 .0) .field) ((c6 .f2 .given .0 .0) .«name_at»)
           ((c6 .f2 .given .0 .0) .«name_end»)) ((c6 .f2 .given .0 .0) .«name_at») ((c6 .f2 .given .0 .0) .«name_end») refl (c4 .if1 .left)
           (sym (c .before .name-again .ensures) ∙ c .if2 .taken)),
@@ -47,7 +47,7 @@ returns-3 c =
     let c12 = c7 .before .before .before .before .before in (
       tt,
       λ d st. rw (c7 .f2 .given .1)
-          (too-many (c12 .args .s .now) d (c12 .args .last) (c12 .args .names .now) (c12 .args .ends .now) (c12 .args .n) st
+          (too-many (c12 .args .s .now) d (c12 .args .tail-seen) (c12 .args .names .now) (c12 .args .ends .now) (c12 .args .n) st
           (fieldOf (c12 .args .s .now) ((c7 .f2 .given .0 .0) .field) ((c7 .f2 .given .0 .0) .«name_at»)
           ((c7 .f2 .given .0 .0) .«name_end»)) ((c7 .f2 .given .0 .0) .«name_at») ((c7 .f2 .given .0 .0) .«name_end») refl (c5 .if1 .left)
           (sym (c2 .name-again .ensures) ∙ c .before .if2 .left) (c .if3 .taken)),
@@ -64,7 +64,7 @@ returns-5 c =
     let c12 = c7 .before .before .before .before .before in (
       (c .if3 .left, (rw (c7 .f2 .given .1) at (c12 .pre .0)) .2),
       λ d st. rw (c7 .f2 .given .1)
-          (one-more (c12 .args .s .now) d (c12 .args .last) (c12 .args .names .now) (c12 .args .ends .now) (c12 .args .n) st
+          (one-more (c12 .args .s .now) d (c12 .args .tail-seen) (c12 .args .names .now) (c12 .args .ends .now) (c12 .args .n) st
           (fieldOf (c12 .args .s .now) ((c7 .f2 .given .0 .0) .field) ((c7 .f2 .given .0 .0) .«name_at»)
           ((c7 .f2 .given .0 .0) .«name_end»)) ((c7 .f2 .given .0 .0) .«name_at») ((c7 .f2 .given .0 .0) .«name_end») refl (c5 .if1 .left)
           (sym (c2 .name-again .ensures) ∙ c .before .if2 .left) (c .if3 .left)),

@@ -11,7 +11,7 @@ use Rattle.stanza_grammar.proofs.header_line.Reads as header-line-reads
 returns : tie.Need-returns
 returns c =
     let c2 = c .before .before in
-    indented (c2 .args .s .now) (c2 .args .at) (c2 .args .t) (c2 .args .e) (c .if1 .taken) _ _
+    indented (c2 .args .s .now) (c2 .args .at) (c2 .args .i) (c2 .args .e) (c .if1 .taken) _ _
 
 returns-2 : tie.Need-returns-2
 returns-2 c =
@@ -19,9 +19,9 @@ returns-2 c =
     let c4 = c2 .before .before in
     let c5 = c4 .before in
     let c7 = c5 .before .before in
-    low-number (c7 .args .s .now) (c7 .args .t) (c7 .args .e) (c4 .header-line .result) (c4 .header-line .ensures .0) (c2 .h .given .1)
+    low-number (c7 .args .s .now) (c7 .args .i) (c7 .args .e) (c4 .header-line .result) (c4 .header-line .ensures .0) (c2 .h .given .1)
     (c .if2 .taken)
-    ∙ outdented (c7 .args .s .now) (c7 .args .at) (c7 .args .t) (c7 .args .e) (c7 .pre .0) (c5 .if1 .left) _ _
+    ∙ outdented (c7 .args .s .now) (c7 .args .at) (c7 .args .i) (c7 .args .e) (c7 .pre .0) (c5 .if1 .left) _ _
 
 returns-3 : tie.Need-returns-3
 returns-3 c =
@@ -29,9 +29,9 @@ returns-3 c =
     let c5 = c3 .before .before in
     let c6 = c5 .before in
     let c8 = c6 .before .before in
-    high-number (c8 .args .s .now) (c8 .args .t) (c8 .args .e) (c5 .header-line .result) (c5 .header-line .ensures .0) (c3 .h .given .1)
+    high-number (c8 .args .s .now) (c8 .args .i) (c8 .args .e) (c5 .header-line .result) (c5 .header-line .ensures .0) (c3 .h .given .1)
     (c .before .if2 .left) (c .if3 .taken)
-    ∙ outdented (c8 .args .s .now) (c8 .args .at) (c8 .args .t) (c8 .args .e) (c8 .pre .0) (c6 .if1 .left) _ _
+    ∙ outdented (c8 .args .s .now) (c8 .args .at) (c8 .args .i) (c8 .args .e) (c8 .pre .0) (c6 .if1 .left) _ _
 
 cast-t12 : tie.Need-cast-t12
 cast-t12 c =
@@ -52,9 +52,9 @@ returns-4 c =
     let c2 = c .before .before in
     let c3 = c2 .before in
     let c5 = c3 .before .before in
-    no-header (c5 .args .s .now) (c5 .args .t) (c5 .args .e) (c2 .header-line .result) (c2 .header-line .ensures .0)
+    no-header (c5 .args .s .now) (c5 .args .i) (c5 .args .e) (c2 .header-line .result) (c2 .header-line .ensures .0)
     (c .enum-told .given .1)
-    ∙ outdented (c5 .args .s .now) (c5 .args .at) (c5 .args .t) (c5 .args .e) (c5 .pre .0) (c3 .if1 .left) _ _
+    ∙ outdented (c5 .args .s .now) (c5 .args .at) (c5 .args .i) (c5 .args .e) (c5 .pre .0) (c3 .if1 .left) _ _
 
 returns-5 : tie.Need-returns-5
 returns-5 c =
@@ -64,9 +64,9 @@ returns-5 c =
     let c7 = c5 .before .before in
     let c8 = c7 .before in
     let c10 = c8 .before .before in
-    good-header (c10 .args .s .now) (c10 .args .t) (c10 .args .e) (c7 .header-line .result) (c7 .header-line .ensures .0) (c5 .h .given .1)
+    good-header (c10 .args .s .now) (c10 .args .i) (c10 .args .e) (c7 .header-line .result) (c7 .header-line .ensures .0) (c5 .h .given .1)
     (c3 .if2 .left) (c2 .if3 .left)
-    ∙ outdented (c10 .args .s .now) (c10 .args .at) (c10 .args .t) (c10 .args .e) (c10 .pre .0) (c8 .if1 .left) _ _
+    ∙ outdented (c10 .args .s .now) (c10 .args .at) (c10 .args .i) (c10 .args .e) (c10 .pre .0) (c8 .if1 .left) _ _
 
 pub header-verdict-spec : {M : Type 1} → statement M
 header-verdict-spec =

@@ -20,7 +20,7 @@ returns-4 : tie.Need-returns-4
 returns-4 c = λ s a. rw (c .enum-told4 .given .1, eq-eqb a a refl)
 
 returns-5 : tie.Need-returns-5
-returns-5 c = λ s a. rw (c .before .t .given .1) (plain-kind s a (c .before .t .given .0 .0))
+returns-5 c = λ s a. rw (c .before .ty .given .1) (plain-kind s a (c .before .ty .given .0 .0))
 
 returns-6 : tie.Need-returns-6
 returns-6 c = λ s a. rw (c .enum-told5 .given .1)

@@ -38,8 +38,8 @@ returns-6 : tie.Need-returns-6
 returns-6 c =
     let c2 = c .before .before in
     let c5 = c2 .before .before .before in
-    rw (c2 .t .given .1)
-    (c .refused .ensures ∙ nothing-taken (kindOf [] (c2 .t .given .0 .0)) (c5 .args .s .now) (c5 .args .a) (c5 .args .b))
+    rw (c2 .ty .given .1)
+    (c .refused .ensures ∙ nothing-taken (kindOf [] (c2 .ty .given .0 .0)) (c5 .args .s .now) (c5 .args .a) (c5 .args .b))
 
 returns-7 : tie.Need-returns-7
 returns-7 c = rw (c .before .enum-told5 .given .1) (c .words-meant .ensures)

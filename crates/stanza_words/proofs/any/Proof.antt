@@ -12,7 +12,7 @@ returns c =
     let c7 = c5 .before .before in
     c .holds-letter .ensures
     ∙ any-letter (c7 .args .s .now) (c7 .args .a) (c7 .args .b) (c7 .pre .0) (c7 .pre .1) (c5 .if1 .taken)
-    (sym (c3 .is-in .ensures) ∙ c2 .if2 .taken) (c7 .args .t)
+    (sym (c3 .is-in .ensures) ∙ c2 .if2 .taken) (c7 .args .test)
 
 pub any-spec : {M : Type 1} → statement M
 any-spec =

@@ -32,7 +32,7 @@ returns c =
     let c3 = c2 .before in
     let c5 = c3 .before .before in
     sym
-    (any-found _ _ _ _ (c3 .loop .inv .0) (c5 .pre .1) (c2 .skip .ensures) (λ p. holdsOf (c5 .args .t) (qualifier p))
+    (any-found _ _ _ _ (c3 .loop .inv .0) (c5 .pre .1) (c2 .skip .ensures) (λ p. holdsOf (c5 .args .test) (qualifier p))
     (sym (c .before .holds .ensures) ∙ c .if1 .taken))
     ∙ c3 .loop .inv .1
 
@@ -43,7 +43,7 @@ returns-2 c =
     let c4 = c3 .before in
     let c6 = c4 .before .before in
     sym
-    (any-last _ _ _ _ (c4 .loop .inv .0) (c6 .pre .1) (c3 .skip .ensures) (λ p. holdsOf (c6 .args .t) (qualifier p)) (c .if2 .taken)
+    (any-last _ _ _ _ (c4 .loop .inv .0) (c6 .pre .1) (c3 .skip .ensures) (λ p. holdsOf (c6 .args .test) (qualifier p)) (c .if2 .taken)
     (sym (c2 .holds .ensures) ∙ c .before .if1 .left))
     ∙ c4 .loop .inv .1
 
@@ -68,7 +68,7 @@ loop-again c =
     let c4 = c3 .before in
     let c6 = c4 .before .before in (
       omega (arith, within _ _ _ _ (c4 .loop .inv .0) (c6 .pre .1) (c3 .skip .ensures)),
-      any-next _ _ _ _ (c4 .loop .inv .0) (c6 .pre .1) (c3 .skip .ensures) (λ p. holdsOf (c6 .args .t) (qualifier p)) (c .if2 .left)
+      any-next _ _ _ _ (c4 .loop .inv .0) (c6 .pre .1) (c3 .skip .ensures) (λ p. holdsOf (c6 .args .test) (qualifier p)) (c .if2 .left)
           (sym (c2 .holds .ensures) ∙ c .before .if1 .left)
           ∙ c4 .loop .inv .1,
     )

@@ -29,7 +29,7 @@ returns-3 c =
     let c6 = c4 .before .before in
     rw (← c4 .find .ensures, c2 .enum-told2 .given .1)
     (c .holds-long .ensures
-    ∙ long-word (c6 .args .t) (slice (c6 .args .a) (c6 .args .z) (c6 .args .s .now))
+    ∙ long-word (c6 .args .test) (slice (c6 .args .a) (c6 .args .z) (c6 .args .s .now))
     (λ e. c .before .if1 .left (sym (length-slice (c6 .args .a) (c6 .args .z) (c6 .args .s .now) (c6 .pre .1)) ∙ e)))
 
 returns-4 : tie.Need-returns-4
@@ -37,7 +37,7 @@ returns-4 c =
     let c2 = c .before .before in
     let c4 = c2 .before .before in
     let c6 = c4 .before .before in
-    rw (← c4 .find .ensures, c2 .q .given .1) (c .holds-symbol .ensures ∙ any-symbol (c6 .args .t) _ _ _)
+    rw (← c4 .find .ensures, c2 .q .given .1) (c .holds-symbol .ensures ∙ any-symbol (c6 .args .test) _ _ _)
 
 pub holds-spec : {M : Type 1} → statement M
 holds-spec =

@@ -12,7 +12,7 @@ returns c =
 returns-2 : tie.Need-returns-2
 returns-2 c =
     let c3 = c .before .before .before in
-    rw (c3 .t2 .given .1) (ap not (sym (c .if2 .taken) ∙ c .before .takes-letter .ensures))
+    rw (c3 .test2 .given .1) (ap not (sym (c .if2 .taken) ∙ c .before .takes-letter .ensures))
 
 returns-4 : tie.Need-returns-4
 returns-4 c =
@@ -22,10 +22,10 @@ returns-4 c =
 returns-6 : tie.Need-returns-6
 returns-6 c =
     let c3 = c .before .before .before in
-    rw (c3 .t2 .given .1) (ap not (sym (c .if2 .left) ∙ c .before .takes-letter .ensures))
+    rw (c3 .test2 .given .1) (ap not (sym (c .if2 .left) ∙ c .before .takes-letter .ensures))
 
 returns-7 : tie.Need-returns-7
-returns-7 c = simp (c .before .t3 .given .1, and-true)
+returns-7 c = simp (c .before .test3 .given .1, and-true)
 
 pub holds-letter-spec : {M : Type 1} → statement M
 holds-letter-spec =

@@ -6,7 +6,7 @@ use Rattle.stanza_words.proofs.holds_symbol.Tie as tie
 returns-3 : tie.Need-returns-3
 returns-3 c =
     let c3 = c .before .before .before in
-    rw (c .before .t .given .1) (leb-ltb (c .before .t .given .0 .0) (c3 .args .v))
+    rw (c .before .test .given .1) (leb-ltb (c .before .test .given .0 .0) (c3 .args .v))
 
 pub holds-symbol-spec : {M : Type 1} → statement M
 holds-symbol-spec =

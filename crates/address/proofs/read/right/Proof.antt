@@ -33,7 +33,7 @@ side-requires-2 c κs =
       omega (
         arith,
         c3 .put-zeros .ensures .count,
-        length-replicate {A = ℕ} (16 - (c15 .args .g + (c7 .x .given .0 .0 - c15 .args .n))) 0,
+        length-replicate {A = ℕ} (16 - (c15 .args .g + (c7 .x .given .0 .0 - c15 .args .at))) 0,
         c15 .pre .0,
         c15 .pre .1,
         c5 .if1 .left,

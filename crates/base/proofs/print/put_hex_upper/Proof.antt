@@ -16,7 +16,7 @@ returns c =
     let c3 = c .before .before .before in
     let c6 = c3 .before .before .before in
     let c9 = c6 .before .before .before in
-    wrote-text _ _ (hex-all (c9 .args .s .now) (c6 .fitting .result) (c .if1 .taken))
+    wrote-text _ _ (hex-all (c9 .args .xs .now) (c6 .fitting .result) (c .if1 .taken))
     (rw (sub-zero (c6 .fitting .result)) at (c3 .hex-pairs .ensures))
 
 put-hex-octet-requires : tie.Need-put-hex-octet-requires
@@ -24,7 +24,7 @@ put-hex-octet-requires c κs =
     let c5 = c .before .before .before .before .before in
     let c8 = c5 .before .before .before in
     let c11 = c8 .before .before .before in
-    omega (arith, c5 .hex-pairs .ensures .count, hex-count (c11 .args .s .now) (c8 .fitting .result - 0) (omega arith))
+    omega (arith, c5 .hex-pairs .ensures .count, hex-count (c11 .args .xs .now) (c8 .fitting .result - 0) (omega arith))
 
 returns-2 : tie.Need-returns-2
 returns-2 c =
@@ -33,11 +33,11 @@ returns-2 c =
     let c8 = c5 .before .before .before in
     let c11 = c8 .before .before .before in
     let c14 = c11 .before .before .before in
-    let s = c14 .args .s .now in
+    let s = c14 .args .xs .now in
     let k = c11 .fitting .result in
     let w = rw (sub-zero k) at (c8 .hex-pairs .ensures) in
     let v = c2 .put-hex-octet .ensures in
-    let m : c2 .put-hex-octet .result ≡ c14 .args .n + 2 * k + 2 = omega (arith, v .count, w .count, hex-count s k (omega arith)) in
+    let m : c2 .put-hex-octet .result ≡ c14 .args .at + 2 * k + 2 = omega (arith, v .count, w .count, hex-count s k (omega arith)) in
     wrote-text _ _ (hex-parts s k (c5 .if1 .left))
     (wrote-out _ (hexText (drop (k + 1) s)) (wrote-append w v) (omega arith)
     (omega (arith, hex-length (drop (k + 1) s), length-drop (k + 1) s)))

@@ -11,7 +11,7 @@ returns c =
     let c2 = c .before .before in
     let c6 = c2 .before .before .before .before in
     let c10 = c6 .before .before .before .before in
-    base64-missing (c10 .args .t .now) (c10 .args .i) (c10 .args .out .now) (c6 .base64 .last .0) (c10 .args .n) (c2 .v .given .0 .0)
+    base64-missing (c10 .args .t .now) (c10 .args .i) (c10 .args .out .now) (c6 .base64 .last .0) (c10 .args .at) (c2 .v .given .0 .0)
     (rw (c2 .v .given .1) at (c6 .base64 .ensures)) (c .if1 .taken)
 
 returns-2 : tie.Need-returns-2
@@ -25,7 +25,7 @@ returns-3 c =
     let c2 = c .before .before in
     let c6 = c2 .before .before .before .before in
     let c10 = c6 .before .before .before .before in
-    base64-got (c10 .args .t .now) (c10 .args .i) (c10 .args .out .now) (c6 .base64 .last .0) (c10 .args .n) (c2 .v .given .0 .0)
+    base64-got (c10 .args .t .now) (c10 .args .i) (c10 .args .out .now) (c6 .base64 .last .0) (c10 .args .at) (c2 .v .given .0 .0)
     (rw (c2 .v .given .1) at (c6 .base64 .ensures)) (c .if1 .left)
 
 pub base64-rest-spec : {M : Type 1} → statement M

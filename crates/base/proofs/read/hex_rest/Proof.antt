@@ -14,7 +14,7 @@ returns c =
     let c8 = c6 .before .before in
     let c10 = c8 .before .before in
     hex-missing (c10 .args .t .now) (c10 .args .i) (λ k. omega (arith, c8 .shared-slice-known .given k)) (c10 .args .out .now)
-    (c6 .lettered .last .0) (c10 .args .n) (c2 .v .given .0 .0) (rw (c2 .v .given .1) at (c6 .lettered .ensures)) (c .if1 .taken)
+    (c6 .lettered .last .0) (c10 .args .at) (c2 .v .given .0 .0) (rw (c2 .v .given .1) at (c6 .lettered .ensures)) (c .if1 .taken)
 
 returns-2 : tie.Need-returns-2
 returns-2 c =
@@ -31,7 +31,7 @@ returns-3 c =
     let c8 = c6 .before .before in
     let c10 = c8 .before .before in
     hex-got (c10 .args .t .now) (c10 .args .i) (λ k. omega (arith, c8 .shared-slice-known .given k)) (c10 .args .out .now)
-    (c6 .lettered .last .0) (c10 .args .n) (c2 .v .given .0 .0) (rw (c2 .v .given .1) at (c6 .lettered .ensures)) (c .if1 .left)
+    (c6 .lettered .last .0) (c10 .args .at) (c2 .v .given .0 .0) (rw (c2 .v .given .1) at (c6 .lettered .ensures)) (c .if1 .left)
 
 pub hex-rest-spec : {M : Type 1} → statement M
 hex-rest-spec =

@@ -36,7 +36,7 @@ octet-requires c κs =
       omega (
         arith,
         c3 .loop .inv .4 .count,
-        block-length (ltb (c6 .args .start) (c6 .args .n)) (atOctets (c6 .args .v) (c6 .args .e - c6 .args .i)) (c6 .args .p .now)
+        block-length (ltb (c6 .args .start) (c6 .args .at)) (atOctets (c6 .args .v) (c6 .args .e - c6 .args .i)) (c6 .args .p .now)
             (c6 .args .i) (c6 .args .e) (c6 .pre .2),
       ),
       search needs,

@@ -30,7 +30,7 @@ loop-holds c =
     let c2 = c .before .before in (
       search needs,
       search needs,
-      rw (le-ltb (c2 .args .n) (c2 .args .n) (omega arith)) (left-all _ _ _),
+      rw (le-ltb (c2 .args .at) (c2 .args .at) (omega arith)) (left-all _ _ _),
       whole-first _ _ _ (c2 .pre .2) (c2 .pre .4),
     )
 
@@ -100,7 +100,7 @@ loop-again c =
     let b = block-there (c10 .args .p .now) (c7 .loop .j) (c10 .args .e) (c6 .loop-test .taken) (c10 .pre .2) (c7 .loop .inv .3) in (
       omega (arith, c2 .block .ensures .count),
       omega (arith, b),
-      types-left (c10 .args .n) _ _ _ _ (c7 .loop .inv .2)
+      types-left (c10 .args .at) _ _ _ _ (c7 .loop .inv .2)
           (block-types (c10 .args .p .now) (c7 .loop .j) (c10 .args .e) _ refl (b .1) (c10 .pre .2)) (c7 .loop .inv .0)
           (c2 .block .ensures),
       b .2,
@@ -112,7 +112,7 @@ same-length c = search needs
 returns : tie.Need-returns Inv-loop μ-loop
 returns c =
     let c4 = c .before .before .before .before in
-    types-done (ltb (c4 .args .n) (c .before .loop .m)) (c .before .loop .inv .2) (ap types (none _ _ _ (c .loop-test .left)))
+    types-done (ltb (c4 .args .at) (c .before .loop .m)) (c .before .loop .inv .2) (ap types (none _ _ _ (c .loop-test .left)))
 
 pub field-spec : {M : Type 1} → statement M
 field-spec =

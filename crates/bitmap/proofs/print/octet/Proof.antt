@@ -25,7 +25,7 @@ loop-holds c = (
   search needs,
   search needs,
   octet-within (c .before .args .v) (c .before .args .x),
-  octet-left (c .before .args .v) (c .before .args .x) _ _ (ltb (c .before .args .start) (c .before .args .n)) (omega arith),
+  octet-left (c .before .args .v) (c .before .args .x) _ _ (ltb (c .before .args .start) (c .before .args .at)) (omega arith),
 )
 
 put-if-requires : tie.Need-put-if-requires Inv-loop μ-loop
@@ -34,7 +34,7 @@ put-if-requires c κs =
     let c4 = c2 .before .before in
     let h = bit-there (c4 .args .v) (c2 .loop .t) (c2 .loop .y) (c2 .loop .inv .2) (c .before .loop-test .taken) in (
       omega arith,
-      omega (arith, c2 .loop .inv .3 .count, octet-length (ltb (c4 .args .start) (c4 .args .n)) (c4 .args .v) (c4 .args .x)),
+      omega (arith, c2 .loop .inv .3 .count, octet-length (ltb (c4 .args .start) (c4 .args .at)) (c4 .args .v) (c4 .args .x)),
       omega arith,
     )
 

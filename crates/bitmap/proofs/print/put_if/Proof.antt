@@ -8,7 +8,7 @@ use Rattle.bitmap.proofs.print.put_if.Tie as tie
 returns : tie.Need-returns
 returns c =
     let c2 = c .before .before in
-    rw (c .if1 .taken, no-types (ltb (c2 .args .start) (c2 .args .n))) (wrote-none _ _)
+    rw (c .if1 .taken, no-types (ltb (c2 .args .start) (c2 .args .at))) (wrote-none _ _)
 
 returns-2 : tie.Need-returns-2
 returns-2 c =

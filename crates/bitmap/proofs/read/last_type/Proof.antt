@@ -19,7 +19,7 @@ type-of-requires c κs =
       omega (
         arith,
         c2 .skip .ensures,
-        front-within digit (c5 .args .t .now) (c5 .args .a + 4) (length (c5 .args .t .now)) (omega arith) (omega arith),
+        front-within digit (c5 .args .t .now) (c5 .args .i + 4) (length (c5 .args .t .now)) (omega arith) (omega arith),
       ),
     )
 
@@ -31,9 +31,9 @@ returns-2 c =
     let t = c6 .args .t .now in
     let e = c3 .skip .result in
     rw (c .type-of .ensures)
-    (found-plain t (c6 .args .a) e (omega (arith, c3 .skip .ensures))
-    (omega (arith, c3 .skip .ensures, front-within digit t (c6 .args .a + 4) (length t) (omega arith) (omega arith)))
-    (sym (c2 .parted-at .ensures) ∙ c .before .if2 .taken) (typeNumber (slice (c6 .args .a) e t)) refl)
+    (found-plain t (c6 .args .i) e (omega (arith, c3 .skip .ensures))
+    (omega (arith, c3 .skip .ensures, front-within digit t (c6 .args .i + 4) (length t) (omega arith) (omega arith)))
+    (sym (c2 .parted-at .ensures) ∙ c .before .if2 .taken) (typeNumber (slice (c6 .args .i) e t)) refl)
 
 pub last-type-spec : {M : Type 1} → statement M
 last-type-spec =

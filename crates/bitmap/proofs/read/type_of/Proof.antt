@@ -10,14 +10,14 @@ returns : tie.Need-returns
 returns c =
     let c3 = c .before .before .before in
     let c5 = c3 .before .before in
-    found-value (c5 .args .e) _ (typeNumber (slice (c5 .args .a) (c5 .args .e) (c5 .args .t .now)))
+    found-value (c5 .args .e) _ (typeNumber (slice (c5 .args .i) (c5 .args .e) (c5 .args .t .now)))
     (sym (c .before .q .given .1) ∙ c3 .number .ensures)
 
 returns-2 : tie.Need-returns-2
 returns-2 c =
     let c2 = c .before .before in
     let c4 = c2 .before .before in
-    found-fault (c4 .args .e) (typeNumber (slice (c4 .args .a) (c4 .args .e) (c4 .args .t .now)))
+    found-fault (c4 .args .e) (typeNumber (slice (c4 .args .i) (c4 .args .e) (c4 .args .t .now)))
     (sym (c .enum-told .given .1) ∙ c2 .number .ensures)
 
 pub type-of-spec : {M : Type 1} → statement M

@@ -8,26 +8,30 @@ use Rattle.entry_read.proofs.room.read_again.Reads as reads
 use Rattle.entry_read.proofs.room.read_again.Lts as lts
 use Rattle.buffer.proofs.least.Reads as least-reads
 use Rattle.run_read.proofs.read_run.Reads as read-run-reads
+use Rattle.entry.proofs.refused.Reads as refused-reads
+use Rattle.entry.proofs.accepted.Reads as accepted-reads
 
-cast-t19 : tie.Need-cast-t19
-cast-t19 c =
+cast-accepted : tie.Need-cast-accepted
+cast-accepted c =
     let c5 = c .before .before .before .before .before in
     let c12 = c5 .before .before .before .before .before .before .before in
     omega (arith, again-wrote (c12 .pre .3) _ _ _ (c5 .read-run .ensures) _ (c .before .r2 .given .1) .count, c12 .pre .3 .short)
 
 returns : tie.Need-returns
 returns c =
-    let c5 = c .before .before .before .before .before in
-    let c12 = c5 .before .before .before .before .before .before .before in
-    absurd (again-done (c12 .pre .3) _ _ _ (c5 .read-run .ensures) _ _ (c .before .r .given .1))
+    let c2 = c .before .before in
+    let c6 = c2 .before .before .before .before in
+    let c13 = c6 .before .before .before .before .before .before .before in
+    absurd (again-done (c13 .pre .3) _ _ _ (c6 .read-run .ensures) _ _ (c2 .r .given .1))
 
 returns-2 : tie.Need-returns-2
 returns-2 c =
-    let c5 = c .before .before .before .before .before in
-    let c7 = c5 .before .before in
-    let c12 = c7 .before .before .before .before .before in
-    again-leaves _ _ (c12 .args .at) _ _ _ (c12 .pre .3) (c7 .least .ensures)
-    (again-wrote (c12 .pre .3) _ _ _ (c5 .read-run .ensures) _ (c .before .r2 .given .1)) refl refl
+    let c2 = c .before .before in
+    let c6 = c2 .before .before .before .before in
+    let c8 = c6 .before .before in
+    let c13 = c8 .before .before .before .before .before in
+    again-leaves _ _ (c13 .args .at) _ _ _ (c13 .pre .3) (c8 .least .ensures)
+    (again-wrote (c13 .pre .3) _ _ _ (c6 .read-run .ensures) _ (c2 .r2 .given .1)) (c .accepted .ensures .0) (c .accepted .ensures .1)
 
 pub read-again-spec : {M : Type 1} → statement M
 read-again-spec =
@@ -39,8 +43,10 @@ read-again-spec =
     (λ c. search needs)
     (λ c κs. search needs)
     (λ c. search needs)
+    (λ c κs. search needs)
     (λ c. search needs)
-    cast-t19
+    cast-accepted
+    (λ c κs. search needs)
     (λ c. search needs)
     returns
     (λ c. search needs)

@@ -12,6 +12,8 @@ use native.Mathlib.Omega.{arith}
 use borrow.Author.Needs.{needs}
 use Rattle.entry_read.proofs.room.read_through.Statement.{statement}
 use Rattle.entry_read.proofs.room.read_through.Tie as tie
+use Rattle.entry.proofs.refused.Reads as refused-reads
+use Rattle.entry.proofs.accepted.Reads as accepted-reads
 
 returns : tie.Need-returns
 returns c =
@@ -61,18 +63,19 @@ returns-4 c =
 
 returns-5 : tie.Need-returns-5
 returns-5 c =
-    let c2 = c .before .before in
-    let c6 = c2 .before .before .before .before in
-    let c7 = c6 .before in
+    let c3 = c .before .before .before in
+    let c7 = c3 .before .before .before .before in
     let c8 = c7 .before in
     let c9 = c8 .before in
-    let c11 = c9 .before .before in
-    let c15 = c11 .before .before .before .before in
-    let c22 = c15 .before .before .before .before .before .before .before in
-    copied-leaves (kindsFrom (c22 .args .s .now) (fieldsOf (c22 .args .codes .now)) (c22 .args .first) (c22 .args .many))
-    (c22 .args .origin .now) (c22 .args .t .now) (c22 .args .out .now) (c22 .args .at) _ _ _ (c15 .read-run .ensures) _
-    (c11 .r2 .given .1) (omega (arith, c9 .if1 .left)) _ _ _ _ _ refl (c8 .least .ensures)
-    (omega (arith, c7 .if2 .left, c8 .least .ensures)) (omega (arith, c6 .if3 .left)) (c2 .put-all .ensures) refl refl
+    let c10 = c9 .before in
+    let c12 = c10 .before .before in
+    let c16 = c12 .before .before .before .before in
+    let c23 = c16 .before .before .before .before .before .before .before in
+    copied-leaves (kindsFrom (c23 .args .s .now) (fieldsOf (c23 .args .codes .now)) (c23 .args .first) (c23 .args .many))
+    (c23 .args .origin .now) (c23 .args .t .now) (c23 .args .out .now) (c23 .args .at) _ _ _ (c16 .read-run .ensures) _
+    (c12 .r2 .given .1) (omega (arith, c10 .if1 .left)) _ _ _ _ _ refl (c9 .least .ensures)
+    (omega (arith, c8 .if2 .left, c9 .least .ensures)) (omega (arith, c7 .if3 .left)) (c3 .put-all .ensures) (c .accepted .ensures .0)
+    (c .accepted .ensures .1)
 
 pub read-through-spec : {M : Type 1} → statement M
 read-through-spec =
@@ -103,6 +106,7 @@ read-through-spec =
     (λ c. search needs)
     (λ c κs. search needs)
     (λ c. search needs)
+    (λ c κs. search needs)
     (λ c. search needs)
     returns-4
     (λ c. search needs)

@@ -18,7 +18,7 @@ returns c =
     let c5 = c4 .before in
     let c9 = c5 .before .before .before .before in (
       _,
-      reads-origin (c9 .args .origin .now) (slice (c9 .args .a) (c9 .args .e) (c9 .args .t .now)) (c5 .sole-octet .result)
+      reads-origin (c9 .args .origin .now) (slice (c9 .args .i) (c9 .args .e) (c9 .args .t .now)) (c5 .sole-octet .result)
           (c5 .sole-octet .ensures) (c4 .if1 .taken),
       c2 .put-all .ensures,
     )
@@ -30,7 +30,7 @@ returns-2 c =
     let c6 = c4 .before .before in
     let c10 = c6 .before .before .before .before in (
       _,
-      reads-root (c10 .args .origin .now) (slice (c10 .args .a) (c10 .args .e) (c10 .args .t .now)) (c6 .sole-octet .result)
+      reads-root (c10 .args .origin .now) (slice (c10 .args .i) (c10 .args .e) (c10 .args .t .now)) (c6 .sole-octet .result)
           (c6 .sole-octet .ensures) (c4 .if2 .taken),
       c2 .put-octet .ensures,
     )
@@ -47,7 +47,7 @@ returns-3 c =
     let c5 = c4 .before in
     let c6 = c5 .before in
     let c10 = c6 .before .before .before .before in
-    reads-labels (c10 .args .origin .now) (slice (c10 .args .a) (c10 .args .e) (c10 .args .t .now)) (c6 .sole-octet .result)
+    reads-labels (c10 .args .origin .now) (slice (c10 .args .i) (c10 .args .e) (c10 .args .t .now)) (c6 .sole-octet .result)
     (c6 .sole-octet .ensures) _ _ _ (c2 .labels .result) (c5 .if1 .left) (c4 .if2 .left) (c2 .labels .ensures)
 
 pub name-spec : {M : Type 1} → statement M

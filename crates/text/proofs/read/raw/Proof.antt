@@ -11,8 +11,8 @@ returns c =
     let c2 = c .before .before in
     let c6 = c2 .before .before .before .before in
     let c10 = c6 .before .before .before .before in
-    empty-fault (c10 .args .out .now) (c6 .value .last .0) (c10 .args .n) (c2 .v .given .0 .0)
-    (stringValue (tokenOf (c10 .args .quoted) (slice (c10 .args .a) (c10 .args .e) (c10 .args .t .now))))
+    empty-fault (c10 .args .out .now) (c6 .value .last .0) (c10 .args .at) (c2 .v .given .0 .0)
+    (stringValue (tokenOf (c10 .args .quoted) (slice (c10 .args .i) (c10 .args .e) (c10 .args .t .now))))
     (rw (c2 .v .given .1) at (c6 .value .ensures)) (c .if1 .taken)
 
 returns-2 : tie.Need-returns-2
@@ -25,8 +25,8 @@ returns-3 c =
     let c2 = c .before .before in
     let c6 = c2 .before .before .before .before in
     let c10 = c6 .before .before .before .before in
-    raw-value (c10 .args .out .now) (c6 .value .last .0) (c10 .args .n) (c2 .v .given .0 .0)
-    (stringValue (tokenOf (c10 .args .quoted) (slice (c10 .args .a) (c10 .args .e) (c10 .args .t .now))))
+    raw-value (c10 .args .out .now) (c6 .value .last .0) (c10 .args .at) (c2 .v .given .0 .0)
+    (stringValue (tokenOf (c10 .args .quoted) (slice (c10 .args .i) (c10 .args .e) (c10 .args .t .now))))
     (rw (c2 .v .given .1) at (c6 .value .ensures)) (c .if1 .left)
 
 pub raw-spec : {M : Type 1} → statement M

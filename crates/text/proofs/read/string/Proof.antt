@@ -13,8 +13,8 @@ sub-count c =
     let c9 = c5 .before .before .before .before in
     omega (
       arith,
-      count-is 0 (c9 .args .out .now) (c5 .value .last .0) (c9 .args .n) (c .before .v .given .0 .0)
-          (stringValue (tokenOf (c9 .args .quoted) (slice (c9 .args .a) (c9 .args .e) (c9 .args .t .now))))
+      count-is 0 (c9 .args .out .now) (c5 .value .last .0) (c9 .args .at) (c .before .v .given .0 .0)
+          (stringValue (tokenOf (c9 .args .quoted) (slice (c9 .args .i) (c9 .args .e) (c9 .args .t .now))))
           (rw (c .before .v .given .1) at (c5 .value .ensures)),
     )
 
@@ -23,8 +23,8 @@ returns c =
     let c2 = c .before .before in
     let c6 = c2 .before .before .before .before in
     let c10 = c6 .before .before .before .before in
-    too-long 0 (c10 .args .out .now) (c6 .value .last .0) (c10 .args .n) (c2 .v .given .0 .0)
-    (stringValue (tokenOf (c10 .args .quoted) (slice (c10 .args .a) (c10 .args .e) (c10 .args .t .now))))
+    too-long 0 (c10 .args .out .now) (c6 .value .last .0) (c10 .args .at) (c2 .v .given .0 .0)
+    (stringValue (tokenOf (c10 .args .quoted) (slice (c10 .args .i) (c10 .args .e) (c10 .args .t .now))))
     (rw (c2 .v .given .1) at (c6 .value .ensures)) (omega arith) (omega arith)
 
 returns-2 : tie.Need-returns-2
@@ -38,8 +38,8 @@ returns-3 c =
     let c6 = c2 .before .before .before .before in
     let c10 = c6 .before .before .before .before in
     let c14 = c10 .before .before .before .before in
-    counted-value 0 (c14 .args .out .now) (c10 .value .last .0) (c14 .args .n) (c6 .v .given .0 .0)
-    (stringValue (tokenOf (c14 .args .quoted) (slice (c14 .args .a) (c14 .args .e) (c14 .args .t .now))))
+    counted-value 0 (c14 .args .out .now) (c10 .value .last .0) (c14 .args .at) (c6 .v .given .0 .0)
+    (stringValue (tokenOf (c14 .args .quoted) (slice (c14 .args .i) (c14 .args .e) (c14 .args .t .now))))
     (rw (c6 .v .given .1) at (c10 .value .ensures)) _ (omega arith) (omega arith) (c2 .put .ensures)
 
 pub string-spec : {M : Type 1} → statement M

@@ -11,7 +11,7 @@ add-m c =
     let c6 = c2 .before .before .before .before in
     omega (
       arith,
-      run-within (c6 .args .t .now) (c6 .args .a) (c6 .args .e) (c2 .copy-plain .result) (c6 .pre .1) (c6 .pre .2)
+      run-within (c6 .args .t .now) (c6 .args .i) (c6 .args .e) (c2 .copy-plain .result) (c6 .pre .1) (c6 .pre .2)
           (c2 .copy-plain .ensures .0),
     )
 
@@ -30,7 +30,7 @@ escaped-requires c κs =
     let c9 = c5 .before .before .before .before in (
       omega (
         arith,
-        run-within (c9 .args .t .now) (c9 .args .a) (c9 .args .e) (c5 .copy-plain .result) (c9 .pre .1) (c9 .pre .2)
+        run-within (c9 .args .t .now) (c9 .args .i) (c9 .args .e) (c5 .copy-plain .result) (c9 .pre .1) (c9 .pre .2)
             (c5 .copy-plain .ensures .0),
       ),
       search needs,

@@ -2,8 +2,8 @@ use mathlib.Core.Path.{sym, _∙_}
 use Rattle.format.specs.Octets.{alphanumeric}
 use Rattle.stanza_grammar.proofs.Laws.{typed, untyped, cut-within}
 use borrow.Author.Needs.{needs}
-use Rattle.stanza_grammar.proofs.field_shape.Statement.{statement}
-use Rattle.stanza_grammar.proofs.field_shape.Tie as tie
+use Rattle.stanza_grammar.proofs.field_line.Statement.{statement}
+use Rattle.stanza_grammar.proofs.field_line.Tie as tie
 
 after-type-requires : tie.Need-after-type-requires
 after-type-requires c κs =
@@ -29,7 +29,7 @@ returns-2 c =
     let c3 = c .before .before .before in
     (untyped (c3 .args .s .now) (c3 .args .at) (c3 .args .end) (sym (c .before .starts-with-letter .ensures) ∙ c .if1 .left), tt)
 
-pub field-shape-spec : {M : Type 1} → statement M
-field-shape-spec =
+pub field-line-spec : {M : Type 1} → statement M
+field-line-spec =
     tie.close
     (tie.spec (λ c κs. search needs) (λ c κs. search needs) after-type-requires returns returns-2)
