@@ -4,9 +4,9 @@
  * Link with libextlang.a, which `rt staticlib extlang` writes to target/staticlib.
  *
  * A function takes a part of memory as a pointer and a count of octets. The
- * pointer is never null, even where the count is 0, and nothing else may write
- * those octets while the function runs. No function keeps a pointer, allocates,
- * or changes anything but what it says; each always returns.
+ * pointer is never null, even if the count is 0, and nothing else may write those
+ * octets while the function runs. No function keeps a pointer, allocates, or
+ * changes anything but what it says; each always returns.
  */
 #ifndef EXTLANG_H
 #define EXTLANG_H
@@ -21,9 +21,9 @@ extern "C" {
 /*
  * Answers. Every function answers with 64 bits in two halves.
  *
- * The upper 32 bits are the number: 0 where the request is accepted, else the
- * number of its refusal. The lower 32 bits are the place of that refusal, or,
- * where the number is 0, a count; what they count is said at each function.
+ * The upper 32 bits are the number: 0 if the request is accepted, else the number
+ * of its refusal. The lower 32 bits are the place of that refusal or, if the
+ * number is 0, a count; each function says what it counts.
  */
 static inline uint32_t extlang_number(uint64_t answer)
 {
@@ -53,12 +53,12 @@ static inline uint32_t extlang_place(uint64_t answer)
 uint64_t extlang_judge(const uint8_t *stanza, size_t stanza_len);
 
 /*
- * Prints RDATA as text under a run of a description's fields: `length` of them,
- * from number `first` on, counted from 1. A length of 0 is an empty run, which
+ * Prints RDATA as text under a run of a description's fields: `length` fields,
+ * starting at field `first`, counted from 1. A length of 0 is an empty run, which
  * takes no octets. Any octets may be handed in as the stanza and the RDATA.
  *
- * The text goes to out from the octet `at` on, counted from 0. Its room is what
- * out has from there: none, where that place is past the end. Out must not
+ * The text goes to out, starting at octet `at`, counted from 0. Its room is what
+ * out has from there: none, if that place is past the end. Out must not
  * overlap the stanza or the RDATA, and may hold anything.
  *
  * Number 0: done; the lower half counts the text's octets, at most 1,048,576.
@@ -77,7 +77,7 @@ uint64_t extlang_judge(const uint8_t *stanza, size_t stanza_len);
  *           that it needs.
  *
  * At 8 and 9 the place is the number of the field in the run, counted from 1.
- * Where the number is not 0, no octet of out has changed.
+ * If the number is not 0, no octet of out has changed.
  */
 uint64_t extlang_print(const uint8_t *stanza, size_t stanza_len,
                        uint64_t first, uint64_t length,
@@ -86,13 +86,13 @@ uint64_t extlang_print(const uint8_t *stanza, size_t stanza_len,
 
 /*
  * Reads master-file text as RDATA under a run of a description's fields: `length`
- * of them, from number `first` on, counted from 1. The origin is a name in wire
- * form; it is put after names of the text that lack their final dot, and stands
- * where the text has @. Any octets may be handed in as the stanza, the origin and
+ * fields, starting at field `first`, counted from 1. The origin is a name in wire
+ * form; it is appended to names of the text that lack their final dot, and stands
+ * for @ in the text. Any octets may be handed in as the stanza, the origin and
  * the text.
  *
- * The RDATA goes to out from the octet `at` on, counted from 0. Its room is what
- * out has from there: none, where that place is past the end. Out must not
+ * The RDATA goes to out, starting at octet `at`, counted from 0. Its room is what
+ * out has from there: none, if that place is past the end. Out must not
  * overlap the stanza, the origin or the text, and may hold anything.
  *
  * Number 0: done; the lower half counts the RDATA's octets, at most 65,535. No
@@ -113,7 +113,7 @@ uint64_t extlang_print(const uint8_t *stanza, size_t stanza_len,
  *           that it needs.
  *
  * At 8 and 9 the place is the number of the field in the run, counted from 1.
- * Where the number is not 0, no octet of out has changed.
+ * If the number is not 0, no octet of out has changed.
  */
 uint64_t extlang_read(const uint8_t *stanza, size_t stanza_len,
                       uint64_t first, uint64_t length,

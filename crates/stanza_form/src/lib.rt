@@ -1,5 +1,5 @@
-// The forms of fields: the kinds of document 01 without their symbols. What is said of each form stands here: its shape on the wire,
-// its number in a code, and the word of its type.
+// The forms of fields: the kinds of document 01 without their symbols. This room says what is true of each form: how it lies on
+// the wire, its number in a code, and the word of its type.
 ghost use Prim.Native.Nat.{_+_, _*_, _≤_};
 ghost use lib.ListN.{length};
 ghost use lib.Seq.{slice};
@@ -10,8 +10,8 @@ ghost use Rattle.format.specs.Types.{typeRows, takesOf};
 ghost use Rattle.stanza_form.specs.Forms.{optionalIn, shapeOf, parameterOf, tailOf, formNumber, heldBy, formAt, takenBy, longer};
 ghost use Rattle.stanza_form.specs.Code.{fieldWith, fieldAt};
 
-// A form of field. First those that hold an octet: how many octets an integer or an EUI has; the marks C, A, L, O of a name, as
-// 1, 2, 4, 8. The tails are last.
+// A form of field. The first three hold an octet: the number of octets of an integer or an EUI, or the marks C, A, L, O of a
+// name as 1, 2, 4, 8. The tails come last. In this order one comparison tells either group.
 pub enum Form {
     Int(u8),
     Eui(u8),
@@ -31,7 +31,7 @@ pub enum Form {
     Hex,
 }
 
-// A field of a description: its form, and where its qualifiers and, as the judge finds it, its free text lie.
+// A field of a description: its form, where its qualifiers lie, and, while the stanza is judged, where its free text lies.
 pub struct FieldDesc {
     pub form: Form,
     pub qualifiers_at: u16,
@@ -40,8 +40,8 @@ pub struct FieldDesc {
     pub text_end: u16,
 }
 
-// How a form lies on the wire: so many octets; the labels of a name; a count and its octets; counted strings to the end; octets to
-// the end; the windows of a bitmap.
+// The shapes on the wire: a fixed number of octets; the labels of a name; a count and its octets; counted strings to the end;
+// octets to the end; the windows of a bitmap.
 pub enum Shape {
     Octets,
     Labels,
@@ -58,13 +58,13 @@ pub fn is_optional(marks: u8) -> bool
     8 <= marks
 }
 
-// The shape of a form, and what it has beside it: how many octets, the least count, or the marks of a name.
+// The layout of a form: its shape, and the number of octets, the least count, or the marks of a name.
 pub struct Layout {
     pub shape: Shape,
     pub parameter: u8,
 }
 
-// A layout.
+// Makes a layout.
 fn laid(shape: Shape, parameter: u8) -> Layout
     ensures { λ r. ⌜ (r .shape ≡ shape) × (r .parameter ≡ parameter) ⌝ }
 {
@@ -74,7 +74,7 @@ fn laid(shape: Shape, parameter: u8) -> Layout
     }
 }
 
-// How a form lies on the wire.
+// The layout of a form.
 pub fn layout_of(f: Form) -> Layout
     ensures { λ r. ⌜ (r .shape ≡ shapeOf f) × (r .parameter ≡ parameterOf f) ⌝ }
 {
@@ -98,7 +98,7 @@ pub fn layout_of(f: Form) -> Layout
     }
 }
 
-// Whether a form is a tail: its shape ends where the octets do.
+// Whether a form is a tail: its shape ends only where the octets end.
 pub fn is_tail(f: Form) -> bool
     ensures { λ r. ⌜ r ≡ tailOf (shapeOf f) (parameterOf f) ⌝ }
 {
@@ -138,7 +138,7 @@ fn number_of(f: Form) -> u8
     }
 }
 
-// What a form holds, or 0.
+// The octet that a form holds, or 0.
 fn held_by(f: Form) -> u8
     ensures { λ r. ⌜ r ≡ heldBy f ⌝ }
 {
@@ -162,7 +162,7 @@ fn held_by(f: Form) -> u8
     }
 }
 
-// The form of a number and a parameter.
+// The form with the number n, which holds `held`.
 fn form_at(n: u8, held: u8) -> Form
     ensures { λ r. ⌜ r ≡ formAt n held ⌝ }
 {
@@ -186,7 +186,7 @@ fn form_at(n: u8, held: u8) -> Form
     }
 }
 
-// The parts of a code, put together: a field in 64 bits, so that an array of fields is one of numbers, which can be lent.
+// A code, from its parts: a field in 64 bits, so that an array of fields is an array of numbers, which can be lent.
 fn together(n: u8, held: u8, at: u16, end: u16) -> u64
     ensures { λ r. ⌜ fieldAt r ≡ fieldWith (formAt n held) at end ⌝ }
 {
@@ -196,7 +196,7 @@ fn together(n: u8, held: u8, at: u16, end: u16) -> u64
     form + from + to
 }
 
-// The code of a field of a form with the qualifiers from at to end.
+// The code of a field of the given form with the qualifiers from `at` to `end`.
 pub fn code(form: Form, at: u16, end: u16) -> u64
     ensures { λ r. ⌜ fieldAt r ≡ fieldWith form at end ⌝ }
 {
@@ -205,7 +205,7 @@ pub fn code(form: Form, at: u16, end: u16) -> u64
     together(n, held, at, end)
 }
 
-// The field of a code.
+// The field that a code stands for.
 pub fn field(c: u64) -> FieldDesc
     ensures { λ r. ⌜ r ≡ fieldAt c ⌝ }
 {
@@ -218,7 +218,7 @@ pub fn field(c: u64) -> FieldDesc
     }
 }
 
-// A type: unknown; an integer, which takes symbols; one that takes no qualifier; or R, N, S, X.
+// A field type: unknown; an integer, which takes symbols; one that takes no qualifier; or R, N, S, X.
 pub enum FieldType {
     NoType,
     Int1,
@@ -250,7 +250,7 @@ fn is_word(s: &[u8], a: usize, e: usize, w: &[u8]) -> bool
     false
 }
 
-// The type from a to e. Those of one letter are told at once.
+// The type from a to e. Types of one letter are recognized directly.
 pub fn type_of(s: &[u8], a: usize, e: usize) -> FieldType
     requires { ⌜ (a ≤ e) × (e ≤ length (now s)) ⌝ }
     ensures { λ r. ⌜ takenBy r ≡ takesOf typeRows (slice a e (now (s .entry))) ⌝ }
@@ -286,7 +286,7 @@ fn letter_type(x: u8) -> FieldType
     FieldType::NoType
 }
 
-// The type from a to e among those of more than one letter.
+// The type from a to e, among the types of more than one letter.
 fn word_type(s: &[u8], a: usize, e: usize) -> FieldType
     requires { ⌜ (a ≤ e) × (e ≤ length (now s)) ⌝ }
     ensures { λ r. ⌜ takenBy r ≡ takesOf (longer typeRows) (slice a e (now (s .entry))) ⌝ }

@@ -83,14 +83,14 @@ tail-snoc (g ∷ fs) f = by (tail (g .kind)) (tail-snoc fs f)
 abbrev soFar : List ℕ → HeaderDesc → List FieldDesc → List ℕ → List ℕ → ℕ → Description
 soFar s h fs names ends n = record { header = headerOf s h; fields = fieldsFrom s fs names ends 0 n }
 
-pub record Kept (s : List ℕ) (h : HeaderDesc) (fs : List FieldDesc) (names ends : List ℕ) (n : ℕ) (have last : Bool) (at line : ℕ) : Type 0 where
-  pub none-yet : have ≡ false → n ≡ 0
-  pub tails : afterTail (fieldsFrom s fs names ends 0 n) ≡ last
+pub record Kept (s : List ℕ) (h : HeaderDesc) (fs : List FieldDesc) (names ends : List ℕ) (n : ℕ) (headerSeen tailSeen : Bool) (at line : ℕ) : Type 0 where
+  pub none-yet : headerSeen ≡ false → n ≡ 0
+  pub tails : afterTail (fieldsFrom s fs names ends 0 n) ≡ tailSeen
   pub placed : AllPlaced s fs n
-  pub left : judgedFrom line (progressOf have (soFar s h fs names ends n)) (linesFrom s at) ≡ judgedFrom 1 beforeHeader (lines s)
+  pub left : judgedFrom line (progressOf headerSeen (soFar s h fs names ends n)) (linesFrom s at) ≡ judgedFrom 1 beforeHeader (lines s)
 
-stands : {s : List ℕ} {h : HeaderDesc} {fs : List FieldDesc} {names ends : List ℕ} {n : ℕ} {have last : Bool} {at line : ℕ}
-    → Kept s h fs names ends n have last at line → Stands s (soFar s h fs names ends n) last names ends n
+stands : {s : List ℕ} {h : HeaderDesc} {fs : List FieldDesc} {names ends : List ℕ} {n : ℕ} {headerSeen tailSeen : Bool} {at line : ℕ}
+    → Kept s h fs names ends n headerSeen tailSeen at line → Stands s (soFar s h fs names ends n) tailSeen names ends n
 stands {s} {h} {fs} {names} {ends} {n} k = record { many = fields-many s fs names ends 0 n; tails = k .tails; named = λ f a e p. fields-named s fs names ends 0 n f a e p }
 
 -- the first line of those that are left
@@ -154,36 +154,36 @@ fault-number n p l e = by (lineVerdict p l) (line-numbered p l) e
 kept-start : (s : List ℕ) (h : HeaderDesc) (fs : List FieldDesc) (names ends : List ℕ) → Kept s h fs names ends 0 false false 0 1
 kept-start s h fs names ends = record { none-yet = λ q. refl; tails = refl; placed = λ k q. absurd (omega arith); left = refl }
 
-module _ {s : List ℕ} {h : HeaderDesc} {fs : List FieldDesc} {names ends : List ℕ} {n : ℕ} {have last : Bool} {at line : ℕ} (k : Kept s h fs names ends n have last at line) (l : at < length s) where
-  kept-skip : goesOn (progressOf have (soFar s h fs names ends n)) ≡ lineVerdict (progressOf have (soFar s h fs names ends n)) (partIn s at (lineEnd s at)) → Kept s h fs names ends n have last (lineEnd s at + 1) (line + 1)
+module _ {s : List ℕ} {h : HeaderDesc} {fs : List FieldDesc} {names ends : List ℕ} {n : ℕ} {headerSeen tailSeen : Bool} {at line : ℕ} (k : Kept s h fs names ends n headerSeen tailSeen at line) (l : at < length s) where
+  kept-skip : goesOn (progressOf headerSeen (soFar s h fs names ends n)) ≡ lineVerdict (progressOf headerSeen (soFar s h fs names ends n)) (partIn s at (lineEnd s at)) → Kept s h fs names ends n headerSeen tailSeen (lineEnd s at + 1) (line + 1)
   kept-skip e = record {
     none-yet = k .none-yet;
     tails = k .tails;
     placed = k .placed;
-    left = after-step s (progressOf have (soFar s h fs names ends n)) at line l Skip (progressOf have (soFar s h fs names ends n)) e refl ∙ k .left;
+    left = after-step s (progressOf headerSeen (soFar s h fs names ends n)) at line l Skip (progressOf headerSeen (soFar s h fs names ends n)) e refl ∙ k .left;
   }
 
-  kept-head : (x : HeaderDesc) → have ≡ false → stepOf s (progressOf have (soFar s h fs names ends n)) (Head x) ≡ lineVerdict (progressOf have (soFar s h fs names ends n)) (partIn s at (lineEnd s at))
-      → Kept s x fs names ends n true last (lineEnd s at + 1) (line + 1)
+  kept-head : (x : HeaderDesc) → headerSeen ≡ false → stepOf s (progressOf headerSeen (soFar s h fs names ends n)) (Head x) ≡ lineVerdict (progressOf headerSeen (soFar s h fs names ends n)) (partIn s at (lineEnd s at))
+      → Kept s x fs names ends n true tailSeen (lineEnd s at + 1) (line + 1)
   kept-head x q e = record {
     none-yet = λ z. absurd (true≢false z);
     tails = k .tails;
     placed = k .placed;
-    left = rw none-so-far (after-step s (progressOf have (soFar s h fs names ends n)) at line l (Head x) (afterHeader (record { header = headerOf s x; fields = [] })) e refl ∙ k .left);
+    left = rw none-so-far (after-step s (progressOf headerSeen (soFar s h fs names ends n)) at line l (Head x) (afterHeader (record { header = headerOf s x; fields = [] })) e refl ∙ k .left);
   }
     where
       none-so-far : fieldsFrom s fs names ends 0 n ≡ []
       none-so-far = rw (k .none-yet q)
 
-  kept-add : (f : NewField) (b : Bool) → n < length fs → n < length names → n < length ends → have ≡ true → Placed s (f .field) → b ≡ last || tail (kindIn s (f .field .«qualifiers_at») (f .field .«qualifiers_end») (f .field .form))
-      → stepOf s (progressOf have (soFar s h fs names ends n)) (Add f) ≡ lineVerdict (progressOf have (soFar s h fs names ends n)) (partIn s at (lineEnd s at))
-      → Kept s h (set fs n (f .field)) (set names n (f .«name_at»)) (set ends n (f .«name_end»)) (n + 1) have b (lineEnd s at + 1) (line + 1)
+  kept-add : (f : NewField) (b : Bool) → n < length fs → n < length names → n < length ends → headerSeen ≡ true → Placed s (f .field) → b ≡ tailSeen || tail (kindIn s (f .field .«qualifiers_at») (f .field .«qualifiers_end») (f .field .form))
+      → stepOf s (progressOf headerSeen (soFar s h fs names ends n)) (Add f) ≡ lineVerdict (progressOf headerSeen (soFar s h fs names ends n)) (partIn s at (lineEnd s at))
+      → Kept s h (set fs n (f .field)) (set names n (f .«name_at»)) (set ends n (f .«name_end»)) (n + 1) headerSeen b (lineEnd s at + 1) (line + 1)
   kept-add f b x y z q g t e = record {
     none-yet = λ c. absurd (true≢false (sym q ∙ c));
     tails = ap afterTail more ∙ tail-snoc (fieldsFrom s fs names ends 0 n) new ∙ ap (λ c. c || tail (new .kind)) (k .tails) ∙ sym t;
     placed = more-placed s fs n (f .field) x (k .placed) g;
-    left = ap (λ gs. judgedFrom (line + 1) (progressOf have (record { header = headerOf s h; fields = gs })) (linesFrom s (lineEnd s at + 1))) more
-        ∙ after-step s (progressOf have (soFar s h fs names ends n)) at line l (Add f) (progressOf have (record { header = headerOf s h; fields = fieldsFrom s fs names ends 0 n ++ new ∷ [] })) e added ∙ k .left;
+    left = ap (λ gs. judgedFrom (line + 1) (progressOf headerSeen (record { header = headerOf s h; fields = gs })) (linesFrom s (lineEnd s at + 1))) more
+        ∙ after-step s (progressOf headerSeen (soFar s h fs names ends n)) at line l (Add f) (progressOf headerSeen (record { header = headerOf s h; fields = fieldsFrom s fs names ends 0 n ++ new ∷ [] })) e added ∙ k .left;
   }
     where
       new : Field
@@ -192,29 +192,29 @@ module _ {s : List ℕ} {h : HeaderDesc} {fs : List FieldDesc} {names ends : Lis
       more : fieldsFrom s (set fs n (f .field)) (set names n (f .«name_at»)) (set ends n (f .«name_end»)) 0 (n + 1) ≡ fieldsFrom s fs names ends 0 n ++ new ∷ []
       more = one-field-more s fs names ends n (f .field) (f .«name_at») (f .«name_end») x y z
 
-      added : stepOf s (progressOf have (soFar s h fs names ends n)) (Add f) ≡ goesOn (progressOf have (record { header = headerOf s h; fields = fieldsFrom s fs names ends 0 n ++ new ∷ [] }))
+      added : stepOf s (progressOf headerSeen (soFar s h fs names ends n)) (Add f) ≡ goesOn (progressOf headerSeen (record { header = headerOf s h; fields = fieldsFrom s fs names ends 0 n ++ new ∷ [] }))
       added = rw q
 
-  kept-refused : (m : ℕ) → faulty m ≡ lineVerdict (progressOf have (soFar s h fs names ends n)) (partIn s at (lineEnd s at)) → rejected m line ≡ judgedFrom 1 beforeHeader (lines s)
-  kept-refused m e = sym (after-refusal s (progressOf have (soFar s h fs names ends n)) at line l m e) ∙ k .left
+  kept-refused : (m : ℕ) → faulty m ≡ lineVerdict (progressOf headerSeen (soFar s h fs names ends n)) (partIn s at (lineEnd s at)) → rejected m line ≡ judgedFrom 1 beforeHeader (lines s)
+  kept-refused m e = sym (after-refusal s (progressOf headerSeen (soFar s h fs names ends n)) at line l m e) ∙ k .left
 
 -- after the last line
-module _ {s : List ℕ} {h : HeaderDesc} {fs : List FieldDesc} {names ends : List ℕ} {n : ℕ} {have last : Bool} {at line : ℕ} (k : Kept s h fs names ends n have last at line) (l : length s ≤ at) where
-  at-the-end : atEnd (progressOf have (soFar s h fs names ends n)) ≡ judgedFrom 1 beforeHeader (lines s)
+module _ {s : List ℕ} {h : HeaderDesc} {fs : List FieldDesc} {names ends : List ℕ} {n : ℕ} {headerSeen tailSeen : Bool} {at line : ℕ} (k : Kept s h fs names ends n headerSeen tailSeen at line) (l : length s ≤ at) where
+  at-the-end : atEnd (progressOf headerSeen (soFar s h fs names ends n)) ≡ judgedFrom 1 beforeHeader (lines s)
   unfolding judgedFrom
   at-the-end = rw (no-line s at l) at (k .left)
 
   no-fields : n ≡ 0 → rejected 2 0 ≡ judgedFrom 1 beforeHeader (lines s)
-  no-fields q = by have (rw q at at-the-end)
+  no-fields q = by headerSeen (rw q at at-the-end)
     where
       by : (b : Bool) → atEnd (progressOf b (soFar s h fs names ends 0)) ≡ judgedFrom 1 beforeHeader (lines s) → rejected 2 0 ≡ judgedFrom 1 beforeHeader (lines s)
       by true e = e
       by false e = e
 
   some-fields : (n ≡ 0 → ⊥) → described (soFar s h fs names ends n) ≡ judgedFrom 1 beforeHeader (lines s)
-  some-fields q = by have refl n refl
+  some-fields q = by headerSeen refl n refl
     where
-      by : (b : Bool) → have ≡ b → (m : ℕ) → n ≡ m → described (soFar s h fs names ends n) ≡ judgedFrom 1 beforeHeader (lines s)
+      by : (b : Bool) → headerSeen ≡ b → (m : ℕ) → n ≡ m → described (soFar s h fs names ends n) ≡ judgedFrom 1 beforeHeader (lines s)
       by false e m z = absurd (q (k .none-yet e))
       by true e zero z = absurd (q z)
       by true e (suc m) z = rw z (rw (e, z) at at-the-end)
@@ -241,7 +241,7 @@ module _ (s codes : List ℕ) (fs : List FieldDesc) (e : fieldsOf codes ≡ with
   coded-placed n p k l = subst (Placed s) (sym (coded-field k)) (record { from = p k l .from; to = p k l .to; listed = p k l .listed })
 
 -- After `line` lines: there is no refusal so far and `Kept` holds; or the definition's refusal was found, and no line is left to judge.
-pub record Judging (s : List ℕ) (h : HeaderDesc) (fs : List FieldDesc) (names ends : List ℕ) (n : ℕ) (have last : Bool) (number place at line : ℕ) : Type 0 where
+pub record Judging (s : List ℕ) (h : HeaderDesc) (fs : List FieldDesc) (names ends : List ℕ) (n : ℕ) (headerSeen tailSeen : Bool) (number place at line : ℕ) : Type 0 where
   pub within : at ≤ length s + 1
   pub few : n ≤ 64
   pub counted : line ≤ at
@@ -250,7 +250,7 @@ pub record Judging (s : List ℕ) (h : HeaderDesc) (fs : List FieldDesc) (names 
   pub all-ends : length ends ≡ 64
   pub short : number ≡ 0 → length s ≤ 8192
   pub no-place : number ≡ 0 → place ≡ 0
-  pub kept : number ≡ 0 → Kept s h fs names ends n have last at (line + 1)
+  pub kept : number ≡ 0 → Kept s h fs names ends n headerSeen tailSeen at (line + 1)
   pub told : 1 ≤ number → (rejected number place ≡ judged s) × (length s ≤ at)
 
 -- before any line there is no header
@@ -288,8 +288,8 @@ judging-start s h fs names ends x y z r (f, g) a (p, q) = by (decLt 8192 (length
     }
 
 -- a turn of the loop, at a line that is left
-module _ {s : List ℕ} {h : HeaderDesc} {fs : List FieldDesc} {names ends : List ℕ} {n : ℕ} {have last : Bool} {number place at line : ℕ}
-    (j : Judging s h fs names ends n have last number place at line) (m : at < length s) where
+module _ {s : List ℕ} {h : HeaderDesc} {fs : List FieldDesc} {names ends : List ℕ} {n : ℕ} {headerSeen tailSeen : Bool} {number place at line : ℕ}
+    (j : Judging s h fs names ends n headerSeen tailSeen number place at line) (m : at < length s) where
   nothing : number ≡ 0
   nothing = by (decLe 1 number)
     where
@@ -297,7 +297,7 @@ module _ {s : List ℕ} {h : HeaderDesc} {fs : List FieldDesc} {names ends : Lis
       by (yes l) = absurd (omega (arith, j .told l .1))
       by (no l) = omega arith
 
-  so : Kept s h fs names ends n have last at (line + 1)
+  so : Kept s h fs names ends n headerSeen tailSeen at (line + 1)
   so = j .kept nothing
 
   pub line-count : line + 1 ≤ 8192
@@ -313,9 +313,9 @@ module _ {s : List ℕ} {h : HeaderDesc} {fs : List FieldDesc} {names ends : Lis
     turn-less = omega (arith, line-within .0)
 
     -- what that line does
-    module _ (r : Step) (u : Due s have n r)
-        (g : (d : Description) → Stands s d last names ends n → stepOf s (progressOf have d) r ≡ lineVerdict (progressOf have d) (partIn s at e)) where
-      here : stepOf s (progressOf have (soFar s h fs names ends n)) r ≡ lineVerdict (progressOf have (soFar s h fs names ends n)) (partIn s at (lineEnd s at))
+    module _ (r : Step) (u : Due s headerSeen n r)
+        (g : (d : Description) → Stands s d tailSeen names ends n → stepOf s (progressOf headerSeen d) r ≡ lineVerdict (progressOf headerSeen d) (partIn s at e)) where
+      here : stepOf s (progressOf headerSeen (soFar s h fs names ends n)) r ≡ lineVerdict (progressOf headerSeen (soFar s h fs names ends n)) (partIn s at (lineEnd s at))
       here = rw w at (g (soFar s h fs names ends n) (stands so))
 
       going : {x : HeaderDesc} {gs : List FieldDesc} {ns es : List ℕ} {k : ℕ} {a b : Bool} → k ≤ 64 → length gs ≡ 64 → length ns ≡ 64 → length es ≡ 64 → Kept s x gs ns es k a b (lineEnd s at + 1) (line + 1 + 1)
@@ -333,26 +333,26 @@ module _ {s : List ℕ} {h : HeaderDesc} {fs : List FieldDesc} {names ends : Lis
         told = λ i. absurd (omega (arith, nothing));
       }
 
-      pub turn-skip : r ≡ Skip → Judging s h fs names ends n have last number place (e + 1) (line + 1)
+      pub turn-skip : r ≡ Skip → Judging s h fs names ends n headerSeen tailSeen number place (e + 1) (line + 1)
       turn-skip q = going (j .few) (j .all-fields) (j .all-names) (j .all-ends) (kept-skip so m (rw q at here))
 
-      pub turn-head : {x : HeaderDesc} → r ≡ Head x → Judging s x fs names ends n true last number place (e + 1) (line + 1)
-      turn-head {x} q = going (j .few) (j .all-fields) (j .all-names) (j .all-ends) (kept-head so m x (subst (Due s have n) q u) (rw q at here))
+      pub turn-head : {x : HeaderDesc} → r ≡ Head x → Judging s x fs names ends n true tailSeen number place (e + 1) (line + 1)
+      turn-head {x} q = going (j .few) (j .all-fields) (j .all-names) (j .all-ends) (kept-head so m x (subst (Due s headerSeen n) q u) (rw q at here))
 
       pub add-room : {f : NewField} → r ≡ Add f → n < 64
-      add-room {f} q = let z : Due s have n (Add f) = subst (Due s have n) q u in z .0
+      add-room {f} q = let z : Due s headerSeen n (Add f) = subst (Due s headerSeen n) q u in z .0
 
-      pub turn-add : {f : NewField} → r ≡ Add f → (b : Bool) → b ≡ last || tail (kindIn s (f .field .«qualifiers_at») (f .field .«qualifiers_end») (f .field .form))
-          → Judging s h (set fs n (f .field)) (set names n (f .«name_at»)) (set ends n (f .«name_end»)) (n + 1) have b number place (e + 1) (line + 1)
+      pub turn-add : {f : NewField} → r ≡ Add f → (b : Bool) → b ≡ tailSeen || tail (kindIn s (f .field .«qualifiers_at») (f .field .«qualifiers_end») (f .field .form))
+          → Judging s h (set fs n (f .field)) (set names n (f .«name_at»)) (set ends n (f .«name_end»)) (n + 1) headerSeen b number place (e + 1) (line + 1)
       turn-add {f} q b t =
-          let z : Due s have n (Add f) = subst (Due s have n) q u in
+          let z : Due s headerSeen n (Add f) = subst (Due s headerSeen n) q u in
           going (omega (arith, z .0)) (length-set fs n (f .field) ∙ j .all-fields) (length-set names n (f .«name_at») ∙ j .all-names) (length-set ends n (f .«name_end») ∙ j .all-ends)
           (kept-add so m f b (omega (arith, z .0, j .all-fields)) (omega (arith, z .0, j .all-names)) (omega (arith, z .0, j .all-ends)) (z .1) (z .2) t (rw q at here))
 
-      pub turn-refuse : {k : ℕ} → r ≡ Refuse k → Judging s h fs names ends n have last k (line + 1) (length s) (line + 1)
+      pub turn-refuse : {k : ℕ} → r ≡ Refuse k → Judging s h fs names ends n headerSeen tailSeen k (line + 1) (length s) (line + 1)
       turn-refuse {k} q =
-          let v : faulty k ≡ lineVerdict (progressOf have (soFar s h fs names ends n)) (partIn s at (lineEnd s at)) = rw q at here in
-          let f = fault-number k (progressOf have (soFar s h fs names ends n)) (partIn s at (lineEnd s at)) v in
+          let v : faulty k ≡ lineVerdict (progressOf headerSeen (soFar s h fs names ends n)) (partIn s at (lineEnd s at)) = rw q at here in
+          let f = fault-number k (progressOf headerSeen (soFar s h fs names ends n)) (partIn s at (lineEnd s at)) v in
           record {
             within = omega arith;
             few = j .few;
@@ -367,8 +367,8 @@ module _ {s : List ℕ} {h : HeaderDesc} {fs : List FieldDesc} {names ends : Lis
           }
 
 -- after the last turn: what the outline says
-module _ {s codes : List ℕ} {h : HeaderDesc} {fs : List FieldDesc} {names ends : List ℕ} {n : ℕ} {have last : Bool} {number place at line : ℕ}
-    (j : Judging s h fs names ends n have last number place at line) (c : fieldsOf codes ≡ withoutTexts fs) (m : length s ≤ at) (r : ℕ) where
+module _ {s codes : List ℕ} {h : HeaderDesc} {fs : List FieldDesc} {names ends : List ℕ} {n : ℕ} {headerSeen tailSeen : Bool} {number place at line : ℕ}
+    (j : Judging s h fs names ends n headerSeen tailSeen number place at line) (c : fieldsOf codes ≡ withoutTexts fs) (m : length s ≤ at) (r : ℕ) where
   outlined : outlineOf (soFar s h fs names ends n) (record { number = r; line = place; count = n }) ≡ judged s → (r ≡ 0 → AllPlaced s fs n)
       → Outlined s codes (record { number = r; line = place; count = n })
   outlined q p = record {

@@ -28,7 +28,8 @@ returns-4 c =
     let c6 = c2 .before .before .before .before in
     λ e s xs b n a. surely s (fieldsOf (c6 .args .codes .now)) (c6 .args .first) (c6 .args .many) xs b a (omega arith)
     (c2 .field .result) (read-at (c6 .args .codes .now) _ (c2 .field .ensures))
-    (shaped _ (c2 .field .result .form) .windows ∙ ap isWindows (sym (c .before .layout-of .ensures .0)) ∙ not-windows (c .before .layout-of .result .shape) (c .match .keys2))
+    (shaped _ (c2 .field .result .form) .windows ∙ ap isWindows (sym (c .before .layout-of .ensures .0))
+    ∙ not-windows (c .before .layout-of .result .shape) (c .match .keys2))
     (c6 .args .room) (omega arith)
 
 pub surely-fits-spec : {M : Type 1} → statement M

@@ -20,34 +20,44 @@ returns c =
     let c2 = c .before .before in
     let c4 = c2 .before .before in
     let c6 = c4 .before .before in
-    λ l. rw (← start-by l _ _ Octets _ (c4 .layout-of .ensures .0) (c2 .enum-told .given .1) (c4 .layout-of .ensures .1), ← c .before .width .ensures .1) (c .octets .ensures _ (c6 .pre .1))
+    λ l. rw (
+      ← start-by l _ _ Octets _ (c4 .layout-of .ensures .0) (c2 .enum-told .given .1) (c4 .layout-of .ensures .1),
+      ← c .before .width .ensures .1,
+    ) (c .octets .ensures _ (c6 .pre .1))
 
 returns-2 : tie.Need-returns-2
 returns-2 c =
     let c2 = c .before .before in
     let c4 = c2 .before .before in
-    λ l. rw (← start-by l _ _ Labels _ (c4 .layout-of .ensures .0) (c2 .enum-told2 .given .1) (c4 .layout-of .ensures .1), ← c .before .is-optional .ensures) (c .name .ensures)
+    λ l. rw (
+      ← start-by l _ _ Labels _ (c4 .layout-of .ensures .0) (c2 .enum-told2 .given .1) (c4 .layout-of .ensures .1),
+      ← c .before .is-optional .ensures,
+    ) (c .name .ensures)
 
 returns-3 : tie.Need-returns-3
 returns-3 c =
     let c3 = c .before .before .before in
-    λ l. rw (← start-by l _ _ Counted _ (c3 .layout-of .ensures .0) (c .before .enum-told3 .given .1) (c3 .layout-of .ensures .1)) (c .counted .ensures)
+    λ l. rw (← start-by l _ _ Counted _ (c3 .layout-of .ensures .0) (c .before .enum-told3 .given .1) (c3 .layout-of .ensures .1))
+    (c .counted .ensures)
 
 returns-4 : tie.Need-returns-4
 returns-4 c =
     let c3 = c .before .before .before in
-    λ l. rw (← start-by l _ _ Strings _ (c3 .layout-of .ensures .0) (c .before .enum-told4 .given .1) (c3 .layout-of .ensures .1)) (c .strings .ensures)
+    λ l. rw (← start-by l _ _ Strings _ (c3 .layout-of .ensures .0) (c .before .enum-told4 .given .1) (c3 .layout-of .ensures .1))
+    (c .strings .ensures)
 
 returns-5 : tie.Need-returns-5
 returns-5 c =
     let c3 = c .before .before .before in
     let c5 = c3 .before .before in
-    λ l. rw (← start-by l _ _ Rest _ (c3 .layout-of .ensures .0) (c .before .enum-told5 .given .1) (c3 .layout-of .ensures .1)) (c .rest .ensures _ (c5 .pre .1))
+    λ l. rw (← start-by l _ _ Rest _ (c3 .layout-of .ensures .0) (c .before .enum-told5 .given .1) (c3 .layout-of .ensures .1))
+    (c .rest .ensures _ (c5 .pre .1))
 
 returns-6 : tie.Need-returns-6
 returns-6 c =
     let c3 = c .before .before .before in
-    λ l. rw (← start-by l _ _ Windows _ (c3 .layout-of .ensures .0) (c .before .enum-told6 .given .1) (c3 .layout-of .ensures .1)) (c .bitmap .ensures)
+    λ l. rw (← start-by l _ _ Windows _ (c3 .layout-of .ensures .0) (c .before .enum-told6 .given .1) (c3 .layout-of .ensures .1))
+    (c .bitmap .ensures)
 
 pub take-field-spec : {M : Type 1} → statement M
 take-field-spec =

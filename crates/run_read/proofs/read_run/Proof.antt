@@ -28,8 +28,7 @@ use Rattle.buffer.proofs.least.Reads as least-reads
 abbrev Inv-loop : tie.InvT-loop
 Inv-loop out₀ codes first many s origin t n₀ i₀ k₀ out n i k =
     (k ≤ many) × (i ≤ length t) × (n ≤ 65536) × (length out ≡ length out₀)
-    ×
-    ((xs : List ℕ) × Stands out₀ out n xs
+    × ((xs : List ℕ) × Stands out₀ out n xs
     × Ahead (λ j ts. readField j origin ts) (kindsFrom s (fieldsOf codes) first many) (tokens t)
     (kindsFrom s (fieldsOf codes) (first + k) (many - k)) (tokens (drop i t)) k xs)
 

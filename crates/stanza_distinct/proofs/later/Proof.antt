@@ -17,8 +17,7 @@ use Rattle.stanza_distinct.proofs.names.Reads as names-reads
 abbrev Inv-loop : tie.InvT-loop
 Inv-loop ignoring s a n h b i₀ i =
     (i ≤ b)
-    ×
-    (anyOf (λ p. sameBy ignoring (slice a n s) (nameIn p)) (piecesIn s i b) ≡ anyOf (λ p. sameBy ignoring (slice a n s) (nameIn p))
+    × (anyOf (λ p. sameBy ignoring (slice a n s) (nameIn p)) (piecesIn s i b) ≡ anyOf (λ p. sameBy ignoring (slice a n s) (nameIn p))
     (piecesIn s h b))
 
 abbrev μ-loop : tie.MeasureT-loop

@@ -25,11 +25,13 @@ use Rattle.stanza_line.proofs.tail_after.Reads as tail-after-reads
 -- If nothing is refused so far, judging the lines from `at` on gives the verdict on all lines; else the refusal is that
 -- verdict. The codes are those of the fields found so far.
 abbrev Inv-loop : tie.InvT-loop
-Inv-loop s codes₀ names₀ ends₀ n₀ have₀ last₀ number₀ place₀ at₀ line₀ codes names ends n have last number place at line =
-    (h : HeaderDesc) × (fs : List FieldDesc) × Judging s h fs names ends n have last number place at line × (fieldsOf codes ≡ withoutTexts fs)
+Inv-loop s _ _ _ _ _ _ _ _ _ _ codes names ends n headerSeen tailSeen number place at line =
+    (h : HeaderDesc) × (fs : List FieldDesc)
+    × Judging s h fs names ends n headerSeen tailSeen number place at line × (fieldsOf codes ≡ withoutTexts fs)
 
 abbrev μ-loop : tie.MeasureT-loop
-μ-loop s codes₀ names₀ ends₀ n₀ have₀ last₀ number₀ place₀ at₀ line₀ codes names ends n have last number place at line = length s + 1 - at
+μ-loop s _ _ _ _ _ _ _ _ _ _ codes names ends n headerSeen tailSeen number place at line =
+    length s + 1 - at
 
 at-start-requires : tie.Need-at-start-requires Inv-loop μ-loop
 at-start-requires c κs = search needs
