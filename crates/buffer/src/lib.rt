@@ -28,15 +28,15 @@ pub fn least(a: usize, b: usize) -> usize
     if a < b { a } else { b }
 }
 
-// How many of `count` pieces of w octets each have room from n on in a buffer of `len` octets.
-pub fn fitting(len: usize, n: usize, w: usize, count: usize) -> usize
+// How many of `count` pieces of w octets each have room from `at` on in a buffer of `len` octets.
+pub fn fitting(len: usize, at: usize, w: usize, count: usize) -> usize
     requires { ⌜ 0 < w ⌝ }
-    ensures { λ r. ⌜ r ≡ min count ((len - n) / w) ⌝ }
+    ensures { λ r. ⌜ r ≡ min count ((len - at) / w) ⌝ }
 {
-    if len <= n {
+    if len <= at {
         return 0;
     }
-    least(count, (len - n) / w)
+    least(count, (len - at) / w)
 }
 
 // Writes one octet.

@@ -154,7 +154,7 @@ fn width(w: u8) -> usize
     w as usize
 }
 
-// The field of a form, by its shape.
+// Takes a field of the form f, by its shape.
 pub fn take_field(f: Form, s: &[u8], i: usize, e: usize) -> Take
     requires { ⌜ (i ≤ e) × (e ≤ length (now s)) ⌝ }
     ensures { λ r. ⌜ ((l : List Symbol) → takenIn r ≡ taken (start (kindOf l f)) (slice i e (now (s .entry)))) ⌝ }

@@ -32,12 +32,12 @@ fn sole_octet(t: &[u8], i: usize, e: usize) -> u8
     0
 }
 
-// The place m, or a fault if there are more than 255 octets from n to m.
-fn limited_end(n: usize, m: usize) -> Value
-    requires { ⌜ n ≤ m ⌝ }
-    ensures { λ r. ⌜ r ≡ limitedEnd n m ⌝ }
+// The place m, or a fault if there are more than 255 octets from `at` to m.
+fn limited_end(at: usize, m: usize) -> Value
+    requires { ⌜ at ≤ m ⌝ }
+    ensures { λ r. ⌜ r ≡ limitedEnd at m ⌝ }
 {
-    if 255 < m - n {
+    if 255 < m - at {
         return Value::Fault;
     }
     Value::Upto(m)

@@ -171,7 +171,7 @@ fn same_name(s: &[u8], x: u16, y: u16, a: usize, e: usize) -> bool
     false
 }
 
-// What the line from at to e does after n fields. `have` says whether there was a header, `last` whether there was a tail.
+// What the line from at to e does after n fields. `header_seen` and `tail_seen` say what came before.
 pub fn line_step(
     s: &[u8],
     at: usize,

@@ -7,7 +7,7 @@ use Rattle.buffer.proofs.fitting.Statement.{statement}
 use Rattle.buffer.proofs.fitting.Tie as tie
 
 returns : tie.Need-returns
-returns c = let e : c .before .args .len - c .before .args .n ≡ 0 = omega arith in rw (e, zero-div (c .before .args .w)) (omega arith)
+returns c = let e : c .before .args .len - c .before .args .at ≡ 0 = omega arith in rw (e, zero-div (c .before .args .w)) (omega arith)
 
 pub fitting-spec : {M : Type 1} → statement M
 fitting-spec = tie.close (tie.spec returns (λ c. search needs) (λ c. search needs) (λ c κs. search needs) (λ c. search needs))
