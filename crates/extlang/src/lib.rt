@@ -25,14 +25,10 @@ pub extern "C" fn extlang_print(
 ) -> u64
     ensures { λ r. ⌜ Packs r (now (out .exit)) (Entries.print (now (stanza .entry)) first length (now (rdata .entry)) (now (out .entry)) at) ⌝ }
 {
-    let r = entry_print::print(
-        stanza,
-        first as usize,
-        length as usize,
-        rdata,
-        out,
-        at as usize,
-    );
+    let from = first as usize;
+    let many = length as usize;
+    let place = at as usize;
+    let r = entry_print::print(stanza, from, many, rdata, out, place);
     entry::packed(r)
 }
 
@@ -49,15 +45,9 @@ pub extern "C" fn extlang_read(
 ) -> u64
     ensures { λ r. ⌜ Packs r (now (out .exit)) (Entries.read (now (stanza .entry)) first length (now (origin .entry)) (now (text .entry)) (now (out .entry)) at) ⌝ }
 {
+    let from = first as usize;
+    let many = length as usize;
     let place = at as usize;
-    let r = entry_read::read(
-        stanza,
-        first as usize,
-        length as usize,
-        origin,
-        text,
-        out,
-        place,
-    );
+    let r = entry_read::read(stanza, from, many, origin, text, out, place);
     entry::packed(r)
 }
