@@ -13,7 +13,7 @@ use Rattle.format.proofs.Wire.{fits, alone}
 use Rattle.format.proofs.Fields.{field-laws}
 use Rattle.format.proofs.Bound.{cap-most}
 use Rattle.octets.proofs.Slices.{lent}
-use Rattle.stanza_form.specs.Forms.{kindOf, intWidth, symbolsIn, orNone}
+use Rattle.stanza_form.specs.Forms.{kindOf, heldBy, symbolsIn, orNone}
 use Rattle.stanza_form.specs.declared.FieldDesc.{FieldDesc}
 use Rattle.stanza_form.specs.Fields.{noField}
 use Rattle.buffer.specs.Writing.{Wrote}
@@ -108,7 +108,7 @@ module _ (s : List ℕ) (fs : List FieldDesc) (first many : ℕ) (p : List ℕ) 
           ≡ joined (shown (kindFor s d) (take w (drop i p))) (textOf (kindsFrom s fs (first + (k + 1)) (many - (k + 1))) (drop w (drop i p)))))
           → Turn s fs first many p k i r d
       by (w, t, q, e) =
-          let z : r ≡ w = g (orNone (symbolsIn (intWidth (d .form)) s (d .«qualifiers_at») (d .«qualifiers_end»))) w (ap (taken (start (kindFor s d))) (to-end p i) ∙ t) in
+          let z : r ≡ w = g (orNone (symbolsIn (heldBy (d .form)) s (d .«qualifiers_at») (d .«qualifiers_end»))) w (ap (taken (start (kindFor s d))) (to-end p i) ∙ t) in
           let m : i + w ≤ length p = omega (arith, fits (start (kindFor s d)) (drop i p) w t, length-drop i p) in
           let n : i + w - i ≡ w = omega arith in
           let c : take w (drop i p) ≡ slice i (i + w) p = subst (λ j. take j (drop i p) ≡ slice i (i + w) p) n (lent p i (i + w) (omega arith)) in

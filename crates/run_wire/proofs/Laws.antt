@@ -13,7 +13,7 @@ use Rattle.format.proofs.Wire.{fits}
 use Rattle.format.proofs.Run.{more}
 use Rattle.stanza_form.specs.declared.FieldDesc.{FieldDesc}
 use Rattle.stanza_form.specs.Fields.{noField, fieldsFrom}
-use Rattle.stanza_form.specs.Forms.{kindOf, intWidth, symbolsIn, orNone}
+use Rattle.stanza_form.specs.Forms.{kindOf, heldBy, symbolsIn, orNone}
 use Rattle.field_wire.specs.declared.Take.{Take}
 use Rattle.field_wire.specs.declared.Take.the-variants.{Missing, Fault, Took}
 use Rattle.field_wire.specs.Wire.{takenIn}
@@ -105,7 +105,7 @@ module _ (fs : List FieldDesc) (first many : ℕ) (p : List ℕ) (k at : ℕ) (t
     (a : (s : List ℕ) → Ahead (kindsFrom s fs first many) p (kindsFrom s fs (first + k) (many - k)) (drop at p) k) (h : k < many)
     (g : (l : List Symbol) → takenIn t ≡ taken (start (kindOf l (d .form))) (slice at (length p) p)) where
   here : (s : List ℕ) → taken (start (kindFor s d)) (drop at p) ≡ takenIn t
-  here s = ap (taken (start (kindFor s d))) (sym (to-end p at)) ∙ sym (g (orNone (symbolsIn (intWidth (d .form)) s (d .«qualifiers_at») (d .«qualifiers_end»))))
+  here s = ap (taken (start (kindFor s d))) (sym (to-end p at)) ∙ sym (g (orNone (symbolsIn (heldBy (d .form)) s (d .«qualifiers_at») (d .«qualifiers_end»))))
 
   pub turn-short : t ≡ Missing → (s : List ℕ) → partsOf (kindsFrom s fs first many) p ≡ refused 8 (k + 1)
   turn-short q s = ahead-short (a s) _ _ (next-kind s fs first many k h d e) (here s ∙ ap takenIn q)

@@ -55,36 +55,37 @@ kindOf l Raw = raw
 kindOf l Base64 = b64
 kindOf l Hex = hex
 
--- the octets of an integer
-abbrev pub intWidth : Form → ℕ
-intWidth (Int w) = w
-intWidth (Eui w) = 0
-intWidth (Name m) = 0
-intWidth Rrtype = 0
-intWidth Dotted = 0
-intWidth Aa = 0
-intWidth Aaaa = 0
-intWidth Time = 0
-intWidth Str = 0
-intWidth Base32 = 0
-intWidth Hexc = 0
-intWidth Bitmap = 0
-intWidth Strs = 0
-intWidth Raw = 0
-intWidth Base64 = 0
-intWidth Hex = 0
+-- what a form holds, or 0
+abbrev pub heldBy : Form → ℕ
+heldBy (Int w) = w
+heldBy (Eui w) = w
+heldBy (Name m) = m
+heldBy Rrtype = 0
+heldBy Dotted = 0
+heldBy Aa = 0
+heldBy Aaaa = 0
+heldBy Time = 0
+heldBy Str = 0
+heldBy Base32 = 0
+heldBy Hexc = 0
+heldBy Bitmap = 0
+heldBy Strs = 0
+heldBy Raw = 0
+heldBy Base64 = 0
+heldBy Hex = 0
 
 -- the symbols of an integer of w octets among the qualifiers from a to b
 abbrev pub symbolsIn : ℕ → List ℕ → ℕ → ℕ → Option (List Symbol)
 symbolsIn w s a b = qualifiersIn s a b >>= eachOf (symbolOf w)
 
+-- the symbols that are listed, or none
 abbrev pub orNone : Option (List Symbol) → List Symbol
 orNone none = []
 orNone (some l) = l
 
 -- the kind of a form with the qualifiers from a to b
 abbrev pub kindIn : List ℕ → ℕ → ℕ → Form → Kind
-kindIn s a b f = kindOf (orNone (symbolsIn (intWidth f) s a b)) f
+kindIn s a b f = kindOf (orNone (symbolsIn (heldBy f) s a b)) f
 
 -- the shape of a form on the wire
 abbrev pub shapeOf : Form → Shape
@@ -124,7 +125,7 @@ parameterOf Raw = 0
 parameterOf Base64 = 0
 parameterOf Hex = 0
 
--- what they are by document 01: where a field stands before its first octet
+-- what a shape with its parameter is by document 01: where a field stands before its first octet
 abbrev pub stageOf : Shape → ℕ → Stage
 stageOf Octets w = anyOctets w
 stageOf Labels marks = labelLength (optionalIn marks) 0
@@ -151,7 +152,7 @@ pub data Rule : Type 0 where
   rawBy : Rule
   allTokens : Rule
 
--- "other tails all that are left"
+-- the rule of each kind: "other tails all that are left"
 abbrev pub ruleOf : Kind → Rule
 ruleOf (int w l) = bareBy (λ o. readInteger w l)
 ruleOf rrtype = bareBy (λ o. readType)
@@ -170,6 +171,7 @@ ruleOf hexc = bareBy (λ o. readCountedHex)
 ruleOf (eui w) = bareBy (λ o. readEui w)
 ruleOf time = bareBy (λ o. readTime)
 
+-- whether a rule takes one token
 abbrev pub takesOne : Rule → Bool
 takesOne (bareBy f) = true
 takesOne (nameBy optional) = true
@@ -216,25 +218,6 @@ formNumber Strs = 12
 formNumber Raw = 13
 formNumber Base64 = 14
 formNumber Hex = 15
-
--- what a form holds, or 0
-abbrev pub heldBy : Form → ℕ
-heldBy (Int w) = w
-heldBy (Eui w) = w
-heldBy (Name m) = m
-heldBy Rrtype = 0
-heldBy Dotted = 0
-heldBy Aa = 0
-heldBy Aaaa = 0
-heldBy Time = 0
-heldBy Str = 0
-heldBy Base32 = 0
-heldBy Hexc = 0
-heldBy Bitmap = 0
-heldBy Strs = 0
-heldBy Raw = 0
-heldBy Base64 = 0
-heldBy Hex = 0
 
 -- the form of a number and a parameter; any number from 15 on is the last form's
 unfoldable pub formAt : ℕ → ℕ → Form
