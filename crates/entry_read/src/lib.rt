@@ -1,6 +1,4 @@
 // Reading: the refusals in their order, and the octets if there is room for them.
-pub mod room;
-
 ghost use Prim.Native.Nat.{_≤_};
 ghost use mathlib.Core.Path.{_≡_};
 ghost use lib.ListN.{length};
@@ -46,7 +44,7 @@ pub fn read_judged(
     }
     if entry::is_run(first, many, outline.count) {
         if is_name(origin) {
-            return crate::room::read_run(s, codes, first - 1, many, origin, t, out, at);
+            return entry_room::read_run(s, codes, first - 1, many, origin, t, out, at);
         }
         return refused(7, 0);
     }

@@ -51,7 +51,7 @@ fn write(out: &[u8], n: usize) -> bool
 fn write_octets(lines: &[u8], n: usize, out: &mut [u8; ROOM]) -> bool
     requires { ⌜ (n ≤ length (now lines)) × (length (now lines) ≤ 1048576) ⌝ }
 {
-    let end = probe_line::put_octets(out, 0, &lines[0..n]);
+    let end = probe_reply::line::put_octets(out, 0, &lines[0..n]);
     write(out, end)
 }
 

@@ -15,8 +15,8 @@ use Rattle.buffer.proofs.Laws.{wrote-text}
 use Rattle.probe_request.specs.declared.Span.{Span}
 use Rattle.probe_request.specs.declared.Request.{Request}
 use Rattle.probe_request.specs.Words.{Within, named, asked}
-use Rattle.probe_line.specs.Replies.{unknownLine}
-use Rattle.probe_line.proofs.Replies.{judged-most, result-most}
+use Rattle.probe_reply.specs.Replies.{unknownLine}
+use Rattle.probe_reply.proofs.Replies.{judged-most, result-most}
 use Rattle.probe_reply.specs.Reply.{answerLine, outcomeLine, replyTo}
 
 -- a part, as it is lent to a call

@@ -12,7 +12,7 @@ use Rattle.format.specs.Entries.{Answer, done, refusal, ifRoom, room, Outcome, 
 use Rattle.entry.specs.declared.Reply.{Reply}
 use Rattle.entry.specs.Entries.{Replies, Leaves}
 use Rattle.entry.proofs.Numbers.{Told, print-told, read-told}
-use Rattle.probe_line.specs.Replies.{judgedLine, resultLine}
+use Rattle.probe_reply.specs.Replies.{judgedLine, resultLine}
 use Rattle.probe_reply.specs.Reply.{answerLine, outcomeLine, resultOf}
 
 pub judged-answered : (r : Reply) (o : Outcome) → Replies r o → judgedLine (r .number) (r .place) ≡ outcomeLine o

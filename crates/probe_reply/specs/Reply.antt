@@ -10,7 +10,7 @@ use Rattle.format.specs.Octets.{ascii}
 use Rattle.format.specs.Entries.{Answer, done, refusal, maxText, printing, reading, ifRoom, Outcome, judge}
 use Rattle.format.specs.Job.{job}
 use Rattle.probe_request.specs.Request.{Asked}
-use Rattle.probe_line.specs.Replies.{octetsText, judgedLine, resultLine, unknownLine}
+use Rattle.probe_reply.specs.Replies.{octetsText, judgedLine, resultLine, unknownLine}
 
 -- "PLACE is the count where NUMBER is 0, and the last word is '-' on a refusal."
 abbrev pub answerLine : Answer → List ℕ

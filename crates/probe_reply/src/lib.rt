@@ -1,16 +1,18 @@
 // Answers requests.
+pub mod line;
+
 ghost use Prim.Native.Nat.{_^_, _≤_};
 ghost use mathlib.Core.Path.{_≡_};
 ghost use lib.ListN.{length};
 ghost use Rattle.format.specs.Entries.{ifRoom, printing, reading};
 ghost use Rattle.format.specs.Entries.{judge as Entries·judge};
 ghost use Rattle.buffer.specs.Writing.{Wrote};
-ghost use Rattle.probe_line.specs.Replies.{resultLine};
+ghost use Rattle.probe_reply.specs.Replies.{resultLine};
 ghost use Rattle.probe_request.specs.Words.{Within, asked};
 ghost use Rattle.probe_reply.specs.Reply.{answerLine, outcomeLine, replyTo, resultOf};
-use probe_line::put_judged;
-use probe_line::put_result;
-use probe_line::put_unknown;
+use crate::line::put_judged;
+use crate::line::put_result;
+use crate::line::put_unknown;
 use probe_request::Request;
 
 // Answers a request to judge.

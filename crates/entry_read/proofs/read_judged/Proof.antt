@@ -12,7 +12,7 @@ use Rattle.entry_read.proofs.read_judged.Reads as reads
 use Rattle.entry_read.proofs.read_judged.Lts as lts
 use Rattle.entry_read.proofs.is_name.Reads as is-name-reads
 use Rattle.entry.proofs.is_run.Reads as is-run-reads
-use Rattle.entry_read.proofs.room.read_run.Reads as read-run-reads
+use Rattle.entry_room.proofs.read_run.Reads as read-run-reads
 use Rattle.entry.proofs.refused.Reads as refused-reads
 
 returns : tie.Need-returns

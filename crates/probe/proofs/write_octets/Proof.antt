@@ -1,7 +1,7 @@
 use Prim.Native.Nat.{_-_}
 use lib.ListN.{take}
 use lib.Seq.{length-take-le}
-use Rattle.probe_line.proofs.Replies.{octets-most}
+use Rattle.probe_reply.proofs.Replies.{octets-most}
 use native.Mathlib.Omega.{arith}
 use borrow.Author.Needs.{needs}
 use Rattle.probe.proofs.write_octets.Statement.{statement}

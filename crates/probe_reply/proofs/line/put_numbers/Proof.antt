@@ -2,8 +2,8 @@ use Rattle.format.proofs.Number.{decimal-10}
 use Rattle.buffer.proofs.Laws.{wrote-append}
 use native.Mathlib.Omega.{arith}
 use borrow.Author.Needs.{needs}
-use Rattle.probe_line.proofs.put_numbers.Statement.{statement}
-use Rattle.probe_line.proofs.put_numbers.Tie as tie
+use Rattle.probe_reply.proofs.line.put_numbers.Statement.{statement}
+use Rattle.probe_reply.proofs.line.put_numbers.Tie as tie
 
 put-octet-requires : tie.Need-put-octet-requires
 put-octet-requires c κs =

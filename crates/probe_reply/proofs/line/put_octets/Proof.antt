@@ -1,8 +1,8 @@
 use Rattle.buffer.proofs.Laws.{wrote-text}
-use Rattle.probe_line.proofs.Replies.{no-octets, some-octets}
+use Rattle.probe_reply.proofs.Replies.{no-octets, some-octets}
 use borrow.Author.Needs.{needs}
-use Rattle.probe_line.proofs.put_octets.Statement.{statement}
-use Rattle.probe_line.proofs.put_octets.Tie as tie
+use Rattle.probe_reply.proofs.line.put_octets.Statement.{statement}
+use Rattle.probe_reply.proofs.line.put_octets.Tie as tie
 
 returns : tie.Need-returns
 returns c =

@@ -9,7 +9,7 @@ use Rattle.format.specs.Number.{decimal}
 use Rattle.format.specs.Hex.{hexText}
 use Rattle.format.proofs.Number.{decimal-10}
 use Rattle.format.proofs.Hex.{hex-length}
-use Rattle.probe_line.specs.Replies.{octetsText, numbersText, judgedLine, resultLine}
+use Rattle.probe_reply.specs.Replies.{octetsText, numbersText, judgedLine, resultLine}
 
 -- no octets, and some
 pub no-octets : (xs : List ℕ) → length xs ≡ 0 → ascii "-" ≡ octetsText xs

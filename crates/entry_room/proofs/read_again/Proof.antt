@@ -1,11 +1,11 @@
 use mathlib.Core.Path.{refl}
-use Rattle.entry_read.proofs.Octets.{again-done, again-wrote, again-leaves}
+use Rattle.entry_room.proofs.Octets.{again-done, again-wrote, again-leaves}
 use native.Mathlib.Omega.{arith}
 use borrow.Author.Needs.{needs}
-use Rattle.entry_read.proofs.room.read_again.Statement.{statement}
-use Rattle.entry_read.proofs.room.read_again.Tie as tie
-use Rattle.entry_read.proofs.room.read_again.Reads as reads
-use Rattle.entry_read.proofs.room.read_again.Lts as lts
+use Rattle.entry_room.proofs.read_again.Statement.{statement}
+use Rattle.entry_room.proofs.read_again.Tie as tie
+use Rattle.entry_room.proofs.read_again.Reads as reads
+use Rattle.entry_room.proofs.read_again.Lts as lts
 use Rattle.buffer.proofs.least.Reads as least-reads
 use Rattle.run_read.proofs.read_run.Reads as read-run-reads
 use Rattle.entry.proofs.refused.Reads as refused-reads

@@ -1,17 +1,17 @@
 use mathlib.Core.Path.{refl}
 use Rattle.run_wire.specs.Run.{kindsFrom}
-use Rattle.entry_read.proofs.Octets.{refused-leaves, over-leaves, measured-leaves, reads-in, copied-leaves}
+use Rattle.entry_room.proofs.Octets.{refused-leaves, over-leaves, measured-leaves, reads-in, copied-leaves}
 use Rattle.stanza_form.specs.Code.{fieldsOf}
-use Rattle.entry_read.proofs.room.read_through.Reads as reads
-use Rattle.entry_read.proofs.room.read_through.Lts as lts
+use Rattle.entry_room.proofs.read_through.Reads as reads
+use Rattle.entry_room.proofs.read_through.Lts as lts
 use Rattle.buffer.proofs.least.Reads as least-reads
-use Rattle.entry_read.proofs.room.read_again.Reads as read-again-reads
+use Rattle.entry_room.proofs.read_again.Reads as read-again-reads
 use Rattle.run_read.proofs.read_run.Reads as read-run-reads
 use Rattle.buffer.proofs.put_all.Reads as put-all-reads
 use native.Mathlib.Omega.{arith}
 use borrow.Author.Needs.{needs}
-use Rattle.entry_read.proofs.room.read_through.Statement.{statement}
-use Rattle.entry_read.proofs.room.read_through.Tie as tie
+use Rattle.entry_room.proofs.read_through.Statement.{statement}
+use Rattle.entry_room.proofs.read_through.Tie as tie
 use Rattle.entry.proofs.refused.Reads as refused-reads
 use Rattle.entry.proofs.accepted.Reads as accepted-reads
 

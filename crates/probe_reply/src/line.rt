@@ -2,7 +2,7 @@
 ghost use Prim.Native.Nat.{_^_, _<_, _≤_};
 ghost use lib.ListN.{length};
 ghost use Rattle.buffer.specs.Writing.{Wrote};
-ghost use Rattle.probe_line.specs.Replies.{octetsText, numbersText, judgedLine, resultLine, unknownLine};
+ghost use Rattle.probe_reply.specs.Replies.{octetsText, numbersText, judgedLine, resultLine, unknownLine};
 use base::print::put_hex_upper;
 use buffer::put_all;
 use buffer::put_octet;
