@@ -1,4 +1,4 @@
-// Writers of octets as digits. Those of B32 and B64 have w bits, and an alphabet t gives their characters; they are written in
+// Writers of octets as digits. Those of B32 and B64 have w bits, and an alphabet gives their characters; they are written in
 // groups of g octets that make whole digits: 5 octets are 8 digits of 5 bits, 3 are 4 of 6 bits. X has two hex digits an octet.
 ghost use mathlib.Core.Path.{_≡_};
 ghost use Prim.Native.Nat.{_+_, _*_, _-_, _/_, _^_, _<_, _≤_};
@@ -30,16 +30,16 @@ fn number_of(p: &[u8], i: usize, g: usize) -> usize
 }
 
 // Stores the k lowest digits of v, from the last on; there is room for them.
-fn store(out: &mut [u8], at: usize, t: &[u8], k: usize, v: usize)
-    requires { ⌜ (at + k ≤ length (now out)) × (0 < length (now t)) ⌝ }
-    ensures { λ _. ⌜ now (out .exit) ≡ sets (now (out .entry)) at (chars (now (t .entry)) (digits (length (now (t .entry))) k v)) ⌝ }
+fn store(out: &mut [u8], at: usize, alphabet: &[u8], k: usize, v: usize)
+    requires { ⌜ (at + k ≤ length (now out)) × (0 < length (now alphabet)) ⌝ }
+    ensures { λ _. ⌜ now (out .exit) ≡ sets (now (out .entry)) at (chars (now (alphabet .entry)) (digits (length (now (alphabet .entry))) k v)) ⌝ }
 {
     let mut i = k;
     let mut x = v;
     while 0 < i {
         i = i - 1;
-        out[at + i] = t[x % t.len()];
-        x = x / t.len();
+        out[at + i] = alphabet[x % alphabet.len()];
+        x = x / alphabet.len();
     }
 }
 
@@ -48,22 +48,22 @@ fn store(out: &mut [u8], at: usize, t: &[u8], k: usize, v: usize)
 fn groups(
     out: &mut [u8],
     at: usize,
-    t: &[u8],
+    alphabet: &[u8],
     w: usize,
     g: usize,
     p: &[u8],
     i: usize,
     c: usize,
 ) -> usize
-    requires { ⌜ Grouped w g (now t) × (i + g * c ≤ length (now p)) × (8 * g / w * c ≤ length (now out) - at) ⌝ }
-    ensures { λ r. ⌜ Wrote (now (out .entry)) (now (out .exit)) at r (chars (now (t .entry)) (toDigits w (slice i (i + g * c) (now (p .entry))))) ⌝ }
+    requires { ⌜ Grouped w g (now alphabet) × (i + g * c ≤ length (now p)) × (8 * g / w * c ≤ length (now out) - at) ⌝ }
+    ensures { λ r. ⌜ Wrote (now (out .entry)) (now (out .exit)) at r (chars (now (alphabet .entry)) (toDigits w (slice i (i + g * c) (now (p .entry))))) ⌝ }
 {
     let k = 8 * g / w;
     let mut m = at;
     let mut j = i;
     let mut d = c;
     while 0 < d {
-        store(out, m, t, k, number_of(p, j, g));
+        store(out, m, alphabet, k, number_of(p, j, g));
         m = m + k;
         j = j + g;
         d = d - 1;
@@ -75,20 +75,20 @@ fn groups(
 fn group(
     out: &mut [u8],
     at: usize,
-    t: &[u8],
+    alphabet: &[u8],
     w: usize,
     g: usize,
     p: &[u8],
     i: usize,
     e: usize,
 ) -> usize
-    requires { ⌜ Grouped w g (now t) × (at < 2 ^ 32) × (i ≤ e) × (e ≤ i + g) × (e ≤ length (now p)) ⌝ }
-    ensures { λ r. ⌜ Wrote (now (out .entry)) (now (out .exit)) at r (chars (now (t .entry)) (toDigits w (slice i e (now (p .entry))))) ⌝ }
+    requires { ⌜ Grouped w g (now alphabet) × (at < 2 ^ 32) × (i ≤ e) × (e ≤ i + g) × (e ≤ length (now p)) ⌝ }
+    ensures { λ r. ⌜ Wrote (now (out .entry)) (now (out .exit)) at r (chars (now (alphabet .entry)) (toDigits w (slice i e (now (p .entry))))) ⌝ }
 {
     let mut octets = [0u8; 5];
     put_all(&mut octets, 0, &p[i..e]);
     let mut text = [0u8; 8];
-    store(&mut text, 0, t, 8 * g / w, number_of(&octets, 0, g));
+    store(&mut text, 0, alphabet, 8 * g / w, number_of(&octets, 0, g));
     let k = (8 * (e - i) + w - 1) / w;
     put_all(out, at, &text[0..k])
 }
@@ -97,18 +97,18 @@ fn group(
 fn rest(
     out: &mut [u8],
     at: usize,
-    t: &[u8],
+    alphabet: &[u8],
     w: usize,
     g: usize,
     p: &[u8],
     i: usize,
     e: usize,
 ) -> usize
-    requires { ⌜ Grouped w g (now t) × (at < 2 ^ 32) × (i ≤ e) × (e ≤ length (now p)) × (length (now p) ≤ 65535) × (i + g < e → length (now out) ≤ at + 8 * g / w) ⌝ }
-    ensures { λ r. ⌜ Wrote (now (out .entry)) (now (out .exit)) at r (chars (now (t .entry)) (toDigits w (slice i e (now (p .entry))))) ⌝ }
+    requires { ⌜ Grouped w g (now alphabet) × (at < 2 ^ 32) × (i ≤ e) × (e ≤ length (now p)) × (length (now p) ≤ 65535) × (i + g < e → length (now out) ≤ at + 8 * g / w) ⌝ }
+    ensures { λ r. ⌜ Wrote (now (out .entry)) (now (out .exit)) at r (chars (now (alphabet .entry)) (toDigits w (slice i e (now (p .entry))))) ⌝ }
 {
     let h = least(e, i + g);
-    group(out, at, t, w, g, p, i, h);
+    group(out, at, alphabet, w, g, p, i, h);
     at + (8 * (e - i) + w - 1) / w
 }
 
@@ -117,10 +117,10 @@ pub fn base32(out: &mut [u8], at: usize, p: &[u8], i: usize, e: usize) -> usize
     requires { ⌜ (at < 2 ^ 30) × (i ≤ e) × (e ≤ length (now p)) × (length (now p) ≤ 65535) ⌝ }
     ensures { λ r. ⌜ Wrote (now (out .entry)) (now (out .exit)) at r (base32Text (slice i e (now (p .entry)))) ⌝ }
 {
-    let t = b"0123456789ABCDEFGHIJKLMNOPQRSTUV";
+    let alphabet = b"0123456789ABCDEFGHIJKLMNOPQRSTUV";
     let c = fitting(out.len(), at, 8, (e - i) / 5);
-    let m = groups(out, at, t, 5, 5, p, i, c);
-    rest(out, m, t, 5, 5, p, i + 5 * c, e)
+    let m = groups(out, at, alphabet, 5, 5, p, i, c);
+    rest(out, m, alphabet, 5, 5, p, i + 5 * c, e)
 }
 
 // Writes octets in base 64, with padding; else as `base32`.
@@ -128,10 +128,10 @@ pub fn base64(out: &mut [u8], at: usize, p: &[u8], i: usize, e: usize) -> usize
     requires { ⌜ (at < 2 ^ 30) × (i ≤ e) × (e ≤ length (now p)) × (length (now p) ≤ 65535) ⌝ }
     ensures { λ r. ⌜ Wrote (now (out .entry)) (now (out .exit)) at r (base64Text (slice i e (now (p .entry)))) ⌝ }
 {
-    let t = b"ABCDEFGHIJKLMNOPQRSTUVWXYZabcdefghijklmnopqrstuvwxyz0123456789+/";
+    let alphabet = b"ABCDEFGHIJKLMNOPQRSTUVWXYZabcdefghijklmnopqrstuvwxyz0123456789+/";
     let c = fitting(out.len(), at, 4, (e - i) / 3);
-    let m = groups(out, at, t, 6, 3, p, i, c);
-    let r = rest(out, m, t, 6, 3, p, i + 3 * c, e);
+    let m = groups(out, at, alphabet, 6, 3, p, i, c);
+    let r = rest(out, m, alphabet, 6, 3, p, i + 3 * c, e);
     let k = (4 - (r - at) % 4) % 4;
     let padding = [b'='; 3];
     put_all(out, r, &padding[0..k])

@@ -31,12 +31,12 @@ pub fn counted_hex(out: &mut [u8], at: usize, t: &[u8], i: usize, e: usize) -> V
 }
 
 // Whether exactly k of `=` stand from i to e, and nothing else but what is left out.
-fn padded(t: &[u8], i: usize, e: usize, a: &[u8], skip: usize, k: usize) -> bool
-    requires { ⌜ (i ≤ e) × (e ≤ length (now t)) × (256 ≤ length (now a)) ⌝ }
-    ensures { λ r. ⌜ r ≡ sameOctets (without (leftOut (now (a .entry)) skip) (slice i e (now (t .entry)))) (replicate k 61) ⌝ }
+fn padded(t: &[u8], i: usize, e: usize, alphabet: &[u8], skip: usize, k: usize) -> bool
+    requires { ⌜ (i ≤ e) × (e ≤ length (now t)) × (256 ≤ length (now alphabet)) ⌝ }
+    ensures { λ r. ⌜ r ≡ sameOctets (without (leftOut (now (alphabet .entry)) skip) (slice i e (now (t .entry)))) (replicate k 61) ⌝ }
 {
     let mut q = k;
-    let mut j = base_group::kept_from(t, i, e, a, skip);
+    let mut j = base_group::kept_from(t, i, e, alphabet, skip);
     while 0 < q {
         if e <= j {
             return false;
@@ -45,7 +45,7 @@ fn padded(t: &[u8], i: usize, e: usize, a: &[u8], skip: usize, k: usize) -> bool
             return false;
         }
         q = q - 1;
-        j = base_group::kept_from(t, j + 1, e, a, skip);
+        j = base_group::kept_from(t, j + 1, e, alphabet, skip);
     }
     if j < e {
         return false;
@@ -53,14 +53,14 @@ fn padded(t: &[u8], i: usize, e: usize, a: &[u8], skip: usize, k: usize) -> bool
     true
 }
 
-// Reads base 64 from all the characters from i on, with the alphabet a.
-fn base64_by(out: &mut [u8], at: usize, t: &[u8], i: usize, a: &[u8]) -> Value
-    requires { ⌜ (at < 2 ^ 30) × (i ≤ length (now t)) × (length (now t) ≤ 1048576) × (now a ≡ base64Numbers) ⌝ }
+// Reads base 64 from all the characters from i on, with the given alphabet.
+fn base64_by(out: &mut [u8], at: usize, t: &[u8], i: usize, alphabet: &[u8]) -> Value
+    requires { ⌜ (at < 2 ^ 30) × (i ≤ length (now t)) × (length (now t) ≤ 1048576) × (now alphabet ≡ base64Numbers) ⌝ }
     ensures { λ r. ⌜ Values (now (out .entry)) (now (out .exit)) at r (readBase64 (without blank (drop i (now (t .entry))))) ⌝ }
 {
     let e = t.len();
-    let d = base_group::groups(out, at, t, i, e, a, 64, 6, 64, 4, 3);
-    if padded(t, d.at, e, a, 64, (4 - d.count) % 4) {
+    let d = base_group::groups(out, at, t, i, e, alphabet, 64, 6, 64, 4, 3);
+    if padded(t, d.at, e, alphabet, 64, (4 - d.count) % 4) {
         return base_group::finish(out, d.end, 6, d.count, d.number);
     }
     Value::Fault
@@ -71,9 +71,9 @@ fn base64(out: &mut [u8], at: usize, t: &[u8], i: usize) -> Value
     requires { ⌜ (at < 2 ^ 30) × (i ≤ length (now t)) × (length (now t) ≤ 1048576) ⌝ }
     ensures { λ r. ⌜ Values (now (out .entry)) (now (out .exit)) at r (readBase64 (without blank (drop i (now (t .entry))))) ⌝ }
 {
-    let a =
+    let alphabet =
         b"\x63\x63\x63\x63\x63\x63\x63\x63\x63\x40\x63\x63\x63\x63\x63\x63\x63\x63\x63\x63\x63\x63\x63\x63\x63\x63\x63\x63\x63\x63\x63\x63\x40\x63\x63\x63\x63\x63\x63\x63\x63\x63\x63\x3e\x63\x63\x63\x3f\x34\x35\x36\x37\x38\x39\x3a\x3b\x3c\x3d\x63\x63\x63\x63\x63\x63\x63\x00\x01\x02\x03\x04\x05\x06\x07\x08\x09\x0a\x0b\x0c\x0d\x0e\x0f\x10\x11\x12\x13\x14\x15\x16\x17\x18\x19\x63\x63\x63\x63\x63\x63\x1a\x1b\x1c\x1d\x1e\x1f\x20\x21\x22\x23\x24\x25\x26\x27\x28\x29\x2a\x2b\x2c\x2d\x2e\x2f\x30\x31\x32\x33\x63\x63\x63\x63\x63\x63\x63\x63\x63\x63\x63\x63\x63\x63\x63\x63\x63\x63\x63\x63\x63\x63\x63\x63\x63\x63\x63\x63\x63\x63\x63\x63\x63\x63\x63\x63\x63\x63\x63\x63\x63\x63\x63\x63\x63\x63\x63\x63\x63\x63\x63\x63\x63\x63\x63\x63\x63\x63\x63\x63\x63\x63\x63\x63\x63\x63\x63\x63\x63\x63\x63\x63\x63\x63\x63\x63\x63\x63\x63\x63\x63\x63\x63\x63\x63\x63\x63\x63\x63\x63\x63\x63\x63\x63\x63\x63\x63\x63\x63\x63\x63\x63\x63\x63\x63\x63\x63\x63\x63\x63\x63\x63\x63\x63\x63\x63\x63\x63\x63\x63\x63\x63\x63\x63\x63\x63\x63\x63\x63\x63\x63\x63\x63";
-    base64_by(out, at, t, i, a)
+    base64_by(out, at, t, i, alphabet)
 }
 
 // What a reader of all tokens answers: no token is left; a rule is broken; or the octets are stored up to a place.

@@ -28,21 +28,21 @@ pub struct Front {
 }
 
 // The number that the alphabet gives an octet.
-fn number_of(a: &[u8], b: u8) -> usize
-    requires { ⌜ 256 ≤ length (now a) ⌝ }
-    ensures { λ r. ⌜ r ≡ getD (now (a .entry)) b 0 ⌝ }
+fn number_of(alphabet: &[u8], b: u8) -> usize
+    requires { ⌜ 256 ≤ length (now alphabet) ⌝ }
+    ensures { λ r. ⌜ r ≡ getD (now (alphabet .entry)) b 0 ⌝ }
 {
-    a[b as usize] as usize
+    alphabet[b as usize] as usize
 }
 
 // The first place from i on whose octet is not left out, or e.
-pub fn kept_from(t: &[u8], i: usize, e: usize, a: &[u8], skip: usize) -> usize
-    requires { ⌜ (i ≤ e) × (e ≤ length (now t)) × (256 ≤ length (now a)) ⌝ }
-    ensures { λ r. ⌜ r ≡ keptFrom (now (a .entry)) skip (now (t .entry)) i e ⌝ }
+pub fn kept_from(t: &[u8], i: usize, e: usize, alphabet: &[u8], skip: usize) -> usize
+    requires { ⌜ (i ≤ e) × (e ≤ length (now t)) × (256 ≤ length (now alphabet)) ⌝ }
+    ensures { λ r. ⌜ r ≡ keptFrom (now (alphabet .entry)) skip (now (t .entry)) i e ⌝ }
 {
     let mut j = i;
     while j < e {
-        if number_of(a, t[j]) != skip {
+        if number_of(alphabet, t[j]) != skip {
             return j;
         }
         j = j + 1;
@@ -51,14 +51,14 @@ pub fn kept_from(t: &[u8], i: usize, e: usize, a: &[u8], skip: usize) -> usize
 }
 
 // The k digits from i on, if k digits stand there with nothing between them; else a count of 0.
-fn next_digits(t: &[u8], i: usize, a: &[u8], base: usize, k: usize) -> Digits
-    requires { ⌜ (i + k ≤ length (now t)) × (base ≤ 64) × (k ≤ 8) × (256 ≤ length (now a)) ⌝ }
-    ensures { λ r. ⌜ (0 < r .count → (skip : ℕ) → base ≤ skip → (e : ℕ) → i + k ≤ e → Taken (now (a .entry)) skip base (now (t .entry)) i e k (r .at) (r .count) (r .number)) ⌝ }
+fn next_digits(t: &[u8], i: usize, alphabet: &[u8], base: usize, k: usize) -> Digits
+    requires { ⌜ (i + k ≤ length (now t)) × (base ≤ 64) × (k ≤ 8) × (256 ≤ length (now alphabet)) ⌝ }
+    ensures { λ r. ⌜ (0 < r .count → (skip : ℕ) → base ≤ skip → (e : ℕ) → i + k ≤ e → Taken (now (alphabet .entry)) skip base (now (t .entry)) i e k (r .at) (r .count) (r .number)) ⌝ }
 {
     let mut v = 0;
     let mut q = 0;
     while q < k {
-        let x = number_of(a, t[i + q]);
+        let x = number_of(alphabet, t[i + q]);
         if base <= x {
             return Digits {
                 at: i,
@@ -77,24 +77,24 @@ fn next_digits(t: &[u8], i: usize, a: &[u8], base: usize, k: usize) -> Digits
 }
 
 // The same for the usual groups: with constants for base and k the loop is unrolled. A count of 0 for all others.
-fn quick_digits(t: &[u8], i: usize, e: usize, a: &[u8], base: usize, k: usize) -> Digits
-    requires { ⌜ (i ≤ e) × (e ≤ length (now t)) × (256 ≤ length (now a)) ⌝ }
-    ensures { λ r. ⌜ (0 < r .count → (skip : ℕ) → base ≤ skip → Taken (now (a .entry)) skip base (now (t .entry)) i e k (r .at) (r .count) (r .number)) ⌝ }
+fn quick_digits(t: &[u8], i: usize, e: usize, alphabet: &[u8], base: usize, k: usize) -> Digits
+    requires { ⌜ (i ≤ e) × (e ≤ length (now t)) × (256 ≤ length (now alphabet)) ⌝ }
+    ensures { λ r. ⌜ (0 < r .count → (skip : ℕ) → base ≤ skip → Taken (now (alphabet .entry)) skip base (now (t .entry)) i e k (r .at) (r .count) (r .number)) ⌝ }
 {
     if 4 <= e - i {
         if base == 64 {
             if k == 4 {
-                return next_digits(t, i, a, 64, 4);
+                return next_digits(t, i, alphabet, 64, 4);
             }
         }
     }
     if 8 <= e - i {
         if k == 8 {
             if base == 16 {
-                return next_digits(t, i, a, 16, 8);
+                return next_digits(t, i, alphabet, 16, 8);
             }
             if base == 32 {
-                return next_digits(t, i, a, 32, 8);
+                return next_digits(t, i, alphabet, 32, 8);
             }
         }
     }
@@ -106,13 +106,21 @@ fn quick_digits(t: &[u8], i: usize, e: usize, a: &[u8], base: usize, k: usize) -
 }
 
 // The next digits, at most k, with what is left out between them.
-fn some_digits(t: &[u8], i: usize, e: usize, a: &[u8], skip: usize, base: usize, k: usize) -> Digits
-    requires { ⌜ (i ≤ e) × (e ≤ length (now t)) × (base ≤ 64) × (k ≤ 8) × (256 ≤ length (now a)) ⌝ }
-    ensures { λ r. ⌜ Taken (now (a .entry)) skip base (now (t .entry)) i e k (r .at) (r .count) (r .number) ⌝ }
+fn some_digits(
+    t: &[u8],
+    i: usize,
+    e: usize,
+    alphabet: &[u8],
+    skip: usize,
+    base: usize,
+    k: usize,
+) -> Digits
+    requires { ⌜ (i ≤ e) × (e ≤ length (now t)) × (base ≤ 64) × (k ≤ 8) × (256 ≤ length (now alphabet)) ⌝ }
+    ensures { λ r. ⌜ Taken (now (alphabet .entry)) skip base (now (t .entry)) i e k (r .at) (r .count) (r .number) ⌝ }
 {
     let mut v = 0;
     let mut q = 0;
-    let mut j = kept_from(t, i, e, a, skip);
+    let mut j = kept_from(t, i, e, alphabet, skip);
     while q < k {
         if e <= j {
             return Digits {
@@ -121,7 +129,7 @@ fn some_digits(t: &[u8], i: usize, e: usize, a: &[u8], skip: usize, base: usize,
                 number: v,
             };
         }
-        let x = number_of(a, t[j]);
+        let x = number_of(alphabet, t[j]);
         if base <= x {
             return Digits {
                 at: j,
@@ -131,7 +139,7 @@ fn some_digits(t: &[u8], i: usize, e: usize, a: &[u8], skip: usize, base: usize,
         }
         v = v * base + x;
         q = q + 1;
-        j = kept_from(t, j + 1, e, a, skip);
+        j = kept_from(t, j + 1, e, alphabet, skip);
     }
     Digits {
         at: j,
@@ -141,18 +149,26 @@ fn some_digits(t: &[u8], i: usize, e: usize, a: &[u8], skip: usize, base: usize,
 }
 
 // The next digits, at most k; the quick way is tried first.
-fn take_digits(t: &[u8], i: usize, e: usize, a: &[u8], skip: usize, base: usize, k: usize) -> Digits
-    requires { ⌜ (i ≤ e) × (e ≤ length (now t)) × (base ≤ 64) × (k ≤ 8) × (256 ≤ length (now a)) ⌝ }
-    ensures { λ r. ⌜ Taken (now (a .entry)) skip base (now (t .entry)) i e k (r .at) (r .count) (r .number) ⌝ }
+fn take_digits(
+    t: &[u8],
+    i: usize,
+    e: usize,
+    alphabet: &[u8],
+    skip: usize,
+    base: usize,
+    k: usize,
+) -> Digits
+    requires { ⌜ (i ≤ e) × (e ≤ length (now t)) × (base ≤ 64) × (k ≤ 8) × (256 ≤ length (now alphabet)) ⌝ }
+    ensures { λ r. ⌜ Taken (now (alphabet .entry)) skip base (now (t .entry)) i e k (r .at) (r .count) (r .number) ⌝ }
 {
     if base <= skip {
-        let d = quick_digits(t, i, e, a, base, k);
+        let d = quick_digits(t, i, e, alphabet, base, k);
         let q = d.count;
         if 0 < q {
             return d;
         }
     }
-    some_digits(t, i, e, a, skip, base, k)
+    some_digits(t, i, e, alphabet, skip, base, k)
 }
 
 // Writes a number in g octets: with a constant for g the loop is unrolled.
@@ -206,24 +222,24 @@ pub fn groups(
     t: &[u8],
     i: usize,
     e: usize,
-    a: &[u8],
+    alphabet: &[u8],
     skip: usize,
     w: usize,
     base: usize,
     k: usize,
     g: usize,
 ) -> Front
-    requires { ⌜ (at ≤ 2 ^ 30) × (i ≤ e) × (e ≤ length (now t)) × (length (now t) ≤ 2 ^ 24) × (256 ≤ length (now a)) × Grouping w base k g ⌝ }
-    ensures { λ r. ⌜ Begun (now (out .entry)) (now (out .exit)) at (now (a .entry)) skip w base (now (t .entry)) i e k (r .at) (r .end) (r .count) (r .number) × (r .count < k) ⌝ }
+    requires { ⌜ (at ≤ 2 ^ 30) × (i ≤ e) × (e ≤ length (now t)) × (length (now t) ≤ 2 ^ 24) × (256 ≤ length (now alphabet)) × Grouping w base k g ⌝ }
+    ensures { λ r. ⌜ Begun (now (out .entry)) (now (out .exit)) at (now (alphabet .entry)) skip w base (now (t .entry)) i e k (r .at) (r .end) (r .count) (r .number) × (r .count < k) ⌝ }
 {
     let mut m = at;
-    let d = take_digits(t, i, e, a, skip, base, k);
+    let d = take_digits(t, i, e, alphabet, skip, base, k);
     let mut j = d.at;
     let mut q = d.count;
     let mut v = d.number;
     while k <= q {
         m = put_group(out, m, g, v);
-        let f = take_digits(t, j, e, a, skip, base, k);
+        let f = take_digits(t, j, e, alphabet, skip, base, k);
         j = f.at;
         q = f.count;
         v = f.number;
@@ -243,17 +259,17 @@ fn octets(
     t: &[u8],
     i: usize,
     e: usize,
-    a: &[u8],
+    alphabet: &[u8],
     skip: usize,
     w: usize,
     base: usize,
     k: usize,
     g: usize,
 ) -> Value
-    requires { ⌜ (at ≤ 2 ^ 30) × (i ≤ e) × (e ≤ length (now t)) × (length (now t) ≤ 2 ^ 24) × (256 ≤ length (now a)) × Grouping w base k g ⌝ }
-    ensures { λ r. ⌜ Values (now (out .entry)) (now (out .exit)) at r (octetsBy (now (a .entry)) skip w base (slice i e (now (t .entry)))) ⌝ }
+    requires { ⌜ (at ≤ 2 ^ 30) × (i ≤ e) × (e ≤ length (now t)) × (length (now t) ≤ 2 ^ 24) × (256 ≤ length (now alphabet)) × Grouping w base k g ⌝ }
+    ensures { λ r. ⌜ Values (now (out .entry)) (now (out .exit)) at r (octetsBy (now (alphabet .entry)) skip w base (slice i e (now (t .entry)))) ⌝ }
 {
-    let d = groups(out, at, t, i, e, a, skip, w, base, k, g);
+    let d = groups(out, at, t, i, e, alphabet, skip, w, base, k, g);
     let j = d.at;
     if j < e {
         return Value::Fault;
@@ -277,9 +293,9 @@ pub fn lettered(
     requires { ⌜ (at ≤ 2 ^ 30) × (i ≤ e) × (e ≤ length (now t)) × (length (now t) ≤ 2 ^ 24) × Grouping w base k g ⌝ }
     ensures { λ r. ⌜ Values (now (out .entry)) (now (out .exit)) at r (octetsBy letters skip w base (slice i e (now (t .entry)))) ⌝ }
 {
-    let a =
+    let alphabet =
         b"\x63\x63\x63\x63\x63\x63\x63\x63\x63\x40\x63\x63\x63\x63\x63\x63\x63\x63\x63\x63\x63\x63\x63\x63\x63\x63\x63\x63\x63\x63\x63\x63\x40\x63\x63\x63\x63\x63\x63\x63\x63\x63\x63\x63\x63\x63\x63\x63\x00\x01\x02\x03\x04\x05\x06\x07\x08\x09\x63\x63\x63\x63\x63\x63\x63\x0a\x0b\x0c\x0d\x0e\x0f\x10\x11\x12\x13\x14\x15\x16\x17\x18\x19\x1a\x1b\x1c\x1d\x1e\x1f\x63\x63\x63\x63\x63\x63\x63\x63\x63\x63\x0a\x0b\x0c\x0d\x0e\x0f\x10\x11\x12\x13\x14\x15\x16\x17\x18\x19\x1a\x1b\x1c\x1d\x1e\x1f\x63\x63\x63\x63\x63\x63\x63\x63\x63\x63\x63\x63\x63\x63\x63\x63\x63\x63\x63\x63\x63\x63\x63\x63\x63\x63\x63\x63\x63\x63\x63\x63\x63\x63\x63\x63\x63\x63\x63\x63\x63\x63\x63\x63\x63\x63\x63\x63\x63\x63\x63\x63\x63\x63\x63\x63\x63\x63\x63\x63\x63\x63\x63\x63\x63\x63\x63\x63\x63\x63\x63\x63\x63\x63\x63\x63\x63\x63\x63\x63\x63\x63\x63\x63\x63\x63\x63\x63\x63\x63\x63\x63\x63\x63\x63\x63\x63\x63\x63\x63\x63\x63\x63\x63\x63\x63\x63\x63\x63\x63\x63\x63\x63\x63\x63\x63\x63\x63\x63\x63\x63\x63\x63\x63\x63\x63\x63\x63\x63\x63\x63\x63\x63\x63\x63\x63\x63";
-    octets(out, at, t, i, e, a, skip, w, base, k, g)
+    octets(out, at, t, i, e, alphabet, skip, w, base, k, g)
 }
 
 // Reads digits, and stores the octets after their count, which is stored last.

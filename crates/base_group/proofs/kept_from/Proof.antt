@@ -33,7 +33,7 @@ returns c =
     let c3 = c .before .before .before in
     let c4 = c3 .before in
     let c7 = c4 .before .before .before in
-    front-off (leftOut (c7 .args .a .now) (c7 .args .skip)) _ _ _ (c3 .loop-test .taken) (c7 .pre .1)
+    front-off (leftOut (c7 .args .alphabet .now) (c7 .args .skip)) _ _ _ (c3 .loop-test .taken) (c7 .pre .1)
     (ne-eqb _ _ (λ q. c .if1 .taken (c .before .number-of .ensures ∙ q)))
     ∙ c4 .loop .inv .2
 
@@ -50,7 +50,7 @@ loop-again c =
     let c7 = c4 .before .before .before in (
       search needs,
       search needs,
-      front-on (leftOut (c7 .args .a .now) (c7 .args .skip)) _ _ _ (c3 .loop-test .taken) (c7 .pre .1)
+      front-on (leftOut (c7 .args .alphabet .now) (c7 .args .skip)) _ _ _ (c3 .loop-test .taken) (c7 .pre .1)
           (eq-eqb _ _ (sym (c .before .number-of .ensures) ∙ c .if1 .left))
           ∙ c4 .loop .inv .2,
     )
@@ -58,7 +58,7 @@ loop-again c =
 returns-2 : tie.Need-returns-2 Inv-loop μ-loop
 returns-2 c =
     let c4 = c .before .before .before .before in
-    front-end (leftOut (c4 .args .a .now) (c4 .args .skip)) _ _ _ (c .loop-test .left) ∙ c .before .loop .inv .2
+    front-end (leftOut (c4 .args .alphabet .now) (c4 .args .skip)) _ _ _ (c .loop-test .left) ∙ c .before .loop .inv .2
 
 pub kept-from-spec : {M : Type 1} → statement M
 kept-from-spec =

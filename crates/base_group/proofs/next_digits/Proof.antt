@@ -18,7 +18,7 @@ abbrev μ-loop : tie.MeasureT-loop
 loop-holds : tie.Need-loop-holds Inv-loop μ-loop
 loop-holds c =
     let c2 = c .before .before in
-    (search needs, λ skip h. quick-none (c2 .args .a .now) skip (c2 .args .base) (c2 .args .t .now) (c2 .args .i))
+    (search needs, λ skip h. quick-none (c2 .args .alphabet .now) skip (c2 .args .base) (c2 .args .t .now) (c2 .args .i))
 
 add-number-of : tie.Need-add-number-of Inv-loop μ-loop
 add-number-of c = search needs
@@ -38,7 +38,7 @@ mul-v c =
     let c7 = c4 .before .before .before in
     omega (
       arith,
-      taking-room (c7 .args .a .now) (c7 .args .base) (c7 .args .base) (c7 .args .t .now) (c7 .args .i + c4 .loop .q) (omega arith)
+      taking-room (c7 .args .alphabet .now) (c7 .args .base) (c7 .args .base) (c7 .args .t .now) (c7 .args .i + c4 .loop .q) (omega arith)
           (c7 .args .i) (c4 .loop .q) (c4 .loop .v) (c7 .args .i + c4 .loop .q) (c4 .loop .inv .1 (c7 .args .base) (omega arith))
           (c7 .pre .1) (omega arith),
     )
@@ -49,7 +49,7 @@ add-v c =
     let c7 = c4 .before .before .before in
     omega (
       arith,
-      taking-room (c7 .args .a .now) (c7 .args .base) (c7 .args .base) (c7 .args .t .now) (c7 .args .i + c4 .loop .q) (omega arith)
+      taking-room (c7 .args .alphabet .now) (c7 .args .base) (c7 .args .base) (c7 .args .t .now) (c7 .args .i + c4 .loop .q) (omega arith)
           (c7 .args .i) (c4 .loop .q) (c4 .loop .v) (c7 .args .i + c4 .loop .q) (c4 .loop .inv .1 (c7 .args .base) (omega arith))
           (c7 .pre .1) (omega arith),
     )
@@ -65,7 +65,7 @@ loop-again c =
     let c4 = c .before .before .before .before in
     let c7 = c4 .before .before .before in (
       search needs,
-      λ skip h. quick-next (c7 .args .a .now) skip (c7 .args .base) (c7 .args .t .now) (c7 .args .i) (c4 .loop .q) (c4 .loop .v)
+      λ skip h. quick-next (c7 .args .alphabet .now) skip (c7 .args .base) (c7 .args .t .now) (c7 .args .i) (c4 .loop .q) (c4 .loop .v)
           (c .before .number-of .result) (c4 .loop .inv .1 skip h) (omega arith) (c .before .number-of .ensures) (c .if1 .left) h,
     )
 
@@ -75,7 +75,7 @@ add-t13 c = search needs
 returns-2 : tie.Need-returns-2 Inv-loop μ-loop
 returns-2 c =
     let c4 = c .before .before .before .before in
-    λ h skip u e l. quick-taken (c4 .args .a .now) skip (c4 .args .base) (c4 .args .t .now) (c4 .args .i) (c4 .args .k) (c .before .loop .q)
+    λ h skip u e l. quick-taken (c4 .args .alphabet .now) skip (c4 .args .base) (c4 .args .t .now) (c4 .args .i) (c4 .args .k) (c .before .loop .q)
     (c .before .loop .v) e (c .before .loop .inv .1 skip u) (c .before .loop .inv .0) (c .loop-test .left) l
 
 pub next-digits-spec : {M : Type 1} → statement M

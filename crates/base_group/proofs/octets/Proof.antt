@@ -37,7 +37,7 @@ returns-2 c =
     let c4 = c2 .before .before in
     let c7 = c4 .before .before .before in
     let c12 = c7 .before .before .before .before .before in
-    begun-octets (c12 .args .out .now) (c12 .args .at) (c12 .args .a .now) (c12 .args .skip) (c12 .args .w) (c12 .args .base) (c12 .args .k)
+    begun-octets (c12 .args .out .now) (c12 .args .at) (c12 .args .alphabet .now) (c12 .args .skip) (c12 .args .w) (c12 .args .base) (c12 .args .k)
     (c12 .args .g) (c12 .pre .5) (c12 .args .t .now) (c12 .args .i) (c12 .args .e) (c12 .pre .1) (c12 .pre .2) (c7 .groups .last .0)
     (c7 .groups .result .at) (c7 .groups .result .end) (c7 .groups .result .count) (c7 .groups .result .number) (c7 .groups .ensures .0)
     (c4 .if1 .left) (c2 .finish .last .0) (c2 .finish .result) (c2 .finish .ensures)

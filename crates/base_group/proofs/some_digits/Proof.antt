@@ -50,7 +50,7 @@ mul-v c =
     let c9 = c5 .before .before .before .before in
     omega (
       arith,
-      taking-room (c9 .args .a .now) (c9 .args .skip) (c9 .args .base) (c9 .args .t .now) (c9 .args .e) (c9 .pre .1) _ _ _ _
+      taking-room (c9 .args .alphabet .now) (c9 .args .skip) (c9 .args .base) (c9 .args .t .now) (c9 .args .e) (c9 .pre .1) _ _ _ _
           (c5 .loop .inv .1) (c9 .pre .2) (omega arith),
     )
 
@@ -60,7 +60,7 @@ add-v c =
     let c9 = c5 .before .before .before .before in
     omega (
       arith,
-      taking-room (c9 .args .a .now) (c9 .args .skip) (c9 .args .base) (c9 .args .t .now) (c9 .args .e) (c9 .pre .1) _ _ _ _
+      taking-room (c9 .args .alphabet .now) (c9 .args .skip) (c9 .args .base) (c9 .args .t .now) (c9 .args .e) (c9 .pre .1) _ _ _ _
           (c5 .loop .inv .1) (c9 .pre .2) (omega arith),
     )
 

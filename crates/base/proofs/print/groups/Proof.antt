@@ -41,7 +41,7 @@ store-requires c κs =
     let c3 = c2 .before in
     let c7 = c3 .before .before .before .before in (
       omega (arith, times (8 * c7 .args .g / c7 .args .w) (c3 .loop .d) (c2 .loop-test .taken)),
-      some-chars _ _ (c7 .args .t .now) (c7 .args .p .now) (c7 .pre .0),
+      some-chars _ _ (c7 .args .alphabet .now) (c7 .args .p .now) (c7 .pre .0),
     )
 
 add-m : tie.Need-add-m Inv-loop μ-loop
@@ -71,12 +71,12 @@ loop-again c =
     let l = c6 .loop in
     let k = 8 * a .g / a .w in
     let s = times (a .g) (l .d) (c5 .loop-test .taken) in
-    let v = stored (a .w) (a .g) (a .t .now) (a .p .now) (c10 .pre .0) (l .out) _ (l .m) _ (slice (l .j) (l .j + a .g) (a .p .now))
+    let v = stored (a .w) (a .g) (a .alphabet .now) (a .p .now) (c10 .pre .0) (l .out) _ (l .m) _ (slice (l .j) (l .j + a .g) (a .p .now))
     (c3 .number-of .ensures) (c2 .store .ensures) in (
       omega arith,
       omega (arith, times k (l .d) (c5 .loop-test .taken), wrote-length v),
       left-piece _ _ _ _ (l .inv .2)
-          (next-group (a .w) (a .g) (a .t .now) (a .p .now) (c10 .pre .0) (l .j) (a .i + a .g * a .c) (omega arith) (omega arith)) v,
+          (next-group (a .w) (a .g) (a .alphabet .now) (a .p .now) (c10 .pre .0) (l .j) (a .i + a .g * a .c) (omega arith) (omega arith)) v,
     )
 
 same-length : tie.Need-same-length Inv-loop μ-loop
@@ -89,7 +89,7 @@ returns c =
     let z : c .before .loop .d ≡ 0 = omega arith in
     let q : c .before .loop .j + a .g * 0 ≡ a .i + a .g * a .c = rw z at (c .before .loop .inv .0) in
     left-none (c .before .loop .inv .2)
-    (no-group (a .w) (a .g) (a .t .now) (a .p .now) (c5 .pre .0) (c .before .loop .j) (a .i + a .g * a .c) (omega arith))
+    (no-group (a .w) (a .g) (a .alphabet .now) (a .p .now) (c5 .pre .0) (c .before .loop .j) (a .i + a .g * a .c) (omega arith))
 
 pub groups-spec : {M : Type 1} → statement M
 groups-spec =

@@ -18,7 +18,7 @@ returns c =
     let c4 = c2 .before .before in
     let c8 = c4 .before .before .before .before in
     let a = c8 .args in
-    rest-wrote (a .w) (a .g) (a .t .now) (a .p .now) (c8 .pre .0) (a .i) (a .e) _ _ (c4 .least .ensures) (omega arith) (omega arith)
+    rest-wrote (a .w) (a .g) (a .alphabet .now) (a .p .now) (c8 .pre .0) (a .i) (a .e) _ _ (c4 .least .ensures) (omega arith) (omega arith)
     (c8 .pre .5) refl (c2 .group .ensures)
 
 pub rest-spec : {M : Type 1} → statement M

@@ -49,7 +49,7 @@ loop-again c =
     let c3 = c2 .before in (
       search needs,
       simp length-set (omega arith),
-      last-digit (λ d. getD (c3 .args .t .now) d 0) _ _ _ _ _ _ (c .before .loop-test .taken) refl ∙ c2 .loop .inv .2,
+      last-digit (λ d. getD (c3 .args .alphabet .now) d 0) _ _ _ _ _ _ (c .before .loop-test .taken) refl ∙ c2 .loop .inv .2,
     )
 
 same-length : tie.Need-same-length Inv-loop μ-loop

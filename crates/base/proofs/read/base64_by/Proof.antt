@@ -41,7 +41,7 @@ returns c =
     let c9 = c5 .before .before .before .before in
     let c12 = c9 .before .before .before in
     let c14 = c12 .before .before in
-    base64-octets (c14 .args .a .now) (c14 .pre .3) (c14 .args .t .now) (c14 .args .i) (c14 .pre .1)
+    base64-octets (c14 .args .alphabet .now) (c14 .pre .3) (c14 .args .t .now) (c14 .args .i) (c14 .pre .1)
     (λ k. omega (arith, c12 .shared-slice-known .given k)) (c14 .args .out .now) (c9 .groups .last .0) (c14 .args .at)
     (c9 .groups .result .at) (c9 .groups .result .end) (c9 .groups .result .count) (c9 .groups .result .number) (c9 .groups .ensures .0)
     (c9 .groups .ensures .1) (sym (c5 .padded .ensures) ∙ c4 .if1 .taken) (c2 .finish .last .0) (c2 .finish .result)
@@ -52,7 +52,7 @@ returns-2 c =
     let c5 = c .before .before .before .before .before in
     let c8 = c5 .before .before .before in
     let c10 = c8 .before .before in
-    base64-unpadded (c10 .args .a .now) (c10 .pre .3) (c10 .args .t .now) (c10 .args .i) (c10 .pre .1)
+    base64-unpadded (c10 .args .alphabet .now) (c10 .pre .3) (c10 .args .t .now) (c10 .args .i) (c10 .pre .1)
     (λ k. omega (arith, c8 .shared-slice-known .given k)) (c10 .args .out .now) (c5 .groups .last .0) (c10 .args .at)
     (c5 .groups .result .at) (c5 .groups .result .end) (c5 .groups .result .count) (c5 .groups .result .number) (c5 .groups .ensures .0)
     (c5 .groups .ensures .1) (sym (c .before .padded .ensures) ∙ c .if1 .left)

@@ -20,13 +20,13 @@ kept-from-requires c κs = search needs
 loop-holds : tie.Need-loop-holds Inv-loop μ-loop
 loop-holds c =
     let c3 = c .before .before .before in
-    pads-all (leftOut (c3 .args .a .now) (c3 .args .skip)) _ _ (c3 .pre .1) _ _ _ (c3 .pre .0) (c .kept-from .ensures)
+    pads-all (leftOut (c3 .args .alphabet .now) (c3 .args .skip)) _ _ (c3 .pre .1) _ _ _ (c3 .pre .0) (c .kept-from .ensures)
 
 returns : tie.Need-returns Inv-loop μ-loop
 returns c =
     let c2 = c .before .before in
     let c6 = c2 .before .before .before .before in
-    pads-short (leftOut (c6 .args .a .now) (c6 .args .skip)) _ _ (c6 .pre .1) _ (c6 .args .k) _ _ (c2 .loop .inv) (c .if1 .taken)
+    pads-short (leftOut (c6 .args .alphabet .now) (c6 .args .skip)) _ _ (c6 .pre .1) _ (c6 .args .k) _ _ (c2 .loop .inv) (c .if1 .taken)
     (c .before .loop-test .taken)
 
 shared-slice-read-if2 : tie.Need-shared-slice-read-if2 Inv-loop μ-loop
@@ -37,7 +37,7 @@ returns-2 c =
     let c2 = c .before .before in
     let c4 = c2 .before .before in
     let c8 = c4 .before .before .before .before in
-    pads-other (leftOut (c8 .args .a .now) (c8 .args .skip)) _ _ (c8 .pre .1) _ (c8 .args .k) _ _ (c4 .loop .inv) (c2 .if1 .left)
+    pads-other (leftOut (c8 .args .alphabet .now) (c8 .args .skip)) _ _ (c8 .pre .1) _ (c8 .args .k) _ _ (c4 .loop .inv) (c2 .if1 .left)
     (c .if2 .taken)
 
 sub-q : tie.Need-sub-q Inv-loop μ-loop
@@ -58,21 +58,21 @@ loop-again c =
     let c4 = c3 .before in
     let c5 = c4 .before in
     let c9 = c5 .before .before .before .before in
-    pads-one (leftOut (c9 .args .a .now) (c9 .args .skip)) _ _ (c9 .pre .1) _ (c9 .args .k) _ _ (c5 .loop .inv) _ (c3 .if1 .left)
+    pads-one (leftOut (c9 .args .alphabet .now) (c9 .args .skip)) _ _ (c9 .pre .1) _ (c9 .args .k) _ _ (c5 .loop .inv) _ (c3 .if1 .left)
     (c .before .if2 .left) (c4 .loop-test .taken) (c .kept-from2 .ensures)
 
 returns-3 : tie.Need-returns-3 Inv-loop μ-loop
 returns-3 c =
     let c2 = c .before .before in
     let c6 = c2 .before .before .before .before in
-    pads-more (leftOut (c6 .args .a .now) (c6 .args .skip)) _ _ (c6 .pre .1) _ (c6 .args .k) _ _ (c2 .loop .inv) (c .if3 .taken)
+    pads-more (leftOut (c6 .args .alphabet .now) (c6 .args .skip)) _ _ (c6 .pre .1) _ (c6 .args .k) _ _ (c2 .loop .inv) (c .if3 .taken)
     (c .before .loop-test .left)
 
 returns-4 : tie.Need-returns-4 Inv-loop μ-loop
 returns-4 c =
     let c2 = c .before .before in
     let c6 = c2 .before .before .before .before in
-    pads-none (leftOut (c6 .args .a .now) (c6 .args .skip)) _ _ (c6 .pre .1) _ (c6 .args .k) _ _ (c2 .loop .inv) (c .if3 .left)
+    pads-none (leftOut (c6 .args .alphabet .now) (c6 .args .skip)) _ _ (c6 .pre .1) _ (c6 .args .k) _ _ (c2 .loop .inv) (c .if3 .left)
     (c .before .loop-test .left)
 
 pub padded-spec : {M : Type 1} → statement M
