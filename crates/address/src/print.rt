@@ -115,18 +115,18 @@ fn longest(p: &[u8], i: usize, e: usize) -> ZeroRun
 }
 
 // Writes eight groups, with `::` for the first of the longest runs of at least two zero groups.
-pub fn aaaa(out: &mut [u8], n: usize, p: &[u8], i: usize, e: usize) -> usize
-    requires { ⌜ (n < 2 ^ 30) × (e ≡ i + 16) × (e ≤ length (now p)) × (length (now p) ≤ 65535) ⌝ }
-    ensures { λ r. ⌜ Wrote (now (out .entry)) (now (out .exit)) n r (aaaaText (Address.groups (slice i e (now (p .entry))))) ⌝ }
+pub fn aaaa(out: &mut [u8], at: usize, p: &[u8], i: usize, e: usize) -> usize
+    requires { ⌜ (at < 2 ^ 30) × (e ≡ i + 16) × (e ≤ length (now p)) × (length (now p) ≤ 65535) ⌝ }
+    ensures { λ r. ⌜ Wrote (now (out .entry)) (now (out .exit)) at r (aaaaText (Address.groups (slice i e (now (p .entry))))) ⌝ }
 {
     let run = longest(p, i, e);
-    let at = run.at;
+    let from = run.at;
     let count = run.count;
     if count < 2 {
-        return groups(out, n, p, i, e);
+        return groups(out, at, p, i, e);
     }
-    let a = groups(out, n, p, i, at);
+    let a = groups(out, at, p, i, from);
     let b = put_octet(out, a, b':');
     let c = put_octet(out, b, b':');
-    groups(out, c, p, at + 2 * count, e)
+    groups(out, c, p, from + 2 * count, e)
 }

@@ -22,7 +22,7 @@ pub enum Take {
 // Takes w octets of any value, which need not be looked at.
 fn octets(i: usize, e: usize, w: usize) -> Take
     requires { ⌜ (i ≤ e) × (1 ≤ w) ⌝ }
-    ensures { λ r. ⌜ ((s : List ℕ) → e ≤ length s → takenIn r ≡ taken (anyOctets w) (slice i e s)) ⌝ }
+    ensures { λ r. ⌜ ((p : List ℕ) → e ≤ length p → takenIn r ≡ taken (anyOctets w) (slice i e p)) ⌝ }
 {
     if e - i < w {
         return Take::Missing;
@@ -33,7 +33,7 @@ fn octets(i: usize, e: usize, w: usize) -> Take
 // Takes all octets to the end, at least one.
 fn rest(i: usize, e: usize) -> Take
     requires { ⌜ i ≤ e ⌝ }
-    ensures { λ r. ⌜ ((s : List ℕ) → e ≤ length s → takenIn r ≡ taken (toTheEnd false) (slice i e s)) ⌝ }
+    ensures { λ r. ⌜ ((p : List ℕ) → e ≤ length p → takenIn r ≡ taken (toTheEnd false) (slice i e p)) ⌝ }
 {
     if i < e {
         return Take::Took(e - i);
@@ -42,14 +42,14 @@ fn rest(i: usize, e: usize) -> Take
 }
 
 // Takes a count of at least lo, and as many octets.
-fn counted(s: &[u8], i: usize, e: usize, lo: u8) -> Take
-    requires { ⌜ (i ≤ e) × (e ≤ length (now s)) ⌝ }
-    ensures { λ r. ⌜ takenIn r ≡ taken (count lo) (slice i e (now (s .entry))) ⌝ }
+fn counted(p: &[u8], i: usize, e: usize, lo: u8) -> Take
+    requires { ⌜ (i ≤ e) × (e ≤ length (now p)) ⌝ }
+    ensures { λ r. ⌜ takenIn r ≡ taken (count lo) (slice i e (now (p .entry))) ⌝ }
 {
     if e <= i {
         return Take::Missing;
     }
-    let b = s[i];
+    let b = p[i];
     if b < lo {
         return Take::Fault;
     }
@@ -61,9 +61,9 @@ fn counted(s: &[u8], i: usize, e: usize, lo: u8) -> Take
 }
 
 // Takes a name: labels, each after its length, and the closing zero; or nothing, if it is optional.
-pub fn name(s: &[u8], i: usize, e: usize, optional: bool) -> Take
-    requires { ⌜ (i ≤ e) × (e ≤ length (now s)) ⌝ }
-    ensures { λ r. ⌜ takenIn r ≡ taken (labelLength optional 0) (slice i e (now (s .entry))) ⌝ }
+pub fn name(p: &[u8], i: usize, e: usize, optional: bool) -> Take
+    requires { ⌜ (i ≤ e) × (e ≤ length (now p)) ⌝ }
+    ensures { λ r. ⌜ takenIn r ≡ taken (labelLength optional 0) (slice i e (now (p .entry))) ⌝ }
 {
     if e <= i {
         if optional {
@@ -73,7 +73,7 @@ pub fn name(s: &[u8], i: usize, e: usize, optional: bool) -> Take
     }
     let mut j = i;
     while j < e {
-        let n = s[j] as usize;
+        let n = p[j] as usize;
         if n < 1 {
             return Take::Took(j - i + 1);
         }
@@ -92,16 +92,16 @@ pub fn name(s: &[u8], i: usize, e: usize, optional: bool) -> Take
 }
 
 // Takes counted strings to the end, at least one.
-fn strings(s: &[u8], i: usize, e: usize) -> Take
-    requires { ⌜ (i ≤ e) × (e ≤ length (now s)) ⌝ }
-    ensures { λ r. ⌜ takenIn r ≡ taken (stringCount false) (slice i e (now (s .entry))) ⌝ }
+fn strings(p: &[u8], i: usize, e: usize) -> Take
+    requires { ⌜ (i ≤ e) × (e ≤ length (now p)) ⌝ }
+    ensures { λ r. ⌜ takenIn r ≡ taken (stringCount false) (slice i e (now (p .entry))) ⌝ }
 {
     if e <= i {
         return Take::Missing;
     }
     let mut j = i;
     while j < e {
-        let n = s[j] as usize;
+        let n = p[j] as usize;
         if e - j <= n {
             return Take::Missing;
         }
@@ -111,21 +111,21 @@ fn strings(s: &[u8], i: usize, e: usize) -> Take
 }
 
 // Takes blocks to the end: a window higher than those before, a count of 1 to 32, and octets of which the last is not zero.
-fn bitmap(s: &[u8], i: usize, e: usize) -> Take
-    requires { ⌜ (i ≤ e) × (e ≤ length (now s)) ⌝ }
-    ensures { λ r. ⌜ takenIn r ≡ taken (window 0) (slice i e (now (s .entry))) ⌝ }
+fn bitmap(p: &[u8], i: usize, e: usize) -> Take
+    requires { ⌜ (i ≤ e) × (e ≤ length (now p)) ⌝ }
+    ensures { λ r. ⌜ takenIn r ≡ taken (window 0) (slice i e (now (p .entry))) ⌝ }
 {
     let mut lo: usize = 0;
     let mut j = i;
     while j < e {
-        let w = s[j] as usize;
+        let w = p[j] as usize;
         if w < lo {
             return Take::Fault;
         }
         if e - j < 2 {
             return Take::Missing;
         }
-        let n = s[j + 1] as usize;
+        let n = p[j + 1] as usize;
         if n < 1 {
             return Take::Fault;
         }
@@ -135,7 +135,7 @@ fn bitmap(s: &[u8], i: usize, e: usize) -> Take
         if e - j < 2 + n {
             return Take::Missing;
         }
-        if s[j + 1 + n] == 0 {
+        if p[j + 1 + n] == 0 {
             return Take::Fault;
         }
         lo = w + 1;
@@ -155,19 +155,19 @@ fn width(w: u8) -> usize
 }
 
 // Takes a field of the form f, by its shape.
-pub fn take_field(f: Form, s: &[u8], i: usize, e: usize) -> Take
-    requires { ⌜ (i ≤ e) × (e ≤ length (now s)) ⌝ }
-    ensures { λ r. ⌜ ((l : List Symbol) → takenIn r ≡ taken (start (kindOf l f)) (slice i e (now (s .entry)))) ⌝ }
+pub fn take_field(f: Form, p: &[u8], i: usize, e: usize) -> Take
+    requires { ⌜ (i ≤ e) × (e ≤ length (now p)) ⌝ }
+    ensures { λ r. ⌜ ((l : List Symbol) → takenIn r ≡ taken (start (kindOf l f)) (slice i e (now (p .entry)))) ⌝ }
 {
     let y = stanza_form::layout_of(f);
     let k = y.shape;
-    let p = y.parameter;
+    let a = y.parameter;
     match k {
-        Shape::Octets => octets(i, e, width(p)),
-        Shape::Labels => name(s, i, e, stanza_form::is_optional(p)),
-        Shape::Counted => counted(s, i, e, p),
-        Shape::Strings => strings(s, i, e),
+        Shape::Octets => octets(i, e, width(a)),
+        Shape::Labels => name(p, i, e, stanza_form::is_optional(a)),
+        Shape::Counted => counted(p, i, e, a),
+        Shape::Strings => strings(p, i, e),
         Shape::Rest => rest(i, e),
-        Shape::Windows => bitmap(s, i, e),
+        Shape::Windows => bitmap(p, i, e),
     }
 }

@@ -292,11 +292,11 @@ pub fn read(line: &[u8], octets: &mut [u8]) -> Request
 }
 
 // The place of the first LF from i on, or the length if there is none.
-pub fn line_end(s: &[u8], i: usize) -> usize
-    requires { ⌜ i ≤ length (now s) ⌝ }
-    ensures { λ r. ⌜ (i ≤ r) × (r ≤ length (now (s .entry))) × (r ≡ lineEnd (now (s .entry)) i) ⌝ }
+pub fn line_end(xs: &[u8], i: usize) -> usize
+    requires { ⌜ i ≤ length (now xs) ⌝ }
+    ensures { λ r. ⌜ (i ≤ r) × (r ≤ length (now (xs .entry))) × (r ≡ lineEnd (now (xs .entry)) i) ⌝ }
 {
-    octets::line_end(s, i)
+    octets::line_end(xs, i)
 }
 
 // Moves the octets from `start` on, which begin a line, to the front, and returns how many are kept: of a line that is too long

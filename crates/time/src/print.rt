@@ -124,16 +124,16 @@ fn day_of(d: u64) -> Day
 }
 
 // Writes a day and the seconds of that day as 14 digits.
-fn moment(out: &mut [u8], at: usize, month: u64, day: u64, s: u64) -> usize
+fn moment(out: &mut [u8], at: usize, month: u64, day: u64, seconds: u64) -> usize
     requires { ⌜ (at < 2 ^ 30) × (day < 31) ⌝ }
-    ensures { λ r. ⌜ Wrote (now (out .entry)) (now (out .exit)) at r (momentText (record { month = month; day = day }) s) ⌝ }
+    ensures { λ r. ⌜ Wrote (now (out .entry)) (now (out .exit)) at r (momentText (record { month = month; day = day }) seconds) ⌝ }
 {
     let a = put_fixed(out, at, 4, 1970 + month / 12);
     let b = put_fixed(out, a, 2, month % 12 + 1);
     let c = put_fixed(out, b, 2, day + 1);
-    let d = put_fixed(out, c, 2, s / 3600);
-    let e = put_fixed(out, d, 2, s / 60 % 60);
-    put_fixed(out, e, 2, s % 60)
+    let d = put_fixed(out, c, 2, seconds / 3600);
+    let e = put_fixed(out, d, 2, seconds / 60 % 60);
+    put_fixed(out, e, 2, seconds % 60)
 }
 
 // Writes the time in the four octets from i to e.

@@ -14,11 +14,11 @@ use Rattle.field_wire.proofs.bitmap.Lts as lts
 
 -- The field takes the octets from i to j, and then what blocks with windows of at least lo take from j on.
 abbrev Inv-loop : tie.InvT-loop
-Inv-loop s i e lo₀ j₀ lo j =
-    (i ≤ j) × (j ≤ e) × (lo ≤ 256) × (taken (window 0) (slice i e s) ≡ plus (j - i) (taken (window lo) (slice j e s)))
+Inv-loop p i e lo₀ j₀ lo j =
+    (i ≤ j) × (j ≤ e) × (lo ≤ 256) × (taken (window 0) (slice i e p) ≡ plus (j - i) (taken (window lo) (slice j e p)))
 
 abbrev μ-loop : tie.MeasureT-loop
-μ-loop s i e lo₀ j₀ lo j = e - j
+μ-loop p i e lo₀ j₀ lo j = e - j
 
 loop-holds : tie.Need-loop-holds Inv-loop μ-loop
 loop-holds c = (search needs, (c .pre .0), search needs, at-first _ _)

@@ -13,12 +13,12 @@ use Rattle.field_wire.proofs.name.Lts as lts
 
 -- The name takes the labels from i to j, and then what the rest of a name, after these octets, takes from j on.
 abbrev Inv-loop : tie.InvT-loop
-Inv-loop s i e optional j₀ j =
+Inv-loop p i e optional j₀ j =
     (i ≤ j) × (j ≤ e) × (j - i ≤ 255)
-    × (taken (labelLength optional 0) (slice i e s) ≡ plus (j - i) (taken (labelLength false (j - i)) (slice j e s)))
+    × (taken (labelLength optional 0) (slice i e p) ≡ plus (j - i) (taken (labelLength false (j - i)) (slice j e p)))
 
 abbrev μ-loop : tie.MeasureT-loop
-μ-loop s i e optional j₀ j = e - j
+μ-loop p i e optional j₀ j = e - j
 
 returns : tie.Need-returns Inv-loop μ-loop
 returns c =

@@ -9,10 +9,10 @@ use Rattle.field_wire.proofs.rest.Reads as reads
 use Rattle.field_wire.proofs.rest.Lts as lts
 
 returns : tie.Need-returns
-returns c = λ s l. rest-all _ _ _ l (c .if1 .taken)
+returns c = λ p l. rest-all _ _ _ l (c .if1 .taken)
 
 returns-2 : tie.Need-returns-2
-returns-2 c = λ s l. nothing _ _ _ l (toTheEnd false) false refl (c .if1 .left)
+returns-2 c = λ p l. nothing _ _ _ l (toTheEnd false) false refl (c .if1 .left)
 
 pub rest-spec : {M : Type 1} → statement M
 rest-spec = tie.close (tie.spec (λ c. search needs) returns returns-2)

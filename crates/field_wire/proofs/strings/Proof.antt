@@ -13,10 +13,10 @@ use Rattle.field_wire.proofs.strings.Lts as lts
 
 -- The field takes the strings from i to j, and then what more strings, or none, take from j on.
 abbrev Inv-loop : tie.InvT-loop
-Inv-loop s i e j₀ j = (i ≤ j) × (j ≤ e) × (taken (stringCount false) (slice i e s) ≡ plus (j - i) (taken (stringCount true) (slice j e s)))
+Inv-loop p i e j₀ j = (i ≤ j) × (j ≤ e) × (taken (stringCount false) (slice i e p) ≡ plus (j - i) (taken (stringCount true) (slice j e p)))
 
 abbrev μ-loop : tie.MeasureT-loop
-μ-loop s i e j₀ j = e - j
+μ-loop p i e j₀ j = e - j
 
 returns : tie.Need-returns Inv-loop μ-loop
 returns c = nothing _ _ _ (c .before .pre .1) (stringCount false) false refl (c .if1 .taken)

@@ -11,7 +11,7 @@ returns : tie.Need-returns
 returns c =
     let c2 = c .before .before in (
       search needs,
-      omega (arith, front-within (inClass NotNewline) (c2 .args .s .now) (c2 .args .i) (length (c2 .args .s .now)) (c2 .pre) (omega arith)),
+      omega (arith, front-within (inClass NotNewline) (c2 .args .xs .now) (c2 .args .i) (length (c2 .args .xs .now)) (c2 .pre) (omega arith)),
       c .line-end .ensures,
     )
 
