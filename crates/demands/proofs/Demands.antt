@@ -1,25 +1,34 @@
--- Demands 2 and 3 over what `print` and `read` promise, proved from these promises alone.
+-- The demands over the promises of the entries, proved from these promises alone.
 use Prim.Native.Nat.{ℕ, _+_, _-_, _≤_, _<_}
-use mathlib.Core.Path.{_≡_, refl, sym, ap, _∙_}
-use mathlib.Core.Logic.{_⊎_, inl, inr}
-use mathlib.Core.Bool.{Bool, true, false, _||_, true≢false}
+use mathlib.Core.Path.{_≡_, refl, sym, ap, subst, _∙_}
+use mathlib.Core.Logic.{_↔_, _⊎_, inl, inr}
+use mathlib.Core.Bool.{Bool, true, false, not, cond, _||_, true≢false}
 use mathlib.Core.List.{List, [], _∷_, _++_, append-nil, append-assoc}
 use native.Mathlib.Omega.{arith}
 use native.Mathlib.Nat.{add-zero}
 use native.Mathlib.Decide.{decLe}
 use lib.ListN.{length, take, drop, length-take, take-append-drop}
 use lib.Seq.{take-at, drop-at}
-use lib.Dec.{eqb}
-use borrow.Author.Tests.{eqb-true, le-leb}
-use Rattle.format.specs.Octets.{among}
+use lib.Dec.{eqb, leb}
+use borrow.Author.Tests.{eqb-true, eq-eqb, le-leb, leb-true, leb-false}
+use Rattle.format.specs.Lists.{allOf}
+use Rattle.format.specs.Octets.{Octets, among}
 use Rattle.format.specs.Field.{Kind, kinds}
-use Rattle.format.specs.Judge.{Description, described, judged}
-use Rattle.format.specs.Run.{maxRdata, accepts, joined, textOf}
-use Rattle.format.specs.Entries.{done, room, stored, isRun, run, printing, print, reading, read}
+use Rattle.format.specs.Wire.{taken as wireTaken}
+use Rattle.format.specs.Name.{isWireName}
+use Rattle.format.specs.Judge.{Description, Judged, rejected, described, judged}
+use Rattle.format.specs.Run.{partsOf, isParts, maxRdata, accepts, joined, textOf}
+use Rattle.format.specs.Entries.{Answer, done, refusal, maxText, room, stored, isRun, run, ifRoom, outcome, printing, print, reading, read, judgeOutcome, judge}
 use Rattle.format.specs.Demands.{Prints, RoundTrip, Divides, wholeList, firstList, secondList, Cuts}
+use Rattle.format.proofs.Lists.{and-left}
+use Rattle.format.proofs.Judge.{judges}
 use Rattle.format.proofs.Demands.{demand-2, demand-3, prints, read-accepted, kinds-length}
-use Rattle.demands.specs.Demands.{Call, accepted, written, Answers, CutCalls, EmptyCall, Demand3, ReadCall, rdataOf, Demand2, OneText, ReadAccepted}
-use Rattle.entry.proofs.Numbers.{print-told, read-told, zero-done, HasRun, print-run, read-run}
+use Rattle.demands.specs.Demands.{JudgeCall, PrintCall, ReadCall, Answered, Keeps, FirstDemand, taken, accepted, written, rdataOf, Answers, Returns, RunOf, SecondDemand, CutCalls, EmptyCall, ThirdDemand}
+use Rattle.entry.specs.declared.Reply.{Reply}
+use Rattle.entry.specs.Entries.{Replies, Leaves}
+use Rattle.entry.specs.Refusals.{no-room, judgeNumbers, printNumbers, readNumbers}
+use Rattle.entry.proofs.Refusals.{apart, Row, row-wider, stanza-rejected, printRefusals, readRefusals, Rows, print-rows, read-rows, not-zero}
+use Rattle.entry.proofs.Numbers.{print-told, read-told, zero-done, HasRun, print-run, read-short, read-run}
 
 -- the octets of a stored text
 stored-text : (out : List ℕ) (at : ℕ) (t : List ℕ) → length t ≤ room out at → take (length t) (drop at (stored out at t)) ≡ t
@@ -34,16 +43,9 @@ nothing-stored out at = ap (λ i. take at out ++ [] ++ drop i out) (add-zero at)
 
 -- 1, 8, 9 and 10 are neither 0 nor 12
 no-answer : (n : ℕ) → among n (1 ∷ 8 ∷ 9 ∷ 10 ∷ []) ≡ true → among n (0 ∷ 12 ∷ []) ≡ false
-no-answer n h = by (eqb n 1) (eqb n 8) (eqb n 9) (eqb n 10) refl refl refl refl h
-  where
-    by : (a b c d : Bool) → eqb n 1 ≡ a → eqb n 8 ≡ b → eqb n 9 ≡ c → eqb n 10 ≡ d → a || (b || (c || (d || false))) ≡ true → among n (0 ∷ 12 ∷ []) ≡ false
-    by true b c d p q r s e = rw (eqb-true n 1 p)
-    by false true c d p q r s e = rw (eqb-true n 8 q)
-    by false false true d p q r s e = rw (eqb-true n 9 r)
-    by false false false true p q r s e = rw (eqb-true n 10 s)
-    by false false false false p q r s e = absurd (true≢false (sym e))
+no-answer n h = apart n (1 ∷ 8 ∷ 9 ∷ 10 ∷ []) (0 ∷ 12 ∷ []) refl h
 
-module _ (ks : List Kind) (stanza : List ℕ) (first many : ℕ) (xs : List ℕ) (p : Prints stanza first many ks xs) (c : Call stanza first many xs) where
+module _ (ks : List Kind) (stanza : List ℕ) (first many : ℕ) (xs : List ℕ) (p : Prints stanza first many ks xs) (c : PrintCall stanza first many xs) where
   -- the three ways to answer
   data Way : Type 0 where
     written-text : accepts ks xs ≡ true → length (textOf ks xs) ≤ room (c .out) (c .at) → c .reply .number ≡ 0 → c .reply .place ≡ length (textOf ks xs)
@@ -88,7 +90,7 @@ module _ (ks : List Kind) (stanza : List ℕ) (first many : ℕ) (xs : List ℕ)
       }
 
 -- if a call answers 0, its list accepts
-done-accepts : (ks : List Kind) (stanza : List ℕ) (first many : ℕ) (xs : List ℕ) (c : Call stanza first many xs) → Answers ks stanza first many xs c → c .reply .number ≡ 0 → accepts ks xs ≡ true
+done-accepts : (ks : List Kind) (stanza : List ℕ) (first many : ℕ) (xs : List ℕ) (c : PrintCall stanza first many xs) → Answers ks stanza first many xs c → c .reply .number ≡ 0 → accepts ks xs ≡ true
 done-accepts ks stanza first many xs c a z = sym (a .exactly) ∙ rw z
 
 module _ (stanza : List ℕ) (d : Description) (j : judged stanza ≡ described d) (k : ℕ) (h : k ≤ length (d .fields)) (xs : List ℕ) (m : length xs ≤ maxRdata) where
@@ -98,7 +100,7 @@ module _ (stanza : List ℕ) (d : Description) (j : judged stanza ≡ described 
   cuts : Cuts stanza (kinds (d .fields)) k xs
   cuts = demand-3 stanza d j k h xs m
 
-  module _ (whole : Call stanza 1 (length (kinds (d .fields))) xs) (front : (e : ℕ) → Call stanza 1 k (take e xs)) (back : (e : ℕ) → Call stanza (k + 1) (length (kinds (d .fields)) - k) (drop e xs)) where
+  module _ (whole : PrintCall stanza 1 (length (kinds (d .fields))) xs) (front : (e : ℕ) → PrintCall stanza 1 k (take e xs)) (back : (e : ℕ) → PrintCall stanza (k + 1) (length (kinds (d .fields)) - k) (drop e xs)) where
     whole-way : Answers (wholeList (kinds (d .fields))) stanza 1 (length (kinds (d .fields))) xs whole
     whole-way = answers (wholeList (kinds (d .fields))) stanza 1 (length (kinds (d .fields))) xs (cuts .whole-prints) whole
 
@@ -129,7 +131,7 @@ module _ (stanza : List ℕ) (d : Description) (j : judged stanza ≡ described 
         by f (inl a) = inl (front-way f .exactly ∙ a)
         by f (inr b) = inr (back-way f .exactly ∙ b)
 
-  empty-call : (c : Call stanza (k + 1) 0 xs) → EmptyCall stanza k xs c
+  empty-call : (c : PrintCall stanza (k + 1) 0 xs) → EmptyCall stanza k xs c
   empty-call c = record { only = (λ e. cuts .nothing .0 (sym (way-to .exactly) ∙ e), λ e. way-to .exactly ∙ cuts .nothing .1 e); none = λ e. by e (cuts .nothing .0 (sym (way-to .exactly) ∙ e)) }
     where
       is-run : isRun (k + 1) 0 (kinds (d .fields)) ≡ true
@@ -153,37 +155,38 @@ module _ (stanza : List ℕ) (d : Description) (j : judged stanza ≡ described 
           on false a true p f = absurd (omega (arith, way-to .needed (eqb-true (c .reply .number) 12 p) .1, text-none q))
           on false a false p f = absurd (true≢false (sym f))
 
-pub demand-3-of-print : Demand3
-demand-3-of-print s d j k h xs m = (λ whole front back. cut-calls s d j k h xs m whole front back, λ c. empty-call s d j k h xs m c)
+pub third-demand : ThirdDemand
+third-demand s d j k h xs m = (λ whole front back. cut-calls s d j k h xs m whole front back, λ c. empty-call s d j k h xs m c)
 
 -- a run of an accepted stanza
 module _ (stanza : List ℕ) (first many : ℕ) (h : HasRun stanza first many) where
   abbrev run-kinds : List Kind
   run-kinds = run first many (kinds (h .description .fields))
 
-  run-answers : (xs : List ℕ) (c : Call stanza first many xs) → Answers run-kinds stanza first many xs c
+  run-answers : (xs : List ℕ) (c : PrintCall stanza first many xs) → Answers run-kinds stanza first many xs c
   run-answers xs c = answers run-kinds stanza first many xs (prints stanza (h .description) (h .accepted) first many (h .run) xs) c
 
 -- a call that answers 0 is on such a run
-printed-run : (stanza : List ℕ) (first many : ℕ) (xs : List ℕ) (c : Call stanza first many xs) → c .reply .number ≡ 0 → HasRun stanza first many
+printed-run : (stanza : List ℕ) (first many : ℕ) (xs : List ℕ) (c : PrintCall stanza first many xs) → c .reply .number ≡ 0 → HasRun stanza first many
 unfolding print
 printed-run stanza first many xs c z =
     let (t, e, l) = zero-done (printing stanza first many xs) (print-told stanza first many xs) (c .out) (c .at) (sym (c .promise .numbers) ∙ z) in print-run stanza first many xs t e
 
-pub one-text-of-print : OneText
-one-text-of-print stanza first many xs p q y z =
+one-text : (stanza : List ℕ) (first many : ℕ) (xs : List ℕ) (p q : PrintCall stanza first many xs) → p .reply .number ≡ 0 → q .reply .number ≡ 0 → written p ≡ written q
+one-text stanza first many xs p q y z =
     let h = printed-run stanza first many xs p y in
     run-answers stanza first many h xs p .text y .1 ∙ sym (run-answers stanza first many h xs q .text z .1)
 
-pub demand-2-of-entries : Demand2
-demand-2-of-entries stanza first many xs b p z origin w q = record {
+returned : (stanza : List ℕ) (first many : ℕ) (xs : List ℕ) → Octets xs → (p : PrintCall stanza first many xs) → p .reply .number ≡ 0 → (origin : List ℕ) → isWireName origin ≡ true
+    → (q : ReadCall stanza first many origin (written p)) → Returns stanza first many origin (written p) xs q
+returned stanza first many xs b p z origin w q = record {
   enough-room = λ l.
-      let e = reads ∙ trip .reads taken origin w (q .out) (q .at) l in
+      let e = reads ∙ trip .reads in-list origin w (q .out) (q .at) l in
       let n = q .promise .places ∙ ap (λ o. o .place) e in
       let r = q .promise .octets ∙ ap (λ o. o .lent) e in
       (q .promise .numbers ∙ ap (λ o. o .number) e, n, rw (n, r) (stored-text (q .out) (q .at) xs l), r);
   no-room = λ l.
-      let e = reads ∙ trip .reads-no-room taken origin w (q .out) (q .at) l in
+      let e = reads ∙ trip .reads-no-room in-list origin w (q .out) (q .at) l in
       (q .promise .numbers ∙ ap (λ o. o .number) e, q .promise .places ∙ ap (λ o. o .place) e, q .promise .octets ∙ ap (λ o. o .lent) e);
 }
   where
@@ -196,8 +199,8 @@ demand-2-of-entries stanza first many xs b p z origin w q = record {
     a : Answers ks stanza first many xs p
     a = run-answers stanza first many h xs p
 
-    taken : accepts ks xs ≡ true
-    taken = done-accepts ks stanza first many xs p a z
+    in-list : accepts ks xs ≡ true
+    in-list = done-accepts ks stanza first many xs p a z
 
     trip : RoundTrip stanza first many ks xs
     trip = demand-2 stanza (h .description) (h .accepted) first many (h .run) xs b
@@ -218,8 +221,193 @@ read-done stanza first many origin text c z =
         let r = c .promise .octets ∙ ap (λ o. o .lent) f in
         rw (n, r, stored-text (c .out) (c .at) xs l) e
 
-pub read-accepted-of-entries : ReadAccepted
-read-accepted-of-entries stanza first many origin text q z p =
+reads-accepted : (stanza : List ℕ) (first many : ℕ) (origin text : List ℕ) (q : ReadCall stanza first many origin text) → q .reply .number ≡ 0
+    → (p : PrintCall stanza first many (rdataOf q)) → accepted p ≡ true
+reads-accepted stanza first many origin text q z p =
     let e = read-done stanza first many origin text q z in
     let h = read-run stanza first many origin text (rdataOf q) e in
     run-answers stanza first many h (rdataOf q) p .exactly ∙ read-accepted stanza (h .description) (h .accepted) first many origin text (rdataOf q) e
+
+-- what the definition's answer means for a call: a result, given room; want of room; or a refusal
+data Came (a : Answer) (out : List ℕ) (at : ℕ) (r : Reply) (after : List ℕ) : Type 0 where
+  gives : (t : List ℕ) → a ≡ done t → length t ≤ room out at → r .number ≡ 0 → r .place ≡ length t → after ≡ stored out at t → Came a out at r after
+  lacks : (t : List ℕ) → a ≡ done t → room out at < length t → r .number ≡ 12 → r .place ≡ length t → after ≡ out → Came a out at r after
+  refuses : (n i : ℕ) → a ≡ refusal n i → r .number ≡ n → r .place ≡ i → after ≡ out → Came a out at r after
+
+came : (a : Answer) (out : List ℕ) (at : ℕ) (r : Reply) (after : List ℕ) → Leaves r after (outcome out at (ifRoom (room out at) a)) → Came a out at r after
+came (refusal n i) out at r after w = refuses n i refl (w .numbers) (w .places) (w .octets)
+came (done t) out at r after w = by (leb (length t) (room out at)) refl w
+  where
+    by : (b : Bool) → leb (length t) (room out at) ≡ b → Leaves r after (outcome out at (cond b (done t) (refusal 12 (length t)))) → Came (done t) out at r after
+    by true l w = gives t refl (leb-true (length t) (room out at) l) (w .numbers) (w .places) (w .octets)
+    by false l w = lacks t refl (leb-false (length t) (room out at) l) (w .numbers) (w .places) (w .octets)
+
+print-came : {stanza : List ℕ} {first many : ℕ} {xs : List ℕ} (c : PrintCall stanza first many xs) → Came (printing stanza first many xs) (c .out) (c .at) (c .reply) (c .after)
+unfolding print
+print-came c = came _ (c .out) (c .at) (c .reply) (c .after) (c .promise)
+
+read-came : {stanza : List ℕ} {first many : ℕ} {origin text : List ℕ} (c : ReadCall stanza first many origin text)
+    → Came (reading stanza first many origin text) (c .out) (c .at) (c .reply) (c .after)
+unfolding read
+read-came c = came _ (c .out) (c .at) (c .reply) (c .after) (c .promise)
+
+-- the root is a wire name
+root-name : isWireName (0 ∷ []) ≡ true
+unfolding wireTaken
+root-name = refl
+
+-- a printed text has at most 1,048,576 octets: it would not be read back else
+print-length : (stanza : List ℕ) (first many : ℕ) (xs : List ℕ) → Octets xs → (t : List ℕ) → printing stanza first many xs ≡ done t → length t ≤ maxText
+unfolding print read
+print-length stanza first many xs b t e = omega (arith, a .text refl .0, read-short stanza first many (0 ∷ []) (textOf ks xs) (back .0) (back .1))
+  where
+    h : HasRun stanza first many
+    h = print-run stanza first many xs t e
+
+    ks : List Kind
+    ks = run-kinds stanza first many h
+
+    c : PrintCall stanza first many xs
+    c = record {
+      out = t;
+      at = 0;
+      reply = record { number = 0; place = length t };
+      after = stored t 0 t;
+      promise = rw (e, le-leb (length t) (length t - 0) (omega arith)) (record { numbers = refl; places = refl; octets = refl });
+    }
+
+    a : Answers ks stanza first many xs c
+    a = run-answers stanza first many h xs c
+
+    trip : RoundTrip stanza first many ks xs
+    trip = demand-2 stanza (h .description) (h .accepted) first many (h .run) xs b
+
+    back : (ys : List ℕ) × (reading stanza first many (0 ∷ []) (textOf ks xs) ≡ done ys) × (length ys ≤ room xs 0)
+    back =
+        zero-done (reading stanza first many (0 ∷ []) (textOf ks xs)) (read-told stanza first many (0 ∷ []) (textOf ks xs)) xs 0
+        (ap (λ o. o .number) (trip .reads (done-accepts ks stanza first many xs c a refl) (0 ∷ []) root-name xs 0 (omega arith)))
+
+-- what is read has at most 65,535 octets
+read-length : (stanza : List ℕ) (first many : ℕ) (origin text xs : List ℕ) → reading stanza first many origin text ≡ done xs → length xs ≤ maxRdata
+unfolding accepts
+read-length stanza first many origin text xs e =
+    let h = read-run stanza first many origin text xs e in
+    let ks = run first many (kinds (h .description .fields)) in
+    let a = read-accepted stanza (h .description) (h .accepted) first many origin text xs e in
+    leb-true (length xs) maxRdata (and-left (leb (length xs) maxRdata) (isParts (partsOf ks xs)) a)
+
+or-right : (b c : Bool) → c ≡ true → b || c ≡ true
+or-right true c e = refl
+or-right false c e = e
+
+-- demand 1 of an answer that is a row of the table
+row-answered : {numbers stanza : List ℕ} {many space n i : ℕ} (r : Reply) → Row stanza many space numbers n i → r .number ≡ n → r .place ≡ i → Answered numbers stanza many space r
+row-answered {numbers} {n = n} r w p q = record {
+  number = rw p (or-right (eqb n 0) (among n numbers) (w .number));
+  place = λ z. rw (p, q) (w .fixed);
+  halves = omega (arith, q, w .small);
+}
+
+answered : (numbers stanza : List ℕ) (many : ℕ) (a : Answer) (out : List ℕ) (at : ℕ) (r : Reply) (after : List ℕ) → among 12 numbers ≡ true → Rows stanza many (room out at) numbers a
+    → ((t : List ℕ) → a ≡ done t → length t < 4294967296) → Came a out at r after → Answered numbers stanza many (room out at) r × Keeps r out after
+answered numbers stanza many a out at r after m w l (gives t e h p q s) = (
+  record { number = rw p; place = λ z. absurd (z p); halves = omega (arith, q, l t e) },
+  λ z. absurd (z p),
+)
+answered numbers stanza many a out at r after m w l (lacks t e h p q s) =
+    (row-answered r (record { fixed = no-room h; small = l t e; number = m }) p q, λ z. s)
+answered numbers stanza many a out at r after m w l (refuses n i e p q s) = (row-answered r (rw e at w) p q, λ z. s)
+
+rows-wider : (stanza : List ℕ) (many space : ℕ) (xs ys : List ℕ) → allOf (λ x. among x ys) xs ≡ true → (a : Answer) → Rows stanza many space xs a → Rows stanza many space ys a
+rows-wider stanza many space xs ys h (done t) w = tt
+rows-wider stanza many space xs ys h (refusal n i) w = row-wider xs ys h w
+
+judge-answered : (stanza : List ℕ) (c : JudgeCall stanza) → Answered judgeNumbers stanza 0 0 (c .reply)
+unfolding judge
+judge-answered stanza c = by (judged stanza) refl (c .promise)
+  where
+    by : (j : Judged) → judged stanza ≡ j → Replies (c .reply) (judgeOutcome j) → Answered judgeNumbers stanza 0 0 (c .reply)
+    by (rejected n i) e w = row-answered (c .reply) (rw e at (stanza-rejected stanza 0 0)) (w .numbers) (w .places)
+    by (described d) e w = record {
+      number = rw (w .numbers);
+      place = λ z. absurd (z (w .numbers));
+      halves = omega (arith, w .places, judges stanza d e .most-fields);
+    }
+
+pub first-demand : FirstDemand
+first-demand = record {
+  judging = judge-answered;
+  printing = λ s f m xs b c.
+      answered printNumbers s m (printing s f m xs) (c .out) (c .at) (c .reply) (c .after) refl
+      (rows-wider s m (room (c .out) (c .at)) printRefusals printNumbers refl (printing s f m xs) (print-rows s f m (room (c .out) (c .at)) xs))
+      (λ t e. omega (arith, print-length s f m xs b t e)) (print-came c);
+  reading = λ s f m o t c.
+      answered readNumbers s m (reading s f m o t) (c .out) (c .at) (c .reply) (c .after) refl
+      (rows-wider s m (room (c .out) (c .at)) readRefusals readNumbers refl (reading s f m o t) (read-rows s f m (room (c .out) (c .at)) o t))
+      (λ xs e. omega (arith, read-length s f m o t xs e)) (read-came c);
+}
+
+-- demand 2: what is accepted
+described-by : (stanza : List ℕ) (c : JudgeCall stanza) → (c .reply .number ≡ 0) ↔ ((d : Description) × (judged stanza ≡ described d) × (c .reply .place ≡ length (d .fields)))
+unfolding judge
+described-by stanza c = (λ z. by (judged stanza) refl (c .promise) z, λ (d, e, q). let w : Replies (c .reply) (judgeOutcome (judged stanza)) = c .promise in w .numbers ∙ ap (λ j. judgeOutcome j .number) e)
+  where
+    by : (j : Judged) → judged stanza ≡ j → Replies (c .reply) (judgeOutcome j) → c .reply .number ≡ 0 → (d : Description) × (judged stanza ≡ described d) × (c .reply .place ≡ length (d .fields))
+    by (rejected n i) e w z =
+        let r : Row stanza 0 0 judgeNumbers n i = rw e at (stanza-rejected stanza 0 0) in absurd (true≢false (sym (eq-eqb n 0 (sym (w .numbers) ∙ z)) ∙ not-zero (r .fixed)))
+    by (described d) e w z = (d, e, w .places)
+
+run-of : (stanza : List ℕ) (first many : ℕ) → HasRun stanza first many → (ks : List Kind) × RunOf stanza first many ks
+run-of stanza first many h = (run-kinds stanza first many h, record { description = h .description; accepted-there = h .accepted; is-run = h .run; fields = refl })
+
+-- a refusal, want of room apart, is not accepted
+not-taken : (stanza : List ℕ) (many space : ℕ) (numbers : List ℕ) (r : Reply) (n i : ℕ) → Row stanza many space numbers n i → allOf (λ x. not (among x (0 ∷ 12 ∷ []))) numbers ≡ true → r .number ≡ n
+    → taken r ≡ false
+not-taken stanza many space numbers r n i w h p = rw p (apart n numbers (0 ∷ 12 ∷ []) h (w .number))
+
+rdata-run : (stanza : List ℕ) (first many : ℕ) (xs : List ℕ) (c : PrintCall stanza first many xs) → accepted c ≡ true → (ks : List Kind) × RunOf stanza first many ks
+rdata-run stanza first many xs c z = by (print-came c)
+  where
+    by : Came (printing stanza first many xs) (c .out) (c .at) (c .reply) (c .after) → (ks : List Kind) × RunOf stanza first many ks
+    by (gives t e h p q s) = run-of stanza first many (print-run stanza first many xs t e)
+    by (lacks t e h p q s) = run-of stanza first many (print-run stanza first many xs t e)
+    by (refuses n i e p q s) =
+        let w : Row stanza many 0 printRefusals n i = rw e at (print-rows stanza first many 0 xs) in
+        absurd (true≢false (sym z ∙ not-taken stanza many 0 printRefusals (c .reply) n i w refl p))
+
+text-read : (stanza : List ℕ) (first many : ℕ) (origin text : List ℕ) (c : ReadCall stanza first many origin text)
+    → (taken (c .reply) ≡ true) ↔ ((xs : List ℕ) × (reading stanza first many origin text ≡ done xs) × Returns stanza first many origin text xs c)
+text-read stanza first many origin text c = (λ z. by z (read-came c), λ (xs, e, r). back xs e (read-came c))
+  where
+    by : taken (c .reply) ≡ true → Came (reading stanza first many origin text) (c .out) (c .at) (c .reply) (c .after)
+        → (xs : List ℕ) × (reading stanza first many origin text ≡ done xs) × Returns stanza first many origin text xs c
+    by z (gives t e h p q s) = (
+      t,
+      e,
+      record {
+        enough-room = λ l. (p, q, rw (q, s) (stored-text (c .out) (c .at) t h), s);
+        no-room = λ l. absurd (omega (arith, l, h));
+      },
+    )
+    by z (lacks t e h p q s) = (t, e, record { enough-room = λ l. absurd (omega (arith, l, h)); no-room = λ l. (p, q, s) })
+    by z (refuses n i e p q s) =
+        let w : Row stanza many 0 readRefusals n i = rw e at (read-rows stanza first many 0 origin text) in
+        absurd (true≢false (sym z ∙ not-taken stanza many 0 readRefusals (c .reply) n i w refl p))
+
+    back : (xs : List ℕ) → reading stanza first many origin text ≡ done xs → Came (reading stanza first many origin text) (c .out) (c .at) (c .reply) (c .after) → taken (c .reply) ≡ true
+    back xs d (gives t e h p q s) = rw p
+    back xs d (lacks t e h p q s) = rw p
+    back xs d (refuses n i e p q s) = let z : refusal n i ≡ done xs = sym e ∙ d in cc
+
+pub second-demand : SecondDemand
+second-demand = record {
+  description = described-by;
+  rdata = λ s f m ks r xs c.
+      subst (λ ks. Answers ks s f m xs c) (sym (r .fields))
+      (answers (run f m (kinds (r .description .fields))) s f m xs (prints s (r .description) (r .accepted-there) f m (r .is-run) xs) c);
+  rdata-run = rdata-run;
+  text = text-read;
+  returns = returned;
+  one-text = one-text;
+  read-accepted = reads-accepted;
+}

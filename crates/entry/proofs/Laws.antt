@@ -1,5 +1,5 @@
 -- What judging answers, given the outline.
-use Prim.Native.Nat.{ℕ, _+_, _*_, _≤_}
+use Prim.Native.Nat.{ℕ, _≤_}
 use mathlib.Core.Path.{_≡_, sym, _∙_}
 use mathlib.Core.List.{List}
 use native.Mathlib.Omega.{arith}
@@ -35,7 +35,3 @@ module _ {s codes : List ℕ} {o : Outline} (q : Outlined s codes o) where
   pub refused-place : (o .number ≡ 0 → ⊥) → o .line ≡ judge s .place
   unfolding judge
   refused-place h = rw (refused h)
-
--- an answer in 64 bits
-pub packs : {n a b number place : ℕ} → n ≡ a * 4294967296 + b → a ≡ number → b ≡ place → n ≡ number * 4294967296 + place
-packs e p q = e ∙ rw (p, q)

@@ -1,5 +1,5 @@
 -- The answers of the public entries, by the definitions of document 01.
-use Prim.Native.Nat.{ℕ, _+_, _*_, _≤_}
+use Prim.Native.Nat.{ℕ, _/_, _%_, _≤_}
 use mathlib.Core.Path.{_≡_}
 use mathlib.Core.List.{List}
 use lib.ListN.{length}
@@ -8,7 +8,7 @@ use Rattle.format.specs.Lists.{flat}
 use Rattle.format.specs.Field.{Kind}
 use Rattle.format.specs.Token.{tokens}
 use Rattle.format.specs.Run.{shown, readField, Parts, parts, partsOf, maxRdata, textOfParts, readRun}
-use Rattle.format.specs.Entries.{Answer, done, orRefusal, ofParts, ifRoom, room, Outcome, outcome}
+use Rattle.format.specs.Entries.{Answer, done, orRefusal, ofParts, ifRoom, room, Outcome, outcome, print, read, judge}
 use Rattle.entry.specs.declared.Reply.{Reply}
 
 -- an answer has the outcome's number, and its place or count
@@ -22,10 +22,19 @@ pub record Leaves (r : Reply) (after : List ℕ) (o : Outcome) : Type 0 where
   pub places : r .place ≡ o .place
   pub octets : after ≡ o .lent
 
--- the same in 64 bits
-pub record Packs (r : ℕ) (after : List ℕ) (o : Outcome) : Type 0 where
-  pub answer : r ≡ o .number * 4294967296 + o .place
-  pub octets : after ≡ o .lent
+-- What the entries promise of their answer and of every lent octet: the outcome of the definition of the same name.
+abbrev pub JudgePromise : List ℕ → Reply → Type 0
+JudgePromise stanza r = Replies r (judge stanza)
+
+abbrev pub PrintPromise : (stanza : List ℕ) (first many : ℕ) (rdata out : List ℕ) (at : ℕ) → Reply → List ℕ → Type 0
+PrintPromise stanza first many rdata out at r after = Leaves r after (print stanza first many rdata out at)
+
+abbrev pub ReadPromise : (stanza : List ℕ) (first many : ℕ) (origin text out : List ℕ) (at : ℕ) → Reply → List ℕ → Type 0
+ReadPromise stanza first many origin text out at r after = Leaves r after (read stanza first many origin text out at)
+
+-- the answer in 64 bits: its number in the upper 32, its place or count in the lower
+abbrev pub unpacked : ℕ → Reply
+unpacked r = record { number = r / 4294967296; place = r % 4294967296 }
 
 -- the outcome of an answer, given the room from a place on
 abbrev pub withRoom : List ℕ → ℕ → Answer → Outcome

@@ -1,10 +1,9 @@
 // The answers of the public entries, judging, and what printing and reading share.
-ghost use Prim.Native.Nat.{_+_, _*_, _-_};
+ghost use Prim.Native.Nat.{_+_, _-_};
 ghost use mathlib.Core.Path.{_≡_};
 ghost use mathlib.Core.Bool.{_&&_};
 ghost use lib.Dec.{leb};
-ghost use Rattle.format.specs.Entries;
-ghost use Rattle.entry.specs.Entries.{Replies};
+ghost use Rattle.entry.specs.Entries.{JudgePromise, unpacked};
 
 // An answer: 0 and a count, or a refusal's number and place.
 pub struct Reply {
@@ -34,7 +33,7 @@ pub fn accepted(count: u32) -> Reply
 
 // Judges a description: 0 and the number of its fields, or a refusal's number and line.
 pub fn judge(stanza: &[u8]) -> Reply
-    ensures { λ r. ⌜ Replies r (Entries.judge (now (stanza .entry))) ⌝ }
+    ensures { λ r. ⌜ JudgePromise (now (stanza .entry)) r ⌝ }
 {
     let mut codes = [0u64; 64];
     let outline = stanza_judge::judged_outline(stanza, &mut codes);
@@ -60,7 +59,7 @@ pub fn is_run(first: usize, many: usize, count: usize) -> bool
 
 // An answer in 64 bits: the number in the upper 32, the place or the count in the lower.
 pub fn packed(r: Reply) -> u64
-    ensures { λ n. ⌜ n ≡ r .number * 4294967296 + r .place ⌝ }
+    ensures { λ n. ⌜ (unpacked n .number ≡ r .number) × (unpacked n .place ≡ r .place) ⌝ }
 {
     (r.number as u64) * 4294967296 + r.place as u64
 }

@@ -5,13 +5,12 @@ ghost use mathlib.Core.Bool.{true};
 ghost use mathlib.Core.List.{List};
 ghost use lib.ListN.{length};
 ghost use Rattle.format.specs.Octets.{Octets};
-ghost use Rattle.format.specs.Entries;
 ghost use Rattle.format.specs.Entries.{done};
 ghost use Rattle.format.specs.Run.{textOf};
 ghost use Rattle.stanza_form.specs.Code.{fieldsOf};
 ghost use Rattle.run_wire.specs.Run.{kindsFrom, UsableRun};
 ghost use Rattle.run_print.specs.Printing.{Accepted};
-ghost use Rattle.entry.specs.Entries.{Leaves, withRoom, runText};
+ghost use Rattle.entry.specs.Entries.{Leaves, PrintPromise, withRoom, runText};
 ghost use Rattle.entry_print.specs.Needs.{Needs};
 use entry::Reply;
 use entry::accepted;
@@ -114,7 +113,7 @@ pub fn print(
     out: &mut [u8],
     at: usize,
 ) -> Reply
-    ensures { λ r. ⌜ Leaves r (now (out .exit)) (Entries.print (now (stanza .entry)) first length (now (rdata .entry)) (now (out .entry)) at) ⌝ }
+    ensures { λ r. ⌜ PrintPromise (now (stanza .entry)) first length (now (rdata .entry)) (now (out .entry)) at r (now (out .exit)) ⌝ }
 {
     if 65535 < rdata.len() {
         return refused(1, 0);

@@ -3,9 +3,8 @@ ghost use Prim.Native.Nat.{_≤_};
 ghost use mathlib.Core.Path.{_≡_};
 ghost use lib.ListN.{length};
 ghost use Rattle.format.specs.Name.{isWireName};
-ghost use Rattle.format.specs.Entries;
 ghost use Rattle.stanza_judge.specs.Stanza.{Outlined};
-ghost use Rattle.entry.specs.Entries.{Leaves};
+ghost use Rattle.entry.specs.Entries.{ReadPromise};
 use entry::Reply;
 use entry::refused;
 use field_wire::Take;
@@ -36,7 +35,7 @@ pub fn read_judged(
     at: usize,
 ) -> Reply
     requires { ⌜ Outlined (now s) (now codes) outline × (length (now t) ≤ 1048576) ⌝ }
-    ensures { λ r. ⌜ Leaves r (now (out .exit)) (Entries.read (now (s .entry)) first many (now (origin .entry)) (now (t .entry)) (now (out .entry)) at) ⌝ }
+    ensures { λ r. ⌜ ReadPromise (now (s .entry)) first many (now (origin .entry)) (now (t .entry)) (now (out .entry)) at r (now (out .exit)) ⌝ }
 {
     let n = outline.number;
     if 0 < n {
@@ -62,7 +61,7 @@ pub fn read(
     out: &mut [u8],
     at: usize,
 ) -> Reply
-    ensures { λ r. ⌜ Leaves r (now (out .exit)) (Entries.read (now (stanza .entry)) first length (now (origin .entry)) (now (text .entry)) (now (out .entry)) at) ⌝ }
+    ensures { λ r. ⌜ ReadPromise (now (stanza .entry)) first length (now (origin .entry)) (now (text .entry)) (now (out .entry)) at r (now (out .exit)) ⌝ }
 {
     if 1048576 < text.len() {
         return refused(1, 0);

@@ -1,13 +1,10 @@
 // The public entries for C.
-ghost use Prim.Native.Nat.{_+_, _*_};
-ghost use mathlib.Core.Path.{_≡_};
-ghost use Rattle.format.specs.Entries;
-ghost use Rattle.entry.specs.Entries.{Packs};
+ghost use Rattle.entry.specs.Entries.{JudgePromise, PrintPromise, ReadPromise, unpacked};
 
 // Judges a description: `entry::judge`, its answer in 64 bits.
 #[no_mangle]
 pub extern "C" fn extlang_judge(stanza: &[u8]) -> u64
-    ensures { λ r. ⌜ r ≡ Entries.judge (now (stanza .entry)) .number * 4294967296 + Entries.judge (now (stanza .entry)) .place ⌝ }
+    ensures { λ r. ⌜ JudgePromise (now (stanza .entry)) (unpacked r) ⌝ }
 {
     let r = entry::judge(stanza);
     entry::packed(r)
@@ -23,7 +20,7 @@ pub extern "C" fn extlang_print(
     out: &mut [u8],
     at: u64,
 ) -> u64
-    ensures { λ r. ⌜ Packs r (now (out .exit)) (Entries.print (now (stanza .entry)) first length (now (rdata .entry)) (now (out .entry)) at) ⌝ }
+    ensures { λ r. ⌜ PrintPromise (now (stanza .entry)) first length (now (rdata .entry)) (now (out .entry)) at (unpacked r) (now (out .exit)) ⌝ }
 {
     let from = first as usize;
     let many = length as usize;
@@ -43,7 +40,7 @@ pub extern "C" fn extlang_read(
     out: &mut [u8],
     at: u64,
 ) -> u64
-    ensures { λ r. ⌜ Packs r (now (out .exit)) (Entries.read (now (stanza .entry)) first length (now (origin .entry)) (now (text .entry)) (now (out .entry)) at) ⌝ }
+    ensures { λ r. ⌜ ReadPromise (now (stanza .entry)) first length (now (origin .entry)) (now (text .entry)) (now (out .entry)) at (unpacked r) (now (out .exit)) ⌝ }
 {
     let from = first as usize;
     let many = length as usize;

@@ -22,7 +22,7 @@ use Rattle.job_form.specs.declared.form.JobForm.{JobForm}
 use Rattle.job_form.specs.declared.form.JobForm.the-variants.{Bad, Good}
 use Rattle.job_turns.specs.declared.Job.{Job}
 use Rattle.job_turns.specs.declared.Turn.{Turn}
-use Rattle.job_turns.specs.Job.{formOf, Begins, leftAt, Turns, AllTurns, last, before-others}
+use Rattle.job_turns.specs.Job.{formOf, Begins, leftAt, Turns, AllTurns, last, before-others, TurnsJob}
 use Rattle.job_line.proofs.Answers.{record-most}
 use Rattle.job_turns.proofs.Records.{bad-written, good-written, next-written, none-written}
 
@@ -142,6 +142,5 @@ turns-left : {j : List ℕ} {b : Job} {at : ℕ} {ws : List (List ℕ)} → AllT
 turns-left (last {r = r} t f) = ap (λ x. x ++ []) (turn-text t) ∙ rw f at (t .rest)
 turns-left {j} {b} (before-others {r = r} t f os) = let q : t .text ++ leftAt j b (r .at) ≡ _ = rw f at (t .rest) in rw (turn-text t, turns-left os) q
 
--- The turns from the first record on write what the definition says.
-pub turns-job : (j : List ℕ) (b : Job) → Begins j b → (ws : List (List ℕ)) → AllTurns j b (b .places .records) ws → flat ws ≡ job j
+pub turns-job : TurnsJob
 turns-job j b h ws os = turns-left os ∙ left-first j b h

@@ -6,8 +6,8 @@ use mathlib.Core.List.{List, [], _∷_, _++_}
 use mathlib.Core.Option.{none}
 use lib.ListN.{length, take}
 use lib.Seq.{slice}
-use Rattle.format.specs.Lists.{flatMap}
-use Rattle.format.specs.Job.{recordLine, written}
+use Rattle.format.specs.Lists.{flatMap, flat}
+use Rattle.format.specs.Job.{recordLine, written, job}
 use Rattle.stanza_judge.specs.Stanza.{Outlined}
 use Rattle.buffer.specs.Writing.{Wrote}
 use Rattle.job_form.specs.Lines.{linesAt}
@@ -42,3 +42,7 @@ pub data AllTurns (j : List ℕ) (b : Job) : ℕ → List (List ℕ) → Type 0 
   last : {at : ℕ} {before after : List ℕ} {r : Turn} → Turns j b at before after r → r .more ≡ false → AllTurns j b at (take (r .taken) after ∷ [])
   before-others : {at : ℕ} {before after : List ℕ} {r : Turn} {ws : List (List ℕ)} → Turns j b at before after r → r .more ≡ true → AllTurns j b (r .at) ws
       → AllTurns j b at (take (r .taken) after ∷ ws)
+
+-- The job: "One line per record comes out". Turns in a row, from the one at the first record to the last, together write what the definition gives for the input.
+abbrev pub TurnsJob : Type 0
+TurnsJob = (j : List ℕ) (b : Job) → Begins j b → (ws : List (List ℕ)) → AllTurns j b (b .places .records) ws → flat ws ≡ job j

@@ -1,10 +1,12 @@
-use Rattle.entry.proofs.Laws.{packs}
+use mathlib.Core.Path.{_∙_}
 use borrow.Author.Needs.{needs}
 use Rattle.extlang.proofs.extlang_judge.Statement.{statement}
 use Rattle.extlang.proofs.extlang_judge.Tie as tie
 
 returns : tie.Need-returns
-returns c = packs (c .packed .ensures) (c .before .judge .ensures .numbers) (c .before .judge .ensures .places)
+returns c =
+    let j = c .before .judge .ensures in
+    record { numbers = c .packed .ensures .0 ∙ j .numbers; places = c .packed .ensures .1 ∙ j .places }
 
 pub extlang-judge-spec : {M : Type 1} → statement M
 extlang-judge-spec = tie.close (tie.spec (λ c κs. search needs) (λ c κs. search needs) returns)

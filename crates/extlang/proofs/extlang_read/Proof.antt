@@ -1,13 +1,12 @@
-use Rattle.entry.proofs.Laws.{packs}
+use mathlib.Core.Path.{_∙_}
 use borrow.Author.Needs.{needs}
 use Rattle.extlang.proofs.extlang_read.Statement.{statement}
 use Rattle.extlang.proofs.extlang_read.Tie as tie
 
 returns : tie.Need-returns
 returns c =
-    let c3 = c .before .before .before in
-    record
-    { answer = packs (c .packed .ensures) (c3 .read .ensures .numbers) (c3 .read .ensures .places); octets = c3 .read .ensures .octets }
+    let a = c .before .before .before .read .ensures in
+    record { numbers = c .packed .ensures .0 ∙ a .numbers; places = c .packed .ensures .1 ∙ a .places; octets = a .octets }
 
 pub extlang-read-spec : {M : Type 1} → statement M
 extlang-read-spec = tie.close (tie.spec (λ c κs. search needs) (λ c κs. search needs) (λ c. search needs) returns)
