@@ -1,8 +1,11 @@
-// The program: reads a job from standard input, and writes the line that answers each of its records.
+// The program: reads a job from standard input, and writes the line that answers each of its records. Nothing is answered before
+// all is read, and an input that could not be read is a bad job: what came before the failure may look like a whole one.
 ghost use Prim.Native.Nat.{_≤_};
 ghost use lib.ListN.{length};
+ghost use Rattle.job.specs.Room.{Enough};
+use job_line::put_bad_job;
 use libc::STDIN_FILENO;
-use libc::STDOUT_FILENO;
+use streams::Input;
 
 // One octet more than a job may have, so that a job that is too long is noticed.
 const LONGEST: usize = 65536;
@@ -14,7 +17,7 @@ const ROOM: usize = 262148;
 fn write(out: &[u8], n: usize) -> bool
     requires { ⌜ n ≤ length (now out) ⌝ }
 {
-    io::write_all(STDOUT_FILENO, &out[0..n])
+    streams::write_all(b"job", &out[0..n])
 }
 
 // Answers the job turn by turn, unless a write fails.
@@ -33,17 +36,31 @@ fn answer(j: &[u8], out: &mut [u8; ROOM]) {
     }
 }
 
-// Answers the job in the first n octets.
+// Answers the job in the first n octets of a buffer that a job which is too long does not fit either.
 fn answer_first(input: &[u8], n: usize, out: &mut [u8; ROOM])
-    requires { ⌜ n ≤ length (now input) ⌝ }
+    requires { ⌜ (n ≤ length (now input)) × Enough (now input) ⌝ }
 {
     answer(&input[0..n], out);
 }
 
+// Answers an input that could not be read.
+fn refuse(out: &mut [u8; ROOM]) {
+    streams::unread(b"job");
+    let n = put_bad_job(out, 0);
+    write(out, n);
+}
+
 // Reads standard input, and answers the job in it.
 fn run(input: &mut [u8; LONGEST], out: &mut [u8; ROOM]) {
-    let n = io::read_full(STDIN_FILENO, input);
-    answer_first(input, n, out);
+    let r = streams::read_all(STDIN_FILENO, input);
+    match r {
+        Input::Failed => {
+            refuse(out);
+        }
+        Input::Whole(n) => {
+            answer_first(input, n, out);
+        }
+    }
 }
 
 // Lends the buffers to `run`.

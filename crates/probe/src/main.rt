@@ -8,13 +8,14 @@
 // PLACE is the count where NUMBER is 0, and the last word is '-' on a refusal. LINES are those that
 // the program job writes for a JOB on its standard input. Octets are in hex of
 // either case, '-' for none, and numbers decimal, of at most 64 bits; one space parts two words. A line
-// that is no request, or has more than 2,200,000 octets, answers '?'. The last line may lack its LF.
-ghost use Prim.Native.Nat.{_+_, _≤_};
+// that is no request, or has more than 2,200,000 octets, answers '?'. The last line may lack its LF. If a read fails, the line that
+// is not whole has no answer.
+ghost use Prim.Native.Nat.{_≤_};
 ghost use lib.ListN.{length};
 ghost use Rattle.probe_request.specs.Words.{Within};
 use libc::STDIN_FILENO;
-use libc::STDOUT_FILENO;
 use probe_request::Request;
+use streams::Read;
 
 // The most octets that one read takes.
 const PIECE: usize = 65536;
@@ -44,7 +45,7 @@ struct State {
 fn write(out: &[u8], n: usize) -> bool
     requires { ⌜ n ≤ length (now out) ⌝ }
 {
-    io::write_all(STDOUT_FILENO, &out[0..n])
+    streams::write_all(b"probe", &out[0..n])
 }
 
 // Writes the first n octets of a turn in hex, '-' for none.
@@ -82,7 +83,7 @@ fn write_job(octets: &[u8], q: Request, text: &mut [u8], out: &mut [u8; ROOM]) -
     let b = q.stanza.to;
     let n = buffer::least(LINES, text.len());
     if write_turns(&octets[a..b], &mut text[0..n], out) {
-        return io::write_all(STDOUT_FILENO, b"\n");
+        return streams::write_all(b"probe", b"\n");
     }
     false
 }
@@ -120,15 +121,22 @@ fn answer_lines(
             start = end + 1;
             end = probe_request::line_end(buf, start);
         } else {
-            return State {
-                kept: 0,
-                going: false,
-            };
+            return over();
         }
     }
     State {
         kept: probe_request::keep(buf, start),
         going: true,
+    }
+}
+
+// The state in which answering is over.
+fn over() -> State
+    ensures { λ r. ⌜ r .kept ≤ 2200001 ⌝ }
+{
+    State {
+        kept: 0,
+        going: false,
     }
 }
 
@@ -144,23 +152,10 @@ fn finish(
     if line.len() > 0 {
         answer(line, octets, text, out);
     }
-    State {
-        kept: 0,
-        going: false,
-    }
+    over()
 }
 
-// Reads once, after the octets that are kept, and returns how many came.
-fn read_on(buf: &mut [u8], kept: usize) -> usize
-    requires { ⌜ (kept ≤ 2200001) × (2265537 ≤ length (now buf)) ⌝ }
-    ensures { λ r. ⌜ kept + r ≤ length (now (buf .entry)) ⌝ }
-{
-    let most = kept + PIECE;
-    let got = libc::read(STDIN_FILENO, &mut buf[kept..most]);
-    io::count(got, &buf[kept..most])
-}
-
-// Reads once, and answers the lines that are whole by then.
+// Reads once, after the octets that are kept, and answers the lines that are whole by then.
 fn turn(
     buf: &mut [u8],
     kept: usize,
@@ -171,12 +166,18 @@ fn turn(
     requires { ⌜ (kept ≤ 2200001) × (2265537 ≤ length (now buf)) ⌝ }
     ensures { λ r. ⌜ r .kept ≤ 2200001 ⌝ }
 {
-    let n = read_on(buf, kept);
-    if n == 0 {
-        return finish(&buf[0..kept], octets, text, out);
+    let r = streams::read_once(STDIN_FILENO, buf, kept, kept + PIECE);
+    match r {
+        Read::End => finish(&buf[0..kept], octets, text, out),
+        Read::Failed => {
+            streams::unread(b"probe");
+            over()
+        }
+        Read::Got(n) => {
+            let end = kept + n;
+            answer_lines(&mut buf[0..end], kept, octets, text, out)
+        }
     }
-    let end = kept + n;
-    answer_lines(&mut buf[0..end], kept, octets, text, out)
 }
 
 // Answers all lines. A proved loop must end, and nothing says that the input does: so the loop counts its turns down, from a

@@ -41,6 +41,9 @@ loop-less c = search needs
 loop-again : tie.Need-loop-again Inv-loop μ-loop
 loop-again c = search needs
 
+over-requires : tie.Need-over-requires Inv-loop μ-loop
+over-requires c κs = search needs
+
 same-length : tie.Need-same-length Inv-loop μ-loop
 same-length c = search needs
 
@@ -72,6 +75,7 @@ answer-lines-spec =
     line-end-requires-2
     loop-less
     loop-again
+    over-requires
     same-length
     returns
     keep-requires
