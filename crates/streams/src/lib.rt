@@ -3,10 +3,11 @@
 //
 // Proved: what each answer of `libc::read` means, and that nothing but these meanings decides how reading goes on and what it
 // answers. Not proved, as no contract of libc's can say it: which octets a read or a write moved. tests/faults makes them fail.
-ghost use Prim.Native.Nat.{_<_, _≤_, min};
+ghost use Prim.Native.Nat.{_<_, _≤_};
 ghost use mathlib.Core.Path.{_≡_};
 ghost use lib.ListN.{length};
 ghost use Rattle.streams.specs.Reading.{told, Once, Reading};
+use buffer::least;
 use libc::STDERR_FILENO;
 use libc::STDOUT_FILENO;
 
@@ -22,13 +23,6 @@ pub enum Read {
 pub enum Input {
     Failed,
     Whole(usize),
-}
-
-// The lesser of two.
-fn least(a: usize, b: usize) -> usize
-    ensures { λ r. ⌜ r ≡ min a b ⌝ }
-{
-    if a < b { a } else { b }
 }
 
 // What the answer of a read means that was handed room for `most` octets.
