@@ -1,8 +1,9 @@
 // Reading and writing for programs: a read that failed is never taken for the end of the input, and what was lost is told on
 // standard error.
 //
-// Proved: what each answer of `libc::read` means, and that nothing but these meanings decides how reading goes on and what it
-// answers. Not proved, as no contract of libc's can say it: which octets a read or a write moved. tests/faults makes them fail.
+// Proved: what an answer of `libc::read` means (`told`); and that what a function here answers is what answers that libc's contract
+// allows make of it, each judged by `told` (`Once`, `Reading`). That these are the answers that came is seen in its few lines, and
+// tested: tests/faults makes each read and each write fail. libc's contract says nothing of the octets that a call moves.
 ghost use Prim.Native.Nat.{_<_, _≤_};
 ghost use mathlib.Core.Path.{_≡_};
 ghost use lib.ListN.{length};
