@@ -28,7 +28,7 @@ use Rattle.job_form.specs.Form.{lastOf, Lasts, After, afterOf, AfterAt, 
 use Rattle.job_form.proofs.Places.{no-lines, some-lines, line-some}
 
 -- a section that nothing follows, and one that something follows
-null-none : (ls : List (List ℕ)) → 1 ≤ length ls → null ls ≡ false
+pub null-none : (ls : List (List ℕ)) → 1 ≤ length ls → null ls ≡ false
 null-none [] h = absurd (omega arith)
 null-none (l ∷ ls) h = refl
 
@@ -159,7 +159,7 @@ job-after xs = by (section (linesAt xs 0))
     by (some s) = origin s (section (s .later))
 
 -- octets that are stored with room for all of them
-stored-front : (before after t : List ℕ) (n : ℕ) → Wrote before after 0 n t → length t ≤ length before → take n after ≡ t
+pub stored-front : (before after t : List ℕ) (n : ℕ) → Wrote before after 0 n t → length t ≤ length before → take n after ≡ t
 stored-front before after t n w h = rw (w .octets, sets-eq t before 0 (omega arith)) (take-at t (drop (0 + length t) before) n (omega (arith, w .count)))
 
 pub too-long : (j : List ℕ) → maxJob < length j → jobWithin j ≡ none

@@ -43,7 +43,7 @@ fn absolute_name(out: &mut [u8], t: &[u8]) -> Value
 }
 
 // Reads a line that is one bare token, an absolute name.
-fn name_line(out: &mut [u8], t: &[u8]) -> Value
+pub fn name_line(out: &mut [u8], t: &[u8]) -> Value
     requires { ⌜ length (now t) ≤ 1048576 ⌝ }
     ensures { λ r. ⌜ Values (now (out .entry)) (now (out .exit)) 0 r (originToken (now (t .entry)) (tokens (now (t .entry)))) ⌝ }
 {

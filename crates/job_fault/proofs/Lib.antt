@@ -1,0 +1,4 @@
+mod Reasons
+mod Faults
+pub mod Lengths
+pub mod Law
