@@ -23,6 +23,7 @@ use Rattle.format.specs.Demands.{Prints, RoundTrip, Divides, wholeList, firstLi
 use Rattle.format.proofs.Lists.{and-left}
 use Rattle.format.proofs.Judge.{judges}
 use Rattle.format.proofs.Demands.{demand-2, demand-3, prints, read-accepted, kinds-length}
+use Rattle.demands.proofs.ReadOctets.{read-octets}
 use Rattle.demands.specs.Demands.{JudgeCall, PrintCall, ReadCall, Answered, Keeps, FirstDemand, taken, accepted, written, rdataOf, Answers, Returns, RunOf, SecondDemand, CutCalls, EmptyCall, ThirdDemand}
 use Rattle.entry.specs.declared.Reply.{Reply}
 use Rattle.entry.specs.Entries.{Replies, Leaves}
@@ -410,4 +411,5 @@ second-demand = record {
   returns = returned;
   one-text = one-text;
   read-accepted = reads-accepted;
+  read-octets = λ s f m o t b q z. read-octets s f m o t (rdataOf q) b (read-done s f m o t q z);
 }

@@ -110,6 +110,8 @@ pub record SecondDemand : Type 0 where
   -- what `read` writes, `print` accepts under the same run
   pub read-accepted : (stanza : List ℕ) (first many : ℕ) (origin text : List ℕ) (q : ReadCall stanza first many origin text) → q .reply .number ≡ 0
       → (p : PrintCall stanza first many (rdataOf q)) → accepted p ≡ true
+  -- what `read` writes are octets, below 256
+  pub read-octets : (stanza : List ℕ) (first many : ℕ) (origin text : List ℕ) → Octets origin → (q : ReadCall stanza first many origin text) → q .reply .number ≡ 0 → Octets (rdataOf q)
 
 -- Demand 3 at one stanza, cut and RDATA, of a call on the whole list and calls on the two lists for each division.
 pub record CutCalls (stanza : List ℕ) (ks : List Kind) (k : ℕ) (xs : List ℕ) (whole : PrintCall stanza 1 (length ks) xs)
