@@ -1,8 +1,12 @@
 // The program: reads a job from standard input, and writes the line that answers each of its records. Nothing is answered before
-// all is read, and an input that could not be read is a bad job: what came before the failure may look like a whole one.
+// all is read, and an input that could not be read is a bad job: what came before the failure may look like a whole one. Why a job
+// is bad is told on standard error.
 ghost use Prim.Native.Nat.{_≤_};
 ghost use lib.ListN.{length};
 ghost use Rattle.job.specs.Room.{Enough};
+use buffer::least;
+use job_fault::fault::first_fault;
+use job_fault::words::put_words;
 use job_line::put_bad_job;
 use libc::STDIN_FILENO;
 use streams::Input;
@@ -41,6 +45,21 @@ fn answer_first(input: &[u8], n: usize, out: &mut [u8; ROOM])
     requires { ⌜ (n ≤ length (now input)) × Enough (now input) ⌝ }
 {
     answer(&input[0..n], out);
+    tell_fault(&input[0..n], out);
+}
+
+// Tells on standard error which line breaks the form, and why; of a job that has the form there is nothing to tell.
+fn tell_fault(j: &[u8], out: &mut [u8; ROOM]) {
+    let f = first_fault(j);
+    let n = put_words(out, 0, f);
+    say(out, least(n, ROOM));
+}
+
+// Writes the first n octets to standard error.
+fn say(out: &[u8], n: usize)
+    requires { ⌜ n ≤ length (now out) ⌝ }
+{
+    streams::say(&out[0..n]);
 }
 
 // Answers an input that could not be read.

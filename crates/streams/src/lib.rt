@@ -71,10 +71,15 @@ pub fn read_all(fd: i32, buf: &mut [u8]) -> Input
     Input::Whole(n)
 }
 
-// Writes one line to standard error: the program's name and the words. If that fails too, nobody can be told.
-fn tell(program: &[u8], words: &[u8]) {
-    io::write_all(STDERR_FILENO, program);
+// Writes words to standard error. If that fails too, nobody can be told.
+pub fn say(words: &[u8]) {
     io::write_all(STDERR_FILENO, words);
+}
+
+// Writes one line to standard error: the program's name and the words.
+fn tell(program: &[u8], words: &[u8]) {
+    say(program);
+    say(words);
 }
 
 // Tells that the input could not be read.
