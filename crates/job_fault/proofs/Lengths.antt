@@ -14,6 +14,7 @@ use Rattle.job_fault.specs.declared.reason.Reason.the-variants.{TooLong,
 use Rattle.job_fault.specs.declared.fault.Fault.{Fault}
 use Rattle.job_fault.specs.declared.fault.Fault.the-variants.{NoFault, At}
 
+-- no reason has over 80 octets, and the line's number no more than 10 digits
 pub reason-short : (r : Reason) → length (reasonWords r) ≤ 80
 reason-short TooLong = omega arith
 reason-short NoCount = omega arith
