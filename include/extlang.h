@@ -5,8 +5,13 @@
  *
  * A function takes a part of memory as a pointer and a count of octets. The
  * pointer is never null, even if the count is 0, and nothing else may write those
- * octets while the function runs. No function keeps a pointer, allocates, or
- * changes anything but what it says; each always returns.
+ * octets while the function runs. The part that is written must not overlap the
+ * others: if it does, nothing is promised, and the call may answer wrongly or
+ * crash. No function keeps a pointer, allocates, or changes anything but what it
+ * says; each always returns.
+ *
+ * The archive is for x86-64. It calls memcpy and memset alone, and has no
+ * writable data.
  */
 #ifndef EXTLANG_H
 #define EXTLANG_H
