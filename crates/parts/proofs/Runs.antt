@@ -27,7 +27,7 @@ or-cross false true false t = refl
 or-cross false false true t = refl
 or-cross false false false t = refl
 
-or-true : (p : Bool) → p || true ≡ true
+pub or-true : (p : Bool) → p || true ≡ true
 or-true true = refl
 or-true false = refl
 
