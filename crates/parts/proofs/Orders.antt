@@ -1,5 +1,5 @@
 -- The order of texts is total, and texts that stand nowhere before one another are the same.
-use Prim.Native.Nat.{ℕ, _+_, _-_, _≤_, _<_, min}
+use Prim.Native.Nat.{ℕ, _+_, _*_, _/_, _%_, _≤_, _<_, min}
 use mathlib.Core.Path.{_≡_, refl, sym, ap, _∙_}
 use mathlib.Core.Bool.{Bool, true, false, cond, _&&_}
 use mathlib.Core.List.{List, [], _∷_}
@@ -13,7 +13,7 @@ use Rattle.stanza_words.specs.Qualifiers.{sameBy}
 use Rattle.stanza_words.proofs.Laws.{same-next}
 use Rattle.parts.specs.declared.Order.{Order}
 use Rattle.parts.specs.declared.Order.the-variants.{Less, Same, Greater}
-use Rattle.parts.specs.Parts.{folded, octetOrder, thenBy, orderBy}
+use Rattle.parts.specs.Parts.{partOf, folded, octetOrder, thenBy, orderBy}
 
 -- what the order of two octets says of them
 abbrev Stand : ℕ → ℕ → Order → Type 0
@@ -150,3 +150,10 @@ cut s x y f e = by (leb y (length s)) refl
         let l = leb-false y (length s) h in
         let q : f ≡ length s = omega arith in
         rw q (ap (drop x) (take-length s ∙ sym (take-all y s (omega arith))))
+
+-- the part that a number names
+pub part-of : (s : List ℕ) (i e : ℕ) → e < 65536 → partOf s (i * 65536 + e) ≡ slice i e s
+part-of s i e h =
+    let p : (i * 65536 + e) / 65536 ≡ i = omega arith in
+    let q : (i * 65536 + e) % 65536 ≡ e = omega arith in
+    rw (p, q)

@@ -1,13 +1,20 @@
 // Whether two parts of a text are the same, found by sorting them.
-ghost use Prim.Native.Nat.{_+_, _≤_};
+ghost use Prim.Native.Nat.{ℕ, _+_, _≤_, _<_};
 ghost use lib.ListN.{length, drop};
 ghost use lib.Seq.{slice};
 ghost use mathlib.Core.Path.{_≡_};
-ghost use mathlib.Core.Bool.{cond};
-ghost use mathlib.Core.List.{_++_, map};
+ghost use mathlib.Core.List.{List, _++_, map};
 ghost use Rattle.format.specs.Lists;
 ghost use Rattle.stanza_words.specs.Qualifiers.{sameBy};
 ghost use Rattle.parts.specs.Parts.{partOf, folded, octetOrder, orderBy, headOrder, Rising, Sorted};
+
+// The number that names the part from i to e.
+pub fn part(i: usize, e: usize) -> u32
+    requires { ⌜ (i < 65536) × (e < 65536) ⌝ }
+    ensures { λ r. ⌜ ((s : List ℕ) → partOf s r ≡ slice i e s) ⌝ }
+{
+    (i * 65536 + e) as u32
+}
 
 // How two parts stand to one another.
 pub enum Order {

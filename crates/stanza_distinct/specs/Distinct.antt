@@ -1,17 +1,19 @@
 -- Symbols, and names that are told apart by their numbers.
-use Prim.Native.Nat.{ℕ, _+_, _-_, _*_, _%_}
+use Prim.Native.Nat.{ℕ, _+_, _-_, _*_, _%_, _≤_}
 use Prim.Native.Char.{code}
 use mathlib.Core.Path.{_≡_}
 use mathlib.Core.Bool.{Bool, not, cond}
-use mathlib.Core.List.{List}
+use mathlib.Core.List.{List, map}
 use mathlib.Core.Option.{some}
 use lib.Dec.{eqb}
-use lib.ListN.{length, getD}
+use lib.ListN.{length, take, getD}
 use lib.Seq.{slice}
 use Rattle.format.specs.Octets.{lowered, nameOctet}
 use Rattle.format.specs.Number.{decimalOf}
 use Rattle.format.specs.Grammar.{symbol, qualifier}
 use Rattle.octets.specs.Octets.{partIn, frontEnd}
+use Rattle.stanza_words.specs.Qualifiers.{piecesIn, nameIn}
+use Rattle.parts.specs.Parts.{partOf}
 use Rattle.stanza_distinct.specs.declared.Piece.{Piece}
 use Rattle.stanza_distinct.specs.declared.Piece.the-variants.{Other, Symbol as SymbolPiece}
 
@@ -38,3 +40,9 @@ SymbolAt s i b Other = Unit {0}
 SymbolAt s i b (SymbolPiece n z v) =
     (z ≡ commaAt s i b) × (n ≡ frontEnd nameOctet s i z)
     × (qualifier (partIn s i z) ≡ some (symbol (record { spelling = partIn s i n; value = v })))
+
+-- the first n of two lists name the parts that the qualifiers' names are
+pub record Named (s : List ℕ) (a b : ℕ) (list other : List ℕ) (n : ℕ) : Type 0 where
+  pub fits : n ≤ length list
+  pub names : map (partOf s) (take n list) ≡ map nameIn (piecesIn s a b)
+  pub same : take n other ≡ take n list

@@ -1,13 +1,11 @@
 // Whether a name occurs twice among qualifiers, and symbols that are recognized in one pass.
-ghost use Prim.Native.Nat.{_≤_, _<_};
+ghost use Prim.Native.Nat.{_-_, _≤_, _<_};
 ghost use lib.ListN.{length};
 ghost use lib.Seq.{slice};
 ghost use mathlib.Core.Path.{_≡_};
 ghost use mathlib.Core.Bool.{true, false};
-ghost use Rattle.format.specs.Lists.{anyOf};
-ghost use Rattle.octets.specs.Octets.{partIn};
-ghost use Rattle.stanza_words.specs.Qualifiers.{anyIn, sameBy, twiceIn, piecesIn, nameIn};
-ghost use Rattle.stanza_distinct.specs.Distinct.{bucketOf, commaAt, NumberAt, SymbolAt};
+ghost use Rattle.stanza_words.specs.Qualifiers.{anyIn, twiceIn};
+ghost use Rattle.stanza_distinct.specs.Distinct.{bucketOf, commaAt, NumberAt, SymbolAt, Named};
 ghost use Rattle.stanza_words.specs.declared.Test.the-variants.{NotSymbol};
 use stanza_words::begins_name;
 
@@ -15,50 +13,6 @@ use stanza_words::begins_name;
 pub enum Piece {
     Other,
     Symbol(usize, usize, u64),
-}
-
-// Whether the name from a to n and the qualifier from i to z surely differ, in their first octets.
-fn starts_other(ignoring: bool, s: &[u8], a: usize, n: usize, i: usize, z: usize) -> bool
-    requires { ⌜ (n ≤ length (now s)) × (z ≤ length (now s)) ⌝ }
-    ensures { λ r. ⌜ (r ≡ true → sameBy ignoring (slice a n (now (s .entry))) (nameIn (partIn (now (s .entry)) i z)) ≡ false) ⌝ }
-{
-    if n <= a {
-        return false;
-    }
-    if z <= i {
-        return false;
-    }
-    stanza_words::fold(ignoring, s[a]) != stanza_words::fold(ignoring, s[i])
-}
-
-// Whether the name from a to n is the name of the qualifier from i to z. Most differ in the first octet and are skipped.
-fn names(ignoring: bool, s: &[u8], a: usize, n: usize, i: usize, z: usize) -> bool
-    requires { ⌜ (a ≤ n) × (n ≤ length (now s)) × (i ≤ z) × (z ≤ length (now s)) ⌝ }
-    ensures { λ r. ⌜ r ≡ sameBy ignoring (slice a n (now (s .entry))) (nameIn (partIn (now (s .entry)) i z)) ⌝ }
-{
-    if starts_other(ignoring, s, a, n, i, z) {
-        return false;
-    }
-    let m = octets::skip(s, i, z, octets::Class::NameOctet);
-    stanza_words::same(ignoring, s, a, n, s, i, m)
-}
-
-// Whether the name from a to n is the name of some qualifier between h and b.
-fn later(ignoring: bool, s: &[u8], a: usize, n: usize, h: usize, b: usize) -> bool
-    requires { ⌜ (a ≤ n) × (n ≤ length (now s)) × (h ≤ b) × (b ≤ length (now s)) ⌝ }
-    ensures { λ r. ⌜ r ≡ anyOf (λ p. sameBy ignoring (slice a n (now (s .entry))) (nameIn p)) (piecesIn (now (s .entry)) h b) ⌝ }
-{
-    let mut i = h;
-    loop {
-        let z = octets::skip(s, i, b, octets::Class::NotComma);
-        if names(ignoring, s, a, n, i, z) {
-            return true;
-        }
-        if z == b {
-            return false;
-        }
-        i = z + 1;
-    }
 }
 
 // A number from 0 to 255 for the name from a to n. Names that are the same have the same number.
@@ -167,32 +121,66 @@ pub fn plain_symbols(limit: u64, s: &[u8], a: usize, b: usize) -> bool
     }
 }
 
-// Whether two qualifiers between a and b have the same name. Each is compared with all after it only if two numbers are equal.
+// Stores the names between a and b, as parts, into two lists, and answers how many they are.
+fn names(s: &[u8], a: usize, b: usize, list: &mut [u32], other: &mut [u32]) -> usize
+    requires { ⌜ (a ≤ b) × (b ≤ length (now s)) × (length (now s) ≤ 8192) × (b - a < length (now list)) × (length (now other) ≡ length (now list)) ⌝ }
+    ensures { λ r. ⌜ Named (now (s .entry)) a b (now (list .exit)) (now (other .exit)) r ⌝ }
+{
+    let mut i = a;
+    let mut n = 0;
+    loop {
+        let z = octets::skip(s, i, b, octets::Class::NotComma);
+        let e = octets::skip(s, i, z, octets::Class::NameOctet);
+        let p = parts::part(i, e);
+        list[n] = p;
+        other[n] = p;
+        n = n + 1;
+        if z == b {
+            return n;
+        }
+        i = z + 1;
+    }
+}
+
+// Whether two qualifiers between a and b have the same name, by sorting the names in the two lists.
+fn sorted_twice(ignoring: bool, s: &[u8], a: usize, b: usize, list: &mut [u32], other: &mut [u32]) -> bool
+    requires { ⌜ (a ≤ b) × (b ≤ length (now s)) × (length (now s) ≤ 8192) × (b - a < length (now list)) × (length (now other) ≡ length (now list)) ⌝ }
+    ensures { λ r. ⌜ r ≡ twiceIn ignoring (now (s .entry)) a b ⌝ }
+{
+    let n = names(s, a, b, list, other);
+    parts::twice(ignoring, s, &mut list[0..n], &mut other[0..n])
+}
+
+// The same for at most 1,023 octets of qualifiers. Clearing longer lists takes longer than most of these.
+fn few_twice(ignoring: bool, s: &[u8], a: usize, b: usize) -> bool
+    requires { ⌜ (a ≤ b) × (b ≤ length (now s)) × (length (now s) ≤ 8192) × (b - a < 1024) ⌝ }
+    ensures { λ r. ⌜ r ≡ twiceIn ignoring (now (s .entry)) a b ⌝ }
+{
+    let mut list = [0u32; 1024];
+    let mut other = [0u32; 1024];
+    sorted_twice(ignoring, s, a, b, &mut list, &mut other)
+}
+
+// The same for any number of qualifiers: in a stanza of 8,192 octets there are at most 8,193.
+fn many_twice(ignoring: bool, s: &[u8], a: usize, b: usize) -> bool
+    requires { ⌜ (a ≤ b) × (b ≤ length (now s)) × (length (now s) ≤ 8192) ⌝ }
+    ensures { λ r. ⌜ r ≡ twiceIn ignoring (now (s .entry)) a b ⌝ }
+{
+    let mut list = [0u32; 8193];
+    let mut other = [0u32; 8193];
+    sorted_twice(ignoring, s, a, b, &mut list, &mut other)
+}
+
+// Whether two qualifiers between a and b have the same name. They are sorted only if two have the same number.
 pub fn twice(ignoring: bool, s: &[u8], a: usize, b: usize) -> bool
-    requires { ⌜ (a ≤ b) × (b ≤ length (now s)) ⌝ }
+    requires { ⌜ (a ≤ b) × (b ≤ length (now s)) × (length (now s) ≤ 8192) ⌝ }
     ensures { λ r. ⌜ r ≡ twiceIn ignoring (now (s .entry)) a b ⌝ }
 {
     if apart(ignoring, s, a, b) {
         return false;
     }
-    each_later(ignoring, s, a, b)
-}
-
-// Whether some qualifier between a and b has the same name as a later one.
-fn each_later(ignoring: bool, s: &[u8], a: usize, b: usize) -> bool
-    requires { ⌜ (a ≤ b) × (b ≤ length (now s)) ⌝ }
-    ensures { λ r. ⌜ r ≡ twiceIn ignoring (now (s .entry)) a b ⌝ }
-{
-    let mut i = a;
-    loop {
-        let z = octets::skip(s, i, b, octets::Class::NotComma);
-        if z == b {
-            return false;
-        }
-        let n = octets::skip(s, i, z, octets::Class::NameOctet);
-        if later(ignoring, s, i, n, z + 1, b) {
-            return true;
-        }
-        i = z + 1;
+    if b - a < 1024 {
+        return few_twice(ignoring, s, a, b);
     }
+    many_twice(ignoring, s, a, b)
 }
