@@ -56,73 +56,79 @@ module _ (g : Bool) (s : List ℕ) where
   same-parts xs ys us vs out true p q h = twice-perm g s (List·Permᴰ·trans (Permᴰ·append-right ys p) (Permᴰ·append-left us q)) ∙ h
   same-parts xs ys us vs out false p q h = (List·Permᴰ·trans (List·Permᴰ·trans (Permᴰ·append-right ys p) (Permᴰ·append-left us q)) (h .0), h .1)
 
-  -- the parts a, which b holds too, in two halves
-  module _ (a b : List ℕ) (m : ℕ) (e : b ≡ a) (h : m ≤ length a) where
-    split : a ≡ take m a ++ drop m a
-    split = sym (take-append-drop m a)
+-- the parts a, which b holds too, in two halves
+module _ (a b : List ℕ) (m : ℕ) (e : b ≡ a) (h : m ≤ length a) where
+  split : a ≡ take m a ++ drop m a
+  split = sym (take-append-drop m a)
 
-    front : take (m - 0) b ≡ take m a
-    front = let q : m - 0 ≡ m = omega arith in rw (q, e)
+  front : take (m - 0) b ≡ take m a
+  front = let q : m - 0 ≡ m = omega arith in rw (q, e)
 
-    pub half-twice : (z : List ℕ) (r : Bool) → Sorted g s (take (m - 0) b) z r → r ≡ true → twice (sameBy g) (map (partOf s) a) ≡ true
-    half-twice z r d t = twice-half a (take m a) (drop m a) split (rw (t, front) at d)
+  -- a list c, with l for its first half
+  module _ (l c : List ℕ) (f : c ≡ a) (k : length l ≡ length (take (m - 0) c)) where
+    pub kept-first : length (l ++ drop (m - 0) c) ≡ length a
+    kept-first = length-front c l (m - 0) k ∙ ap length f
 
-    -- a list keeps its length where a half of it is changed
-    pub kept-first : (l c : List ℕ) → c ≡ a → length l ≡ length (take (m - 0) c) → length (l ++ drop (m - 0) c) ≡ length a
-    kept-first l c f k = length-front c l (m - 0) k ∙ ap length f
+    pub kept-both : (y : List ℕ) → length y ≡ length (take (length a - m) (drop m (l ++ drop (m - 0) c)))
+        → length (take m (l ++ drop (m - 0) c) ++ (y ++ drop (length a - m) (drop m (l ++ drop (m - 0) c)))) ≡ length a
+    kept-both y n = same-len-mid m (length a - m) (l ++ drop (m - 0) c) y n ∙ kept-first
 
-    pub kept-second : (xs y : List ℕ) → length xs ≡ length a → length y ≡ length (take (length a - m) (drop m xs)) → length (take m xs ++ (y ++ drop (length a - m) (drop m xs))) ≡ length a
-    kept-second xs y f k = same-len-mid m (length a - m) xs y k ∙ f
+    back : take (length a - m) (drop m (l ++ drop (m - 0) c)) ≡ drop m a
+    back =
+        let n : m - 0 ≡ m = omega arith in
+        let u : length l ≡ m = k ∙ rw (n, f) (length-take-le m a h) in
+        rw (drop-at l (drop (m - 0) c) m u, n, f) (take-all (length a - m) (drop m a) (omega (arith, length-drop m a)))
 
-    -- z and w are what is left of the first halves
-    module _ (z w : List ℕ) (p : length z ≡ length (take (m - 0) b)) (q : length w ≡ length (take (m - 0) a)) where
-      back : (l c : List ℕ) → c ≡ a → length l ≡ length (take (m - 0) c) → take (length a - m) (drop m (l ++ drop (m - 0) c)) ≡ drop m a
-      back l c f k =
-          let n : m - 0 ≡ m = omega arith in
-          let u : length l ≡ m = k ∙ rw (n, f) (length-take-le m a h) in
-          rw (drop-at l (drop (m - 0) c) m u, n, f) (take-all (length a - m) (drop m a) (omega (arith, length-drop m a)))
+  pub same-backs : (z w : List ℕ) → length z ≡ length (take (m - 0) b) → length w ≡ length (take (m - 0) a)
+      → take (length a - m) (drop m (w ++ drop (m - 0) a)) ≡ take (length a - m) (drop m (z ++ drop (m - 0) b))
+  same-backs z w p q = back w a refl q ∙ sym (back z b e p)
 
-      pub same-backs : take (length a - m) (drop m (w ++ drop (m - 0) a)) ≡ take (length a - m) (drop m (z ++ drop (m - 0) b))
-      same-backs = back w a refl q ∙ sym (back z b e p)
+  -- a half has two parts that are the same
+  module _ (g : Bool) (s : List ℕ) where
+    pub front-twice : (z : List ℕ) (r : Bool) → Sorted g s (take (m - 0) b) z r → r ≡ true → twice (sameBy g) (map (partOf s) a) ≡ true
+    front-twice z r d t = twice-half g s a (take m a) (drop m a) split (rw (t, front) at d)
 
-      pub back-twice : (y : List ℕ) (r : Bool) → Sorted g s (take (length a - m) (drop m (z ++ drop (m - 0) b))) y r → r ≡ true → twice (sameBy g) (map (partOf s) a) ≡ true
-      back-twice y r d t = twice-rest a (take m a) (drop m a) split (rw (t, back z b e p) at d)
+    pub back-twice : (z : List ℕ) → length z ≡ length (take (m - 0) b) → (y : List ℕ) (r : Bool)
+        → Sorted g s (take (length a - m) (drop m (z ++ drop (m - 0) b))) y r → r ≡ true → twice (sameBy g) (map (partOf s) a) ≡ true
+    back-twice z p y r d t = twice-rest g s a (take m a) (drop m a) split (rw (t, back z b e p) at d)
 
-      -- y is what is left of the second half
-      module _ (y : List ℕ) (k : length y ≡ length (take (length a - m) (drop m (z ++ drop (m - 0) b)))) where
-        abbrev both : List ℕ
-        both = take m (z ++ drop (m - 0) b) ++ (y ++ drop (length a - m) (drop m (z ++ drop (m - 0) b)))
+  -- b with its halves sorted, z and y
+  module _ (z y : List ℕ) (p : length z ≡ length (take (m - 0) b)) (k : length y ≡ length (take (length a - m) (drop m (z ++ drop (m - 0) b)))) where
+    abbrev both : List ℕ
+    both = take m (z ++ drop (m - 0) b) ++ (y ++ drop (length a - m) (drop m (z ++ drop (m - 0) b)))
 
-        long-first : length z ≡ m
-        long-first = p ∙ rw front (length-take-le m a h)
+    long-first : length z ≡ m
+    long-first = p ∙ rw front (length-take-le m a h)
 
-        long-second : length y ≡ length a - m
-        long-second = k ∙ rw (back z b e p) (length-drop m a)
+    long-second : length y ≡ length a - m
+    long-second = k ∙ rw (back z b e p) (length-drop m a)
 
-        is-first : take (m - 0) both ≡ z
-        is-first =
-            let n : m - 0 ≡ m = omega arith in
-            let u : take m (z ++ drop (m - 0) b) ≡ z = take-at z (drop (m - 0) b) m long-first in
-            rw u (take-at z (y ++ drop (length a - m) (drop m (z ++ drop (m - 0) b))) (m - 0) (long-first ∙ sym n))
+    in-front : take m (z ++ drop (m - 0) b) ≡ z
+    in-front = take-at z (drop (m - 0) b) m long-first
 
-        is-second : take (length a - m) (drop m both) ≡ y
-        is-second =
-            let u : take m (z ++ drop (m - 0) b) ≡ z = take-at z (drop (m - 0) b) m long-first in
-            rw (u, drop-at z (y ++ drop (length a - m) (drop m (z ++ drop (m - 0) b))) m long-first)
-            (take-at y (drop (length a - m) (drop m (z ++ drop (m - 0) b))) (length a - m) long-second)
+    is-first : take (m - 0) both ≡ z
+    is-first =
+        let n : m - 0 ≡ m = omega arith in
+        rw in-front (take-at z (y ++ drop (length a - m) (drop m (z ++ drop (m - 0) b))) (m - 0) (long-first ∙ sym n))
 
-        pub sizes : length (take (m - 0) both) + length (take (length a - m) (drop m both)) ≡ length a
-        sizes = rw (is-first, is-second) (omega (arith, long-first, long-second))
+    is-second : take (length a - m) (drop m both) ≡ y
+    is-second =
+        rw (in-front, drop-at z (y ++ drop (length a - m) (drop m (z ++ drop (m - 0) b))) m long-first)
+        (take-at y (drop (length a - m) (drop m (z ++ drop (m - 0) b))) (length a - m) long-second)
 
-        pub first-rises : (r : Bool) → Sorted g s (take (m - 0) b) z r → r ≡ false → Rising g s (take (m - 0) both)
-        first-rises r d t = rw is-first ((rw t at d) .1)
+    pub sizes : length (take (m - 0) both) + length (take (length a - m) (drop m both)) ≡ length a
+    sizes = rw (is-first, is-second) (omega (arith, long-first, long-second))
 
-        pub second-rises : (r : Bool) → Sorted g s (take (length a - m) (drop m (z ++ drop (m - 0) b))) y r → r ≡ false → Rising g s (take (length a - m) (drop m both))
-        second-rises r d t = rw is-second ((rw t at d) .1)
+    module _ (g : Bool) (s : List ℕ) (q r : Bool) (d : Sorted g s (take (m - 0) b) z q) (f : q ≡ false)
+        (j : Sorted g s (take (length a - m) (drop m (z ++ drop (m - 0) b))) y r) (o : r ≡ false) where
+      pub first-rises : Rising g s (take (m - 0) both)
+      first-rises = rw is-first ((rw f at d) .1)
 
-        pub halves-sorted : (q r t : Bool) (out : List ℕ) → Sorted g s (take (m - 0) b) z q → q ≡ false → Sorted g s (take (length a - m) (drop m (z ++ drop (m - 0) b))) y r → r ≡ false
-            → Sorted g s (take (m - 0) both ++ take (length a - m) (drop m both)) out t → Sorted g s a out t
-        halves-sorted q r t out d f j o l =
-            let u : List·Permᴰ (take m a) z = (rw (f, front) at d) .0 in
-            let v : List·Permᴰ (drop m a) y = (rw (o, back z b e p) at j) .0 in
-            rw split (same-parts (take m a) (drop m a) z y out t u v (rw (is-first, is-second) at l))
+      pub second-rises : Rising g s (take (length a - m) (drop m both))
+      second-rises = rw is-second ((rw o at j) .1)
+
+      pub halves-sorted : (t : Bool) (out : List ℕ) → Sorted g s (take (m - 0) both ++ take (length a - m) (drop m both)) out t → Sorted g s a out t
+      halves-sorted t out l =
+          let u : List·Permᴰ (take m a) z = (rw (f, front) at d) .0 in
+          let v : List·Permᴰ (drop m a) y = (rw (o, back z b e p) at j) .0 in
+          rw split (same-parts g s (take m a) (drop m a) z y out t u v (rw (is-first, is-second) at l))

@@ -64,7 +64,7 @@ pub fn limit(w: u8) -> u64
 
 // What an integer of w octets means with the qualifiers from a to b.
 fn symbols_meant(s: &[u8], a: usize, b: usize, w: u8) -> Meant
-    requires { ⌜ (a < b) × (b ≤ length (now s)) × (w ≤ 4) ⌝ }
+    requires { ⌜ (a < b) × (b ≤ length (now s)) × (w ≤ 4) × (length (now s) ≤ 8192) ⌝ }
     ensures { λ r. ⌜ meantIn (now (s .entry)) a b r ≡ meaningBy (allowed (symbols w)) (now (s .entry)) a b ⌝ }
 {
     let m = limit(w);
@@ -191,7 +191,7 @@ fn kind_by_letter(w: Words, x: u8) -> ByLetter
 
 // A type that takes words, with the qualifiers from a to b. Most often there is just one, of one letter.
 fn words_meant(s: &[u8], a: usize, b: usize, w: Words) -> Meant
-    requires { ⌜ (a < b) × (b ≤ length (now s)) ⌝ }
+    requires { ⌜ (a < b) × (b ≤ length (now s)) × (length (now s) ≤ 8192) ⌝ }
     ensures { λ r. ⌜ meantIn (now (s .entry)) a b r ≡ meaningBy (allowed (listed w)) (now (s .entry)) a b ⌝ }
 {
     if b - a == 1 {
@@ -210,7 +210,7 @@ fn words_meant(s: &[u8], a: usize, b: usize, w: Words) -> Meant
 
 // The same, by testing all the qualifiers.
 fn listed_meant(s: &[u8], a: usize, b: usize, w: Words) -> Meant
-    requires { ⌜ (a < b) × (b ≤ length (now s)) ⌝ }
+    requires { ⌜ (a < b) × (b ≤ length (now s)) × (length (now s) ≤ 8192) ⌝ }
     ensures { λ r. ⌜ meantIn (now (s .entry)) a b r ≡ meaningBy (allowed (listed w)) (now (s .entry)) a b ⌝ }
 {
     if stanza_words::any(Test::NotWord(w), s, a, b) {
@@ -241,7 +241,7 @@ fn plain_meant(ty: FieldType) -> Meant
 
 // What the type from k to e means with the qualifiers from a to b.
 pub fn meaning_of(s: &[u8], k: usize, e: usize, a: usize, b: usize) -> Meant
-    requires { ⌜ (k ≤ e) × (e ≤ length (now s)) × (a ≤ b) × (b ≤ length (now s)) ⌝ }
+    requires { ⌜ (k ≤ e) × (e ≤ length (now s)) × (a ≤ b) × (b ≤ length (now s)) × (length (now s) ≤ 8192) ⌝ }
     ensures { λ r. ⌜ meantIn (now (s .entry)) a b r ≡ meaningIn (slice k e (now (s .entry))) (now (s .entry)) a b ⌝ }
 {
     let t = stanza_form::type_of(s, k, e);
@@ -253,7 +253,7 @@ pub fn meaning_of(s: &[u8], k: usize, e: usize, a: usize, b: usize) -> Meant
 
 // What a type means with the qualifiers from a to b, of which there is at least one.
 fn qualified(ty: FieldType, s: &[u8], a: usize, b: usize) -> Meant
-    requires { ⌜ (a < b) × (b ≤ length (now s)) ⌝ }
+    requires { ⌜ (a < b) × (b ≤ length (now s)) × (length (now s) ≤ 8192) ⌝ }
     ensures { λ r. ⌜ meantIn (now (s .entry)) a b r ≡ qualifiedIn (takenBy ty) (now (s .entry)) a b ⌝ }
 {
     match ty {

@@ -64,30 +64,17 @@ same-length g (x ∷ xs) (y ∷ ys) h =
     by true e = e
     by false e = refl
 
--- the first octets of two texts, and their rests
-module _ (g : Bool) (s t : List ℕ) (i e j f x y : ℕ) (h : i < e) (l : e ≤ length s) (k : j < f) (m : f ≤ length t)
-    (p : x ≡ cond g (lowered (getD s i 0)) (getD s i 0)) (q : y ≡ cond g (lowered (getD t j 0)) (getD t j 0)) where
-  same-one : sameBy g (slice i e s) (slice j f t) ≡ eqb x y && sameBy g (slice (i + 1) e s) (slice (j + 1) f t)
-  same-one = rw (next s i e h l, next t j f k m, p, q) (same-next g (getD s i 0) (getD t j 0) (slice (i + 1) e s) (slice (j + 1) f t))
+-- the first octets of two texts, and their rests; r says whether those are the same
+module _ (g : Bool) (s t : List ℕ) (i e j f : ℕ) (h : i < e) (l : e ≤ length s) (k : j < f) (m : f ≤ length t)
+    (r : Bool) (p : r ≡ eqb (cond g (lowered (getD s i 0)) (getD s i 0)) (cond g (lowered (getD t j 0)) (getD t j 0))) where
+  same-one : sameBy g (slice i e s) (slice j f t) ≡ r && sameBy g (slice (i + 1) e s) (slice (j + 1) f t)
+  same-one = rw (next s i e h l, next t j f k m, p) (same-next g (getD s i 0) (getD t j 0) (slice (i + 1) e s) (slice (j + 1) f t))
 
-  pub same-on : x ≡ y → sameBy g (slice (i + 1) e s) (slice (j + 1) f t) ≡ sameBy g (slice i e s) (slice j f t)
-  same-on r = rw (same-one, eq-eqb x y r)
+  pub same-on : r ≡ true → sameBy g (slice (i + 1) e s) (slice (j + 1) f t) ≡ sameBy g (slice i e s) (slice j f t)
+  same-on q = rw (same-one, q)
 
-  pub same-off : (x ≡ y → ⊥) → false ≡ sameBy g (slice i e s) (slice j f t)
-  same-off r = rw (same-one, ne-eqb x y r)
-
--- a name and a qualifier that differ in the first octet
-pub first-other : (g : Bool) (s : List ℕ) (a n i z x y : ℕ) → a < n → n ≤ length s → i < z → z ≤ length s
-    → x ≡ cond g (lowered (getD s a 0)) (getD s a 0) → y ≡ cond g (lowered (getD s i 0)) (getD s i 0) → (x ≡ y → ⊥) → sameBy g (slice a n s) (nameIn (partIn s i z)) ≡ false
-first-other g s a n i z x y h l k m p q r = rw (next s a n h l, next s i z k m) (by (nameOctet (getD s i 0)))
-  where
-    no-octet : (b : Bool) (v : ℕ) (vs : List ℕ) → sameBy b (v ∷ vs) [] ≡ false
-    no-octet true v vs = refl
-    no-octet false v vs = refl
-
-    by : (b : Bool) → sameBy g (getD s a 0 ∷ slice (a + 1) n s) (spanning b (getD s i 0) (slice (i + 1) z s) (span nameOctet (slice (i + 1) z s)) .front) ≡ false
-    by true = rw (same-next g (getD s a 0) (getD s i 0) (slice (a + 1) n s) (span nameOctet (slice (i + 1) z s) .front), ← p, ← q, ne-eqb x y r)
-    by false = no-octet g (getD s a 0) (slice (a + 1) n s)
+  pub same-off : r ≡ false → false ≡ sameBy g (slice i e s) (slice j f t)
+  same-off q = rw (same-one, q)
 
 pub same-end : (g : Bool) (s t : List ℕ) (i e j f : ℕ) → e ≤ i → f ≤ j → true ≡ sameBy g (slice i e s) (slice j f t)
 same-end g s t i e j f h k = rw (nothing s i e h, nothing t j f k, same-none g)
@@ -246,18 +233,11 @@ module _ (s : List ℕ) (i b z : ℕ) (h : i ≤ b) (l : b ≤ length s) (q : z 
         any-map (p ∷ ps) = rw (any-map ps)
 
     module _ (m : z ≡ b → ⊥) (r : Bool) (d : r ≡ anyOf (λ p. sameBy g (slice i n s) (nameIn p)) (piecesIn s (z + 1) b)) where
-      pub twice-found : r ≡ true → true ≡ twiceIn g s i b
-      twice-found t = rw (twice-next m, ← d, t)
-
       pub twice-on : r ≡ false → twiceIn g s (z + 1) b ≡ twiceIn g s i b
       twice-on t = rw (twice-next m, ← d, t)
 
   pub twice-last : (g : Bool) → z ≡ b → false ≡ twiceIn g s i b
   twice-last g m = rw (last-piece m)
-
--- the name of a qualifier from i to z is its longest front of name octets
-pub named-in : (g : Bool) (s : List ℕ) (i z m : ℕ) → i ≤ z → z ≤ length s → m ≡ frontEnd nameOctet s i z → (t : List ℕ) (r : Bool) → r ≡ sameBy g t (slice i m s) → r ≡ sameBy g t (nameIn (partIn s i z))
-named-in g s i z m h l q t r e = e ∙ ap (sameBy g t) (ap (λ k. slice i k s) q ∙ sym (front nameOctet s i z h l))
 
 -- one letter between a and b is one qualifier, a word
 no-comma : (x : ℕ) → letter x ≡ true → eqb x (code ",") ≡ false

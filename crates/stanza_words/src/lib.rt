@@ -1,7 +1,7 @@
 // The qualifiers of a field line: their grammar, and the tests made of them.
 ghost use Prim.Native.Nat.{_≤_};
 ghost use lib.ListN.{length};
-ghost use lib.Dec.{leb};
+ghost use lib.Dec.{leb, eqb};
 ghost use lib.Seq.{slice};
 ghost use mathlib.Core.Path.{_≡_};
 ghost use mathlib.Core.Bool.{_&&_, cond};
@@ -48,6 +48,16 @@ pub fn fold(ignoring: bool, b: u8) -> u8
     b
 }
 
+// Whether two octets are the same, in lower case if `ignoring`. Most that are the same are so as they stand.
+fn same_octet(ignoring: bool, x: u8, y: u8) -> bool
+    ensures { λ r. ⌜ r ≡ eqb (cond ignoring (lowered x) x) (cond ignoring (lowered y) y) ⌝ }
+{
+    if x == y {
+        return true;
+    }
+    fold(ignoring, x) == fold(ignoring, y)
+}
+
 // Whether the text of s from a to e is the text of t from b to f; if `ignoring`, the case of letters does not count.
 pub fn same(ignoring: bool, s: &[u8], a: usize, e: usize, t: &[u8], b: usize, f: usize) -> bool
     requires { ⌜ (a ≤ e) × (e ≤ length (now s)) × (b ≤ f) × (f ≤ length (now t)) ⌝ }
@@ -59,11 +69,12 @@ pub fn same(ignoring: bool, s: &[u8], a: usize, e: usize, t: &[u8], b: usize, f:
     let mut i = a;
     let mut j = b;
     while i < e {
-        if fold(ignoring, s[i]) != fold(ignoring, t[j]) {
+        if same_octet(ignoring, s[i], t[j]) {
+            i = i + 1;
+            j = j + 1;
+        } else {
             return false;
         }
-        i = i + 1;
-        j = j + 1;
     }
     true
 }

@@ -31,27 +31,14 @@ returns c =
 loop-holds : tie.Need-loop-holds Inv-loop μ-loop
 loop-holds c = (search needs, search needs, search needs, refl)
 
-shared-slice-read-fold : tie.Need-shared-slice-read-fold Inv-loop μ-loop
-shared-slice-read-fold c = search needs
+shared-slice-read-same-octet : tie.Need-shared-slice-read-same-octet Inv-loop μ-loop
+shared-slice-read-same-octet c = search needs
 
-fold-requires : tie.Need-fold-requires Inv-loop μ-loop
-fold-requires c κs = search needs
+shared-slice-read-same-octet-2 : tie.Need-shared-slice-read-same-octet-2 Inv-loop μ-loop
+shared-slice-read-same-octet-2 c = search needs
 
-shared-slice-read-fold-2 : tie.Need-shared-slice-read-fold-2 Inv-loop μ-loop
-shared-slice-read-fold-2 c = search needs
-
-fold-requires-2 : tie.Need-fold-requires-2 Inv-loop μ-loop
-fold-requires-2 c κs = search needs
-
-returns-2 : tie.Need-returns-2 Inv-loop μ-loop
-returns-2 c =
-    let c3 = c .before .before .before in
-    let c5 = c3 .before .before in
-    let c6 = c5 .before in
-    let c10 = c6 .before .before .before .before in
-    same-off (c10 .args .ignoring) (c10 .args .s .now) (c10 .args .t .now) (c6 .loop .i) (c10 .args .e) (c6 .loop .j) (c10 .args .f) _ _
-    (c5 .loop-test .taken) (c10 .pre .1) (omega arith) (c10 .pre .3) (c3 .fold .ensures) (c .before .fold2 .ensures) (c .if2 .taken)
-    ∙ c6 .loop .inv .3
+same-octet-requires : tie.Need-same-octet-requires Inv-loop μ-loop
+same-octet-requires c κs = search needs
 
 add-i : tie.Need-add-i Inv-loop μ-loop
 add-i c = search needs
@@ -64,17 +51,25 @@ loop-less c = search needs
 
 loop-again : tie.Need-loop-again Inv-loop μ-loop
 loop-again c =
-    let c3 = c .before .before .before in
-    let c5 = c3 .before .before in
-    let c6 = c5 .before in
-    let c10 = c6 .before .before .before .before in (
+    let c4 = c .before .before .before .before in
+    let c5 = c4 .before in
+    let c9 = c5 .before .before .before .before in (
       search needs,
       search needs,
       search needs,
-      same-on (c10 .args .ignoring) (c10 .args .s .now) (c10 .args .t .now) (c6 .loop .i) (c10 .args .e) (c6 .loop .j) (c10 .args .f) _ _
-          (c5 .loop-test .taken) (c10 .pre .1) (omega arith) (c10 .pre .3) (c3 .fold .ensures) (c .before .fold2 .ensures) (c .if2 .left)
-          ∙ c6 .loop .inv .3,
+      same-on (c9 .args .ignoring) (c9 .args .s .now) (c9 .args .t .now) (c5 .loop .i) (c9 .args .e) (c5 .loop .j) (c9 .args .f) (c4 .loop-test .taken)
+      (c9 .pre .1) (omega arith) (c9 .pre .3) _ (c .before .same-octet .ensures) (c .if2 .taken)
+      ∙ c5 .loop .inv .3,
     )
+
+returns-2 : tie.Need-returns-2 Inv-loop μ-loop
+returns-2 c =
+    let c4 = c .before .before .before .before in
+    let c5 = c4 .before in
+    let c9 = c5 .before .before .before .before in
+    same-off (c9 .args .ignoring) (c9 .args .s .now) (c9 .args .t .now) (c5 .loop .i) (c9 .args .e) (c5 .loop .j) (c9 .args .f) (c4 .loop-test .taken)
+    (c9 .pre .1) (omega arith) (c9 .pre .3) _ (c .before .same-octet .ensures) (c .if2 .left)
+    ∙ c5 .loop .inv .3
 
 returns-3 : tie.Need-returns-3 Inv-loop μ-loop
 returns-3 c =
@@ -93,13 +88,12 @@ same-spec =
     sub-if1-2
     returns
     loop-holds
-    shared-slice-read-fold
-    fold-requires
-    shared-slice-read-fold-2
-    fold-requires-2
-    returns-2
+    shared-slice-read-same-octet
+    shared-slice-read-same-octet-2
+    same-octet-requires
     add-i
     add-j
     loop-less
     loop-again
+    returns-2
     returns-3)
