@@ -103,7 +103,7 @@ static void numbered(int n)
     char what[64];
     char *at = stanza + sprintf(stanza, "T:1\n I2[");
     for (int i = 1; i <= n; i++)
-        at += sprintf(at, "a%d=%d,", i, i);
+        at += sprintf(at, "a%d=1,", i);
     sprintf(at - 1, "]\n");
     snprintf(what, sizeof what, "a1 to a%d", n);
     judge(what);

@@ -45,7 +45,6 @@ module _ (g : Bool) (s : List ℕ) where
   sorted-twice xs ys true h = sym h
   sorted-twice xs ys false h = sym (twice-perm g s (h .0) ∙ rising-differ g s ys (h .1))
 
-
   twice-half : (a xs ys : List ℕ) → a ≡ xs ++ ys → twice (sameBy g) (map (partOf s) xs) ≡ true → twice (sameBy g) (map (partOf s) a) ≡ true
   twice-half a xs ys e h = rw (e, map-append (partOf s) xs ys) (twice-first (sameBy g) (map (partOf s) xs) (map (partOf s) ys) h)
 

@@ -74,7 +74,14 @@ fn part_order(ignoring: bool, s: &[u8], x: u32, y: u32) -> Order
 {
     let e = buffer::least((x % 65536) as usize, s.len());
     let f = buffer::least((y % 65536) as usize, s.len());
-    text_order(ignoring, s, (x / 65536) as usize, e, (y / 65536) as usize, f)
+    text_order(
+        ignoring,
+        s,
+        (x / 65536) as usize,
+        e,
+        (y / 65536) as usize,
+        f,
+    )
 }
 
 // Which of two runs the next part is taken from: `Less` the first, from i on; `Greater` the second, from j on.

@@ -143,7 +143,14 @@ fn names(s: &[u8], a: usize, b: usize, list: &mut [u32], other: &mut [u32]) -> u
 }
 
 // Whether two qualifiers between a and b have the same name, by sorting the names in the two lists.
-fn sorted_twice(ignoring: bool, s: &[u8], a: usize, b: usize, list: &mut [u32], other: &mut [u32]) -> bool
+fn sorted_twice(
+    ignoring: bool,
+    s: &[u8],
+    a: usize,
+    b: usize,
+    list: &mut [u32],
+    other: &mut [u32],
+) -> bool
     requires { ⌜ (a ≤ b) × (b ≤ length (now s)) × (length (now s) ≤ 8192) × (b - a < length (now list)) × (length (now other) ≡ length (now list)) ⌝ }
     ensures { λ r. ⌜ r ≡ twiceIn ignoring (now (s .entry)) a b ⌝ }
 {
@@ -171,7 +178,19 @@ fn many_twice(ignoring: bool, s: &[u8], a: usize, b: usize) -> bool
     sorted_twice(ignoring, s, a, b, &mut list, &mut other)
 }
 
-// Whether two qualifiers between a and b have the same name. They are sorted only if two have the same number.
+// The same by the lists that are long enough.
+fn exact_twice(ignoring: bool, s: &[u8], a: usize, b: usize) -> bool
+    requires { ⌜ (a ≤ b) × (b ≤ length (now s)) × (length (now s) ≤ 8192) ⌝ }
+    ensures { λ r. ⌜ r ≡ twiceIn ignoring (now (s .entry)) a b ⌝ }
+{
+    if b - a < 1024 {
+        return few_twice(ignoring, s, a, b);
+    }
+    many_twice(ignoring, s, a, b)
+}
+
+// Whether two qualifiers between a and b have the same name. They are sorted only if two have the same number. There are two
+// calls of the exact way, so that the compiler keeps it apart: its lists would otherwise be touched at each call of this function.
 pub fn twice(ignoring: bool, s: &[u8], a: usize, b: usize) -> bool
     requires { ⌜ (a ≤ b) × (b ≤ length (now s)) × (length (now s) ≤ 8192) ⌝ }
     ensures { λ r. ⌜ r ≡ twiceIn ignoring (now (s .entry)) a b ⌝ }
@@ -179,8 +198,8 @@ pub fn twice(ignoring: bool, s: &[u8], a: usize, b: usize) -> bool
     if apart(ignoring, s, a, b) {
         return false;
     }
-    if b - a < 1024 {
-        return few_twice(ignoring, s, a, b);
+    if ignoring {
+        return exact_twice(true, s, a, b);
     }
-    many_twice(ignoring, s, a, b)
+    exact_twice(false, s, a, b)
 }

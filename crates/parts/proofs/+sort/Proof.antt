@@ -63,10 +63,15 @@ sort-sort-requires-2 t c κs =
     let c14 = c7 .before .before .before .before .before .before .before in
     let a = c14 .args .parts .now in
     let b = c14 .args .other .now in
-    let one = c7 .sort in
-    (omega (arith, kept-first a b (length a / 2) (c14 .pre .1) (omega arith) (one .last .1 .1 .0) b (c14 .pre .1)
-        (one .kept .1 .1 .0)), same-backs a b (length a / 2) (c14 .pre .1) (omega arith) (one .last .1 .1 .0) (one .last .1 .1 .1 .0)
-    (one .kept .1 .1 .0) (one .kept .1 .1 .1 .0))
+    let one = c7 .sort in (
+      omega (
+        arith,
+        kept-first a b (length a / 2) (c14 .pre .1) (omega arith) (one .last .1 .1 .0) b (c14 .pre .1)
+            (one .kept .1 .1 .0),
+      ),
+      same-backs a b (length a / 2) (c14 .pre .1) (omega arith) (one .last .1 .1 .0) (one .last .1 .1 .1 .0)
+          (one .kept .1 .1 .0) (one .kept .1 .1 .1 .0),
+    )
 
 sort-returns-3 : (t : ℕ) → sort-lts.Need-returns-3 (sort-below t, sort.Post, merge-reads.Asked, merge-reads.Learnt) (sort-at t) sort.Post
 sort-returns-3 t c =
@@ -78,7 +83,7 @@ sort-returns-3 t c =
     let one = c13 .sort in
     let two = c5 .sort2 in
     back-twice a b (length a / 2) (c20 .pre .1) (omega arith) (c20 .args .ignoring) (c20 .args .s .now) (one .last .1 .1 .0)
-        (one .kept .1 .1 .0) _ _ (two .ensures) (c .if3 .taken)
+    (one .kept .1 .1 .0) _ _ (two .ensures) (c .if3 .taken)
 
 sort-part-merge-end : (t : ℕ) → sort-lts.Need-part-merge-end (sort-below t, sort.Post, merge-reads.Asked, merge-reads.Learnt) (sort-at t) sort.Post
 sort-part-merge-end t c =
@@ -89,8 +94,11 @@ sort-part-merge-end t c =
     let b = c21 .args .other .now in
     let one = c14 .sort in
     let two = c6 .sort2 in
-    omega (arith, kept-both a b (length a / 2) (c21 .pre .1) (omega arith) (one .last .1 .1 .0) b (c21 .pre .1) (one .kept .1 .1 .0)
-        (two .last .1 .1 .0) (two .kept .1 .1 .0))
+    omega (
+      arith,
+      kept-both a b (length a / 2) (c21 .pre .1) (omega arith) (one .last .1 .1 .0) b (c21 .pre .1) (one .kept .1 .1 .0)
+          (two .last .1 .1 .0) (two .kept .1 .1 .0),
+    )
 
 sort-part-merge-end-2 : (t : ℕ) → sort-lts.Need-part-merge-end-2 (sort-below t, sort.Post, merge-reads.Asked, merge-reads.Learnt) (sort-at t) sort.Post
 sort-part-merge-end-2 t c =
@@ -101,8 +109,11 @@ sort-part-merge-end-2 t c =
     let b = c22 .args .other .now in
     let one = c15 .sort in
     let two = c7 .sort2 in
-    omega (arith, kept-both a b (length a / 2) (c22 .pre .1) (omega arith) (one .last .1 .1 .0) b (c22 .pre .1) (one .kept .1 .1 .0)
-        (two .last .1 .1 .0) (two .kept .1 .1 .0))
+    omega (
+      arith,
+      kept-both a b (length a / 2) (c22 .pre .1) (omega arith) (one .last .1 .1 .0) b (c22 .pre .1) (one .kept .1 .1 .0)
+          (two .last .1 .1 .0) (two .kept .1 .1 .0),
+    )
 
 sort-merge-requires : (t : ℕ) → sort-lts.Need-merge-requires (sort-below t, sort.Post, merge-reads.Asked, merge-reads.Learnt) (sort-at t) sort.Post
 sort-merge-requires t c κs =
@@ -114,8 +125,7 @@ sort-merge-requires t c κs =
     let a = c24 .args .parts .now in
     let b = c24 .args .other .now in
     let one = c17 .sort in
-    let two = c9 .sort2 in
-    (
+    let two = c9 .sort2 in (
       sizes a b (length a / 2) (c24 .pre .1) (omega arith) (one .last .1 .1 .0) (two .last .1 .1 .0) (one .kept .1 .1 .0) (two .kept .1 .1 .0) ∙ sym
           (kept-both a b (length a / 2) (c24 .pre .1) (omega arith) (one .last .1 .1 .1 .0) a refl (one .kept .1 .1 .1 .0) (two .last .1 .1 .1 .0)
           (two .kept .1 .1 .1 .0)),
@@ -136,7 +146,7 @@ sort-same-length-5 t c =
     let one = c20 .sort in
     let two = c12 .sort2 in
     c2 .merge .kept .1 .1 .1 .1 .0 ∙ kept-both a b (length a / 2) (c27 .pre .1) (omega arith) (one .last .1 .1 .1 .0) a refl (one .kept .1 .1 .1 .0)
-        (two .last .1 .1 .1 .0) (two .kept .1 .1 .1 .0)
+    (two .last .1 .1 .1 .0) (two .kept .1 .1 .1 .0)
 
 sort-same-length-6 : (t : ℕ) → sort-lts.Need-same-length-6 (sort-below t, sort.Post, merge-reads.Asked, merge-reads.Learnt) (sort-at t) sort.Post
 sort-same-length-6 t c =
@@ -148,7 +158,7 @@ sort-same-length-6 t c =
     let one = c20 .sort in
     let two = c12 .sort2 in
     kept-both a b (length a / 2) (c27 .pre .1) (omega arith) (one .last .1 .1 .0) b (c27 .pre .1) (one .kept .1 .1 .0) (two .last .1 .1 .0)
-        (two .kept .1 .1 .0) ∙ sym (ap length (c27 .pre .1))
+    (two .kept .1 .1 .0) ∙ sym (ap length (c27 .pre .1))
 
 sort-returns-4 : (t : ℕ) → sort-lts.Need-returns-4 (sort-below t, sort.Post, merge-reads.Asked, merge-reads.Learnt) (sort-at t) sort.Post
 sort-returns-4 t c =
@@ -164,8 +174,8 @@ sort-returns-4 t c =
     let two = c12 .sort2 in
     let end = c2 .merge in
     halves-sorted a b (length a / 2) (c27 .pre .1) (omega arith) (one .last .1 .1 .0) (two .last .1 .1 .0) (one .kept .1 .1 .0) (two .kept .1 .1 .0)
-        (c27 .args .ignoring) (c27 .args .s .now) _ _ (one .ensures) (c15 .if2 .left) (two .ensures) (c7 .if3 .left) (end .result)
-        (end .last .1 .1 .1 .1 .0)
+    (c27 .args .ignoring) (c27 .args .s .now) _ _ (one .ensures) (c15 .if2 .left) (two .ensures) (c7 .if3 .left) (end .result)
+    (end .last .1 .1 .1 .1 .0)
     (end .ensures)
 
 pub +sort-spec : {M : Type 1} → statement M

@@ -30,8 +30,11 @@ part-order-requires c κs = search needs
 returns-3 : tie.Need-returns-3
 returns-3 c =
     let c8 = c .before .before .before .before .before .before .before .before in
-    rw (drop-next (c8 .args .xs .now) (c8 .args .i) (c .before .before .before .before .if1 .left), drop-next (c8 .args .ys .now) (c8 .args .j)
-        (c .before .before .before .if2 .left))
+    rw (
+      drop-next (c8 .args .xs .now) (c8 .args .i) (c .before .before .before .before .if1 .left),
+      drop-next (c8 .args .ys .now) (c8 .args .j)
+          (c .before .before .before .if2 .left),
+    )
     (c .part-order .ensures)
 
 pub head-order-spec : {M : Type 1} → statement M

@@ -40,7 +40,7 @@ shared-slice-read-out c =
     let c10 = c .before .before .before .before .before .before .before .before .before .before in
     first-there (c10 .args .ignoring) (c10 .args .s .now) (c10 .args .xs .now) (c10 .args .ys .now) (c5 .loop .out) (c5 .loop .i) (c5 .loop .j)
     (c5 .loop .inv .0) (c5 .loop .inv .1) (c5 .loop .inv .2) (c4 .loop-test .taken) _ (c .before .before .before .head-order .ensures)
-        (c .before .enum-told .given .1)
+    (c .before .enum-told .given .1)
 
 add-out : tie.Need-add-out Inv-loop μ-loop
 add-out c = search needs
@@ -71,7 +71,7 @@ loop-again c =
       search needs,
       first-merged (c10 .args .ignoring) (c10 .args .s .now) (c10 .args .xs .now) (c10 .args .ys .now) (c5 .loop .out) (c5 .loop .i) (c5 .loop .j)
           (c5 .loop .inv .0) (c5 .loop .inv .1) (c5 .loop .inv .2) (c4 .loop-test .taken) _ (c .before .before .before .head-order .ensures)
-              (c5 .loop .inv .4) o,
+          (c5 .loop .inv .4) o,
     )
 
 enum-told-2 : tie.Need-enum-told-2 Inv-loop μ-loop
@@ -87,7 +87,7 @@ shared-slice-read-out-2 c =
     let c10 = c .before .before .before .before .before .before .before .before .before .before in
     second-there (c10 .args .ignoring) (c10 .args .s .now) (c10 .args .xs .now) (c10 .args .ys .now) (c5 .loop .out) (c5 .loop .i) (c5 .loop .j)
     (c5 .loop .inv .0) (c5 .loop .inv .1) (c5 .loop .inv .2) (c4 .loop-test .taken) _ (c .before .before .before .head-order .ensures)
-        (c .before .enum-told2 .given .1)
+    (c .before .enum-told2 .given .1)
 
 add-out-2 : tie.Need-add-out-2 Inv-loop μ-loop
 add-out-2 c = search needs
@@ -118,7 +118,7 @@ loop-again-2 c =
       search needs,
       second-merged (c10 .args .ignoring) (c10 .args .s .now) (c10 .args .xs .now) (c10 .args .ys .now) (c5 .loop .out) (c5 .loop .i) (c5 .loop .j)
           (c5 .loop .inv .0) (c5 .loop .inv .1) (c5 .loop .inv .2) (c4 .loop-test .taken) _ (c .before .before .before .head-order .ensures)
-              (c5 .loop .inv .4) o,
+          (c5 .loop .inv .4) o,
     )
 
 enum-told-3 : tie.Need-enum-told-3 Inv-loop μ-loop
@@ -131,7 +131,7 @@ returns : tie.Need-returns Inv-loop μ-loop
 returns c =
     let c9 = c .before .before .before .before .before .before .before .before .before in
     merge-same (c9 .args .ignoring) (c9 .args .s .now) _ _ _ _ _ (c .before .before .before .before .loop .inv .4) _
-        (c .before .before .head-order .ensures) (c .enum-told3 .given .1)
+    (c .before .before .head-order .ensures) (c .enum-told3 .given .1)
 
 same-length-2 : tie.Need-same-length-2 Inv-loop μ-loop
 same-length-2 c = search needs

@@ -13,12 +13,22 @@ returns-2 : tie.Need-returns-2
 returns-2 c = rw (← c .before .before .fold .ensures, ← c .before .fold2 .ensures, lt-ltb _ _ (c .if2 .taken))
 
 returns-3 : tie.Need-returns-3
-returns-3 c = rw (← c .before .before .before .fold .ensures, ← c .before .before .fold2 .ensures, le-ltb _ _ (c .before .if2 .left), lt-ltb _ _
-    (c .if3 .taken))
+returns-3 c = rw (
+  ← c .before .before .before .fold .ensures,
+  ← c .before .before .fold2 .ensures,
+  le-ltb _ _ (c .before .if2 .left),
+  lt-ltb _ _
+      (c .if3 .taken),
+)
 
 returns-4 : tie.Need-returns-4
-returns-4 c = rw (← c .before .before .before .fold .ensures, ← c .before .before .fold2 .ensures, le-ltb _ _ (c .before .if2 .left), le-ltb _ _
-    (c .if3 .left))
+returns-4 c = rw (
+  ← c .before .before .before .fold .ensures,
+  ← c .before .before .fold2 .ensures,
+  le-ltb _ _ (c .before .if2 .left),
+  le-ltb _ _
+      (c .if3 .left),
+)
 
 pub octet-order-spec : {M : Type 1} → statement M
 octet-order-spec = tie.close (tie.spec returns (λ c κs. search needs) (λ c κs. search needs) returns-2 returns-3 returns-4)

@@ -41,7 +41,7 @@ returns-2 c =
     let c6 = c .before .before .before .before .before .before in
     let c7 = c .before .before .before .before .before .before .before in
     let c9 = c .before .before .before .before .before .before .before .before .before in
-     order-next (c9 .args .ignoring) (c9 .args .s .now) (c7 .loop .i) (c9 .args .e) (c7 .loop .j) (c9 .args .f) (c9 .pre .0) (c9 .pre .1)
+    order-next (c9 .args .ignoring) (c9 .args .s .now) (c7 .loop .i) (c9 .args .e) (c7 .loop .j) (c9 .args .f) (c9 .pre .0) (c9 .pre .1)
     (c6 .loop-test .taken) (c5 .if1 .left) _ (sym (c .enum-told .given .1) ∙ c .before .before .octet-order .ensures)
     ∙ c7 .loop .inv
 
@@ -54,7 +54,7 @@ returns-3 c =
     let c6 = c .before .before .before .before .before .before in
     let c7 = c .before .before .before .before .before .before .before in
     let c9 = c .before .before .before .before .before .before .before .before .before in
-     order-next (c9 .args .ignoring) (c9 .args .s .now) (c7 .loop .i) (c9 .args .e) (c7 .loop .j) (c9 .args .f) (c9 .pre .0) (c9 .pre .1)
+    order-next (c9 .args .ignoring) (c9 .args .s .now) (c7 .loop .i) (c9 .args .e) (c7 .loop .j) (c9 .args .f) (c9 .pre .0) (c9 .pre .1)
     (c6 .loop-test .taken) (c5 .if1 .left) _ (sym (c .enum-told2 .given .1) ∙ c .before .before .octet-order .ensures)
     ∙ c7 .loop .inv
 
@@ -76,7 +76,7 @@ loop-again c =
     let c6 = c .before .before .before .before .before .before in
     let c7 = c .before .before .before .before .before .before .before in
     let c9 = c .before .before .before .before .before .before .before .before .before in
-     order-next (c9 .args .ignoring) (c9 .args .s .now) (c7 .loop .i) (c9 .args .e) (c7 .loop .j) (c9 .args .f) (c9 .pre .0) (c9 .pre .1)
+    order-next (c9 .args .ignoring) (c9 .args .s .now) (c7 .loop .i) (c9 .args .e) (c7 .loop .j) (c9 .args .f) (c9 .pre .0) (c9 .pre .1)
     (c6 .loop-test .taken) (c5 .if1 .left) _ (sym (c .enum-told3 .given .1) ∙ c .before .before .octet-order .ensures)
     ∙ c7 .loop .inv
 

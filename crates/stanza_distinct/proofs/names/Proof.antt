@@ -64,8 +64,8 @@ returns c =
     let c4 = c .before .before .before .before in
     let c8 = c .before .before .before .before .before .before .before .before in
     let d = names-last (c8 .args .s .now) (c8 .args .a) (c8 .args .b) (c4 .loop .i) _ _ (c4 .loop .inv .0) (c8 .pre .1) (c3 .skip .ensures)
-          (c .before .before .skip2 .ensures) (c4 .loop .list) (c4 .loop .other) (c4 .loop .n) _ (omega arith) (omega arith) (c .before .part .ensures)
-          (c4 .loop .inv .4) (c .if1 .taken) in
+    (c .before .before .skip2 .ensures) (c4 .loop .list) (c4 .loop .other) (c4 .loop .n) _ (omega arith) (omega arith) (c .before .part .ensures)
+    (c4 .loop .inv .4) (c .if1 .taken) in
     record { fits = omega (arith, length-set (c4 .loop .list) (c4 .loop .n) (c .before .part .result)); names = d .0; same = d .1 }
 
 add-i : tie.Need-add-i Inv-loop μ-loop

@@ -58,8 +58,8 @@ loop-again c =
       search needs,
       search needs,
       same-on (c9 .args .ignoring) (c9 .args .s .now) (c9 .args .t .now) (c5 .loop .i) (c9 .args .e) (c5 .loop .j) (c9 .args .f) (c4 .loop-test .taken)
-      (c9 .pre .1) (omega arith) (c9 .pre .3) _ (c .before .same-octet .ensures) (c .if2 .taken)
-      ∙ c5 .loop .inv .3,
+          (c9 .pre .1) (omega arith) (c9 .pre .3) _ (c .before .same-octet .ensures) (c .if2 .taken)
+          ∙ c5 .loop .inv .3,
     )
 
 returns-2 : tie.Need-returns-2 Inv-loop μ-loop
