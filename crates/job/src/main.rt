@@ -40,7 +40,7 @@ fn answer(j: &[u8], out: &mut [u8; ROOM]) {
     }
 }
 
-// Answers the job in the first n octets of a buffer that a job which is too long does not fit either.
+// Answers the job in the first n octets of a buffer that shows of any input whether it is too long for a job.
 fn answer_first(input: &[u8], n: usize, out: &mut [u8; ROOM])
     requires { ⌜ (n ≤ length (now input)) × Enough (now input) ⌝ }
 {

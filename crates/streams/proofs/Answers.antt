@@ -15,10 +15,11 @@ use Rattle.streams.specs.declared.Read.{Read}
 use Rattle.streams.specs.declared.Read.the-variants.{End, Failed, Got}
 use Rattle.streams.specs.Reading.{told}
 
--- the test whether an answer is below 0
+-- the test whether an answer is below 0 says yes
 abbrev pub Below : ℤ → Type 0
 Below z = ltZ (toZ w64 (ofZ w64 z)) (pos 0) ≡ true
 
+-- and no
 abbrev pub NotBelow : ℤ → Type 0
 NotBelow z = ltZ (toZ w64 (ofZ w64 z)) (pos 0) ≡ false
 

@@ -1,4 +1,4 @@
--- The octets that `job::run` hands on were read, and a job that is too long would not have fitted: it would fill the buffer.
+-- The octets that `job::run` hands on stand in the buffer, which has room for one octet more than a job may have.
 use Prim.Native.Nat.{_<_}
 use native.Mathlib.Omega.{arith}
 use borrow.Author.Needs.{needs}
