@@ -41,6 +41,17 @@ static void judge(const char *what)
         worst = best / n;
 }
 
+/* the letters of w octets, in capitals or not as if thrown by a coin */
+static void capitals(char *out, int w)
+{
+    static unsigned seed = 1;
+    for (int i = 0; i < w; i++) {
+        seed = seed * 1664525 + 1013904223;
+        if ('a' <= out[i] && out[i] <= 'z' && seed >> 31)
+            out[i] -= 32;
+    }
+}
+
 /* name k of w octets: a letter, then any; the last are changed first */
 static void name(char *out, unsigned k, int w)
 {
@@ -51,7 +62,7 @@ static void name(char *out, unsigned k, int w)
         out[0] = octets[k % 26];
 }
 
-/* symbols of w octets, of which the first `front` are the same, as many as fit, in an order: 0 rising, 1 falling, 2 mixed, 3 bits reversed */
+/* symbols of w octets, of which the first `front` are the same, as many as fit, in an order: 0 rising, 1 falling, 2 mixed, 3 bits reversed, 4 mixed with capitals */
 static void symbols(const char *type, int front, int w, int order, unsigned most)
 {
     char text[128], what[128];
@@ -72,27 +83,27 @@ static void symbols(const char *type, int front, int w, int order, unsigned most
         unsigned k = i;
         if (order == 1)
             k = n - 1 - i;
-        if (order == 2)
+        if (order == 2 || order == 4)
             k = (unsigned)((i * 7919ul + 13) % n);
         if (order == 3) {
             k = 0;
             for (unsigned b = 0; b < bits; b++)
                 k |= (i >> b & 1) << (bits - 1 - b);
         }
-        if (k >= n || (order < 3 && i >= n))
+        if (k >= n || (order != 3 && i >= n))
             continue;
         memset(text, 'f', front);
         if (tail)
             name(text + front, k, tail);
-        if (order == 2 && i % 2)
-            text[0] -= 32;
+        if (order == 4)
+            capitals(text, w);
         memcpy(at, text, w);
         at += w;
         at += sprintf(at, "=1,");
         j++;
     }
     sprintf(at - 1, "]\n");
-    static const char *orders[] = {"rising", "falling", "mixed", "bits reversed"};
+    static const char *orders[] = {"rising", "falling", "mixed", "bits reversed", "mixed with capitals"};
     snprintf(what, sizeof what, "%s: %u symbols of %d, %d in front, %s", type, n, w, front, orders[order]);
     judge(what);
 }
@@ -109,8 +120,8 @@ static void numbered(int n)
     judge(what);
 }
 
-/* 64 fields whose names have w octets, the same but for the last two */
-static void fields(int w)
+/* 64 fields whose names have w octets, the same but for the last two, and for capitals if `mixed` */
+static void fields(int w, int mixed)
 {
     char what[64];
     char *at = stanza + sprintf(stanza, "T:1\n");
@@ -118,10 +129,12 @@ static void fields(int w)
         at += sprintf(at, " I1:");
         memset(at, 'n', w);
         name(at + w - 2, i, 2);
+        if (mixed)
+            capitals(at, w);
         at += w;
         at += sprintf(at, "\n");
     }
-    snprintf(what, sizeof what, "64 fields, names of %d octets", w);
+    snprintf(what, sizeof what, "64 fields, names of %d octets%s", w, mixed ? ", with capitals" : "");
     judge(what);
 }
 
@@ -135,14 +148,15 @@ int main(void)
     numbered(1000);
     static const char *types[] = {"I1", "I4"};
     for (int t = 0; t < 2; t++)
-        for (int order = 0; order < 4; order++)
+        for (int order = 0; order < 5; order++)
             for (int w = 2; w <= 6; w++)
                 symbols(types[t], 0, w, order, 8192);
     for (int front = 8; front <= 61; front += front < 56 ? 8 : 5)
-        for (int order = 0; order < 4; order++)
+        for (int order = 0; order < 5; order++)
             symbols("I1", front, front + 2, order, 8192);
     for (int w = 3; w <= 63; w += 12)
-        fields(w);
+        for (int mixed = 0; mixed < 2; mixed++)
+            fields(w, mixed);
     printf("worst of those over 500 octets: %.2f ns an octet\n", worst);
     return 0;
 }

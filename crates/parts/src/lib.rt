@@ -23,13 +23,10 @@ pub enum Order {
     Greater,
 }
 
-// The order of two octets, in lower case if `ignoring`. Most often they are the same as they stand.
+// The order of two octets, in lower case if `ignoring`.
 fn octet_order(ignoring: bool, x: u8, y: u8) -> Order
     ensures { λ r. ⌜ r ≡ octetOrder (folded ignoring x) (folded ignoring y) ⌝ }
 {
-    if x == y {
-        return Order::Same;
-    }
     let a = stanza_words::fold(ignoring, x);
     let b = stanza_words::fold(ignoring, y);
     if a < b {

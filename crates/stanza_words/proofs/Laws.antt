@@ -70,14 +70,19 @@ module _ (g : Bool) (s t : List ℕ) (i e j f : ℕ) (h : i < e) (l : e ≤ leng
   same-one : sameBy g (slice i e s) (slice j f t) ≡ r && sameBy g (slice (i + 1) e s) (slice (j + 1) f t)
   same-one = rw (next s i e h l, next t j f k m, p) (same-next g (getD s i 0) (getD t j 0) (slice (i + 1) e s) (slice (j + 1) f t))
 
-  pub same-on : r ≡ true → sameBy g (slice (i + 1) e s) (slice (j + 1) f t) ≡ sameBy g (slice i e s) (slice j f t)
-  same-on q = rw (same-one, q)
+  pub same-more : (ok q : Bool) → q ≡ ok && r → q && sameBy g (slice (i + 1) e s) (slice (j + 1) f t) ≡ ok && sameBy g (slice i e s) (slice j f t)
+  same-more true q d = rw (same-one, d)
+  same-more false q d = rw d
 
   pub same-off : r ≡ false → false ≡ sameBy g (slice i e s) (slice j f t)
   same-off q = rw (same-one, q)
 
 pub same-end : (g : Bool) (s t : List ℕ) (i e j f : ℕ) → e ≤ i → f ≤ j → true ≡ sameBy g (slice i e s) (slice j f t)
 same-end g s t i e j f h k = rw (nothing s i e h, nothing t j f k, same-none g)
+
+pub same-done : (g : Bool) (s t : List ℕ) (i e j f : ℕ) (ok : Bool) → e ≤ i → f ≤ j → ok ≡ ok && sameBy g (slice i e s) (slice j f t)
+same-done g s t i e j f true h k = same-end g s t i e j f h k
+same-done g s t i e j f false h k = refl
 
 pub same-lengths : (g : Bool) (s t : List ℕ) (a e b f : ℕ) → e ≤ length s → f ≤ length t → (e - a ≡ f - b → ⊥) → false ≡ sameBy g (slice a e s) (slice b f t)
 same-lengths g s t a e b f l m h =
