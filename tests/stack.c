@@ -16,7 +16,7 @@ struct call {
 };
 
 static uint8_t rdata[65535], text_out[ROOM];
-static char word[2001], types[4001];
+static char word[2001], types[4001], symbols[8192];
 static const uint8_t root[] = {0};
 static uint64_t answer;
 
@@ -66,6 +66,11 @@ int main(void)
     memset(word, 'a', sizeof word - 1);
     for (size_t i = 0; i + 10 < sizeof types; i += 10)
         snprintf(types + i, 11, "TYPE%05u ", (unsigned)i);
+    /* symbols that share their length, first and last octets, so that they are sorted */
+    size_t end = sprintf(symbols, "T:1\n I2[");
+    for (unsigned i = 0; end + 16 < sizeof symbols; i++)
+        end += sprintf(symbols + end, "a%04ub=%u,", i, i);
+    strcpy(symbols + end - 1, "]\n");
     struct call calls[] = {
         {0, "DOOR:65280:I Door timing\n I2:opening Tenths\n I2:dwell Tenths\n I1[STEP=1,HOLD=2]:mode Mode\n N:site Site\n", "30 70 HOLD lobby"},
         {0, "T:1\n N[C,A]\n R[L]\n", "a.b. TYPE1 TYPE28 TYPE65535"},
@@ -76,23 +81,24 @@ int main(void)
         {0, "T:1\n S[X]\n", word},
         {0, "T:1\n R[L]\n", types},
         {0, "T:1\n N[O]\n", "@"},
+        {0, symbols, "a0001b"},
     };
     /* once here, so that the loader has found every function of the C library before a stack is looked at */
     for (int entry = 1; entry < 4; entry++) {
         calls[0].entry = entry;
         make(&calls[0]);
     }
-    size_t most[4] = {0}, own = depth(nothing, NULL);
-    for (size_t i = 0; i < sizeof calls / sizeof *calls; i++)
+    size_t most[4] = {0}, own = depth(nothing, NULL), last = sizeof calls / sizeof *calls - 1;
+    for (size_t i = 0; i <= last; i++)
         for (int entry = 1; entry < 4; entry++) {
             calls[i].entry = entry;
             size_t d = depth(make, &calls[i]) - own;
             if (entry > 1 && extlang_number(answer) != 0)
                 printf("%s: refused, number %u\n", calls[i].stanza, extlang_number(answer));
-            if (most[entry] < d)
+            if (i == last)
+                printf("%s %zu, %zu where many symbols are sorted\n", names[entry], most[entry], d);
+            else if (most[entry] < d)
                 most[entry] = d;
         }
-    for (int entry = 1; entry < 4; entry++)
-        printf("%s %zu\n", names[entry], most[entry]);
     return 0;
 }
