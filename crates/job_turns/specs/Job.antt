@@ -43,6 +43,7 @@ pub data AllTurns (j : List ℕ) (b : Job) : ℕ → List (List ℕ) → Type 0 
   before-others : {at : ℕ} {before after : List ℕ} {r : Turn} {ws : List (List ℕ)} → Turns j b at before after r → r .more ≡ true → AllTurns j b (r .at) ws
       → AllTurns j b at (take (r .taken) after ∷ ws)
 
--- The job: "One line per record comes out". Turns in a row, from the one at the first record to the last, together write what the definition gives for the input.
+-- The job: "One line per record comes out". Turns in a row, from the one at the first record to the last, together write what the
+-- definition gives for the input.
 abbrev pub TurnsJob : Type 0
 TurnsJob = (j : List ℕ) (b : Job) → Begins j b → (ws : List (List ℕ)) → AllTurns j b (b .places .records) ws → flat ws ≡ job j
