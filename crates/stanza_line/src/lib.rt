@@ -166,7 +166,10 @@ fn same_name(s: &[u8], x: u16, y: u16, a: usize, e: usize) -> bool
     let b = x as usize;
     let f = buffer::least(y as usize, s.len());
     if b < f {
-        return stanza_words::same(true, s, b, f, s, a, e);
+        if e - a < 16 {
+            return stanza_words::same(true, s, b, f, s, a, e);
+        }
+        return stanza_words::same_long(true, s, b, f, s, a, e);
     }
     false
 }

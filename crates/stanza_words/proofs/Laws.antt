@@ -70,6 +70,9 @@ module _ (g : Bool) (s t : List ℕ) (i e j f : ℕ) (h : i < e) (l : e ≤ leng
   same-one : sameBy g (slice i e s) (slice j f t) ≡ r && sameBy g (slice (i + 1) e s) (slice (j + 1) f t)
   same-one = rw (next s i e h l, next t j f k m, p) (same-next g (getD s i 0) (getD t j 0) (slice (i + 1) e s) (slice (j + 1) f t))
 
+  pub same-on : r ≡ true → sameBy g (slice (i + 1) e s) (slice (j + 1) f t) ≡ sameBy g (slice i e s) (slice j f t)
+  same-on q = rw (same-one, q)
+
   pub same-more : (ok q : Bool) → q ≡ ok && r → q && sameBy g (slice (i + 1) e s) (slice (j + 1) f t) ≡ ok && sameBy g (slice i e s) (slice j f t)
   same-more true q d = rw (same-one, d)
   same-more false q d = rw d

@@ -55,6 +55,37 @@ fn same_octet(ignoring: bool, x: u8, y: u8) -> bool
     fold(ignoring, x) == fold(ignoring, y)
 }
 
+// The same. Most that are the same are so as they stand.
+fn alike(ignoring: bool, x: u8, y: u8) -> bool
+    ensures { λ r. ⌜ r ≡ eqb (cond ignoring (lowered x) x) (cond ignoring (lowered y) y) ⌝ }
+{
+    if x == y {
+        return true;
+    }
+    same_octet(ignoring, x, y)
+}
+
+// Whether the text of s from a to e is the text of t from b to f; if `ignoring`, the case of letters does not count.
+pub fn same(ignoring: bool, s: &[u8], a: usize, e: usize, t: &[u8], b: usize, f: usize) -> bool
+    requires { ⌜ (a ≤ e) × (e ≤ length (now s)) × (b ≤ f) × (f ≤ length (now t)) ⌝ }
+    ensures { λ r. ⌜ r ≡ sameBy ignoring (slice a e (now (s .entry))) (slice b f (now (t .entry))) ⌝ }
+{
+    if e - a != f - b {
+        return false;
+    }
+    let mut i = a;
+    let mut j = b;
+    while i < e {
+        if alike(ignoring, s[i], t[j]) {
+            i = i + 1;
+            j = j + 1;
+        } else {
+            return false;
+        }
+    }
+    true
+}
+
 // Whether both are true.
 fn both(x: bool, y: bool) -> bool
     ensures { λ r. ⌜ r ≡ x && y ⌝ }
@@ -62,7 +93,7 @@ fn both(x: bool, y: bool) -> bool
     if x { y } else { false }
 }
 
-// The same as `same` for texts of one length. The loop never stops early, so that it takes many octets at once.
+// The same for texts of one length. The loop never stops early, so that it takes many octets at once.
 fn same_all(ignoring: bool, s: &[u8], a: usize, e: usize, t: &[u8], b: usize, f: usize) -> bool
     requires { ⌜ (a ≤ e) × (e ≤ length (now s)) × (b ≤ f) × (f ≤ length (now t)) × (e - a ≡ f - b) ⌝ }
     ensures { λ r. ⌜ r ≡ sameBy ignoring (slice a e (now (s .entry))) (slice b f (now (t .entry))) ⌝ }
@@ -78,21 +109,15 @@ fn same_all(ignoring: bool, s: &[u8], a: usize, e: usize, t: &[u8], b: usize, f:
     ok
 }
 
-// Whether the text of s from a to e is the text of t from b to f; if `ignoring`, the case of letters does not count.
-pub fn same(ignoring: bool, s: &[u8], a: usize, e: usize, t: &[u8], b: usize, f: usize) -> bool
+// The same as `same`, quicker for long texts that begin with the same octets.
+pub fn same_long(ignoring: bool, s: &[u8], a: usize, e: usize, t: &[u8], b: usize, f: usize) -> bool
     requires { ⌜ (a ≤ e) × (e ≤ length (now s)) × (b ≤ f) × (f ≤ length (now t)) ⌝ }
     ensures { λ r. ⌜ r ≡ sameBy ignoring (slice a e (now (s .entry))) (slice b f (now (t .entry))) ⌝ }
 {
     if e - a != f - b {
         return false;
     }
-    if e <= a {
-        return true;
-    }
-    if same_octet(ignoring, s[a], t[b]) {
-        return same_all(ignoring, s, a, e, t, b, f);
-    }
-    false
+    same_all(ignoring, s, a, e, t, b, f)
 }
 
 // Whether the part from a to e starts with a letter and has at most 63 octets.
