@@ -1,0 +1,22 @@
+use Rattle.stanza_line.proofs.Laws.{same-there, same-not}
+use borrow.Author.Needs.{needs}
+use Rattle.stanza_line.proofs.long_name.Statement.{statement}
+use Rattle.stanza_line.proofs.long_name.Tie as tie
+use Rattle.stanza_line.proofs.long_name.Reads as reads
+use Rattle.stanza_line.proofs.long_name.Lts as lts
+use Rattle.buffer.proofs.least.Reads as least-reads
+
+returns : tie.Need-returns
+returns c =
+    let c2 = c .before .before in
+    let c4 = c2 .before .before in
+    same-there (c4 .args .s .now) (c4 .args .x) (c4 .args .y) _ (c4 .args .a) (c4 .args .e) _ (c2 .least .ensures) (c .before .if1 .taken)
+    (c .same-long .ensures)
+
+returns-2 : tie.Need-returns-2
+returns-2 c =
+    let c3 = c .before .before .before in
+    same-not (c3 .args .s .now) (c3 .args .x) (c3 .args .y) _ (c3 .args .a) (c3 .args .e) (c .before .least .ensures) (c .if1 .left)
+
+pub long-name-spec : {M : Type 1} → statement M
+long-name-spec = tie.close (tie.spec (λ c κs. search needs) (λ c κs. search needs) returns returns-2)
