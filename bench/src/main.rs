@@ -11,6 +11,7 @@ mod reading;
 mod records;
 mod table;
 mod timing;
+mod worst;
 
 use std::process::ExitCode;
 
@@ -32,7 +33,7 @@ fn run() -> Result<(), String> {
         direction.run(&corpus, python.as_ref(), &mut out)?;
         growth::run(&direction, &mut out)?;
     }
-    Ok(())
+    worst::run(&mut out)
 }
 
 fn main() -> ExitCode {

@@ -7,7 +7,7 @@ use crate::compare::Direction;
 use crate::extlang;
 use crate::records::Record;
 
-const ROOT: &[u8] = &[0];
+pub const ROOT: &[u8] = &[0];
 
 pub const READING: Direction = Direction {
     name: "Reading",
