@@ -91,11 +91,12 @@ impl Way {
     }
 
     fn rows(&self, inputs: &[Input], out: &mut [u8]) -> Result<(), String> {
-        let numbers: Result<Vec<u32>, String> = inputs.iter().map(|input| self.check(input, out)).collect();
+        let checks = inputs.iter().map(|input| self.check(input, out));
+        let numbers = checks.collect::<Result<Vec<u32>, String>>()?;
         print!("\n{:64}{:>9}{:>9}", self.name, "octets", "refusal");
         println!("{:>13}{:>10}{:>16}{:>10}", "extlang, ns", "an octet", "independent, ns", "an octet");
         let times = self.times(inputs, out);
-        for ((input, number), pair) in inputs.iter().zip(numbers?).zip(times.chunks(2)) {
+        for ((input, number), pair) in inputs.iter().zip(numbers).zip(times.chunks(2)) {
             let (ours, theirs, octets) = (pair[0], pair[1], input.len() as f64);
             print!("{:64}{octets:9}{number:9}", input.what);
             println!("{ours:13.0}{:10.2}{theirs:16.0}{:10.2}", ours / octets, theirs / octets);
