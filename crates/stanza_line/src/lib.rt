@@ -148,17 +148,6 @@ fn name_again(s: &[u8], names: &[u16], ends: &[u16], n: usize, a: usize, e: usiz
     requires { ⌜ (a ≤ e) × (e ≤ length (now s)) × (n ≤ length (now names)) × (n ≤ length (now ends)) ⌝ }
     ensures { λ r. ⌜ r ≡ namedFrom (now (s .entry)) (now (names .entry)) (now (ends .entry)) a e 0 n ⌝ }
 {
-    if e - a < 16 {
-        return short_again(s, names, ends, n, a, e);
-    }
-    long_again(s, names, ends, n, a, e)
-}
-
-// The same, octet by octet.
-fn short_again(s: &[u8], names: &[u16], ends: &[u16], n: usize, a: usize, e: usize) -> bool
-    requires { ⌜ (a ≤ e) × (e ≤ length (now s)) × (n ≤ length (now names)) × (n ≤ length (now ends)) ⌝ }
-    ensures { λ r. ⌜ r ≡ namedFrom (now (s .entry)) (now (names .entry)) (now (ends .entry)) a e 0 n ⌝ }
-{
     let mut k = 0;
     while k < n {
         if same_name(s, names[k], ends[k], a, e) {
@@ -177,34 +166,9 @@ fn same_name(s: &[u8], x: u16, y: u16, a: usize, e: usize) -> bool
     let b = x as usize;
     let f = buffer::least(y as usize, s.len());
     if b < f {
-        return stanza_words::same(true, s, b, f, s, a, e);
-    }
-    false
-}
-
-// The same, many octets at once, which costs more where names are short.
-fn long_again(s: &[u8], names: &[u16], ends: &[u16], n: usize, a: usize, e: usize) -> bool
-    requires { ⌜ (a ≤ e) × (e ≤ length (now s)) × (n ≤ length (now names)) × (n ≤ length (now ends)) ⌝ }
-    ensures { λ r. ⌜ r ≡ namedFrom (now (s .entry)) (now (names .entry)) (now (ends .entry)) a e 0 n ⌝ }
-{
-    let mut k = 0;
-    while k < n {
-        if long_name(s, names[k], ends[k], a, e) {
-            return true;
+        if e - a < 16 {
+            return stanza_words::same(true, s, b, f, s, a, e);
         }
-        k = k + 1;
-    }
-    false
-}
-
-// The same, many octets at once.
-fn long_name(s: &[u8], x: u16, y: u16, a: usize, e: usize) -> bool
-    requires { ⌜ (a ≤ e) × (e ≤ length (now s)) ⌝ }
-    ensures { λ r. ⌜ r ≡ sameText (slice x y (now (s .entry))) (slice a e (now (s .entry))) ⌝ }
-{
-    let b = x as usize;
-    let f = buffer::least(y as usize, s.len());
-    if b < f {
         return stanza_words::same_long(true, s, b, f, s, a, e);
     }
     false

@@ -3,11 +3,11 @@ use Rattle.stanza_line.specs.Verdict.{namedFrom}
 use Prim.Native.Nat.{_-_, _≤_}
 use mathlib.Core.Path.{_≡_, sym, _∙_}
 use borrow.Author.Needs.{needs}
-use Rattle.stanza_line.proofs.long_again.Statement.{statement}
-use Rattle.stanza_line.proofs.long_again.Tie as tie
-use Rattle.stanza_line.proofs.long_again.Reads as reads
-use Rattle.stanza_line.proofs.long_again.Lts as lts
-use Rattle.stanza_line.proofs.long_name.Reads as long-name-reads
+use Rattle.stanza_line.proofs.name_again.Statement.{statement}
+use Rattle.stanza_line.proofs.name_again.Tie as tie
+use Rattle.stanza_line.proofs.name_again.Reads as reads
+use Rattle.stanza_line.proofs.name_again.Lts as lts
+use Rattle.stanza_line.proofs.same_name.Reads as same-name-reads
 
 -- The name from a to e is one of the names from number k on exactly if it is one of all n.
 abbrev Inv-loop : tie.InvT-loop
@@ -21,20 +21,20 @@ loop-holds c =
     let c3 = c .before .before .before in
     (search needs, from-first (c3 .args .s .now) (c3 .args .names .now) (c3 .args .ends .now) (c3 .args .a) (c3 .args .e) (c3 .args .n))
 
-mul-long-name : tie.Need-mul-long-name Inv-loop μ-loop
-mul-long-name c = search needs
+mul-same-name : tie.Need-mul-same-name Inv-loop μ-loop
+mul-same-name c = search needs
 
-shared-slice-read-long-name : tie.Need-shared-slice-read-long-name Inv-loop μ-loop
-shared-slice-read-long-name c = search needs
+shared-slice-read-same-name : tie.Need-shared-slice-read-same-name Inv-loop μ-loop
+shared-slice-read-same-name c = search needs
 
-mul-long-name-2 : tie.Need-mul-long-name-2 Inv-loop μ-loop
-mul-long-name-2 c = search needs
+mul-same-name-2 : tie.Need-mul-same-name-2 Inv-loop μ-loop
+mul-same-name-2 c = search needs
 
-shared-slice-read-long-name-2 : tie.Need-shared-slice-read-long-name-2 Inv-loop μ-loop
-shared-slice-read-long-name-2 c = search needs
+shared-slice-read-same-name-2 : tie.Need-shared-slice-read-same-name-2 Inv-loop μ-loop
+shared-slice-read-same-name-2 c = search needs
 
-long-name-requires : tie.Need-long-name-requires Inv-loop μ-loop
-long-name-requires c κs = search needs
+same-name-requires : tie.Need-same-name-requires Inv-loop μ-loop
+same-name-requires c κs = search needs
 
 returns : tie.Need-returns Inv-loop μ-loop
 returns c =
@@ -43,7 +43,7 @@ returns c =
     let c9 = c5 .before .before .before .before in
     sym
     (name-found (c9 .args .s .now) (c9 .args .names .now) (c9 .args .ends .now) (c9 .args .a) (c9 .args .e) (c5 .loop .k) (c9 .args .n)
-    (c4 .loop-test .taken) (sym (c .before .long-name .ensures) ∙ c .if1 .taken))
+    (c4 .loop-test .taken) (sym (c .before .same-name .ensures) ∙ c .if1 .taken))
     ∙ c5 .loop .inv .1
 
 add-k : tie.Need-add-k Inv-loop μ-loop
@@ -59,7 +59,7 @@ loop-again c =
     let c9 = c5 .before .before .before .before in (
       search needs,
       name-next (c9 .args .s .now) (c9 .args .names .now) (c9 .args .ends .now) (c9 .args .a) (c9 .args .e) (c5 .loop .k) (c9 .args .n)
-          (c4 .loop-test .taken) (sym (c .before .long-name .ensures) ∙ c .if1 .left)
+          (c4 .loop-test .taken) (sym (c .before .same-name .ensures) ∙ c .if1 .left)
           ∙ c5 .loop .inv .1,
     )
 
@@ -71,18 +71,18 @@ returns-2 c =
     (c5 .args .n) (c .loop-test .left))
     ∙ c .before .loop .inv .1
 
-pub long-again-spec : {M : Type 1} → statement M
-long-again-spec =
+pub name-again-spec : {M : Type 1} → statement M
+name-again-spec =
     tie.close
     (tie.spec
     Inv-loop
     μ-loop
     loop-holds
-    mul-long-name
-    shared-slice-read-long-name
-    mul-long-name-2
-    shared-slice-read-long-name-2
-    long-name-requires
+    mul-same-name
+    shared-slice-read-same-name
+    mul-same-name-2
+    shared-slice-read-same-name-2
+    same-name-requires
     returns
     add-k
     loop-less
