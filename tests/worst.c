@@ -1,4 +1,4 @@
-/* Times the judge on the stanzas that are slowest to judge: many qualifiers or field names that are hard to tell apart. */
+/* Times the judge on stanzas that are slow to judge: many qualifiers or field names that are hard to tell apart. */
 #define _GNU_SOURCE
 #include <stdio.h>
 #include <stdlib.h>
