@@ -55,16 +55,6 @@ fn same_octet(ignoring: bool, x: u8, y: u8) -> bool
     fold(ignoring, x) == fold(ignoring, y)
 }
 
-// The same. Most that are the same are so as they stand.
-fn alike(ignoring: bool, x: u8, y: u8) -> bool
-    ensures { λ r. ⌜ r ≡ eqb (cond ignoring (lowered x) x) (cond ignoring (lowered y) y) ⌝ }
-{
-    if x == y {
-        return true;
-    }
-    same_octet(ignoring, x, y)
-}
-
 // Whether the text of s from a to e is the text of t from b to f; if `ignoring`, the case of letters does not count.
 pub fn same(ignoring: bool, s: &[u8], a: usize, e: usize, t: &[u8], b: usize, f: usize) -> bool
     requires { ⌜ (a ≤ e) × (e ≤ length (now s)) × (b ≤ f) × (f ≤ length (now t)) ⌝ }
@@ -76,7 +66,7 @@ pub fn same(ignoring: bool, s: &[u8], a: usize, e: usize, t: &[u8], b: usize, f:
     let mut i = a;
     let mut j = b;
     while i < e {
-        if alike(ignoring, s[i], t[j]) {
+        if same_octet(ignoring, s[i], t[j]) {
             i = i + 1;
             j = j + 1;
         } else {

@@ -31,14 +31,14 @@ returns c =
 loop-holds : tie.Need-loop-holds Inv-loop μ-loop
 loop-holds c = (search needs, search needs, search needs, refl)
 
-shared-slice-read-alike : tie.Need-shared-slice-read-alike Inv-loop μ-loop
-shared-slice-read-alike c = search needs
+shared-slice-read-same-octet : tie.Need-shared-slice-read-same-octet Inv-loop μ-loop
+shared-slice-read-same-octet c = search needs
 
-shared-slice-read-alike-2 : tie.Need-shared-slice-read-alike-2 Inv-loop μ-loop
-shared-slice-read-alike-2 c = search needs
+shared-slice-read-same-octet-2 : tie.Need-shared-slice-read-same-octet-2 Inv-loop μ-loop
+shared-slice-read-same-octet-2 c = search needs
 
-alike-requires : tie.Need-alike-requires Inv-loop μ-loop
-alike-requires c κs = search needs
+same-octet-requires : tie.Need-same-octet-requires Inv-loop μ-loop
+same-octet-requires c κs = search needs
 
 add-i : tie.Need-add-i Inv-loop μ-loop
 add-i c = search needs
@@ -58,7 +58,7 @@ loop-again c =
       search needs,
       search needs,
       same-on (c9 .args .ignoring) (c9 .args .s .now) (c9 .args .t .now) (c5 .loop .i) (c9 .args .e) (c5 .loop .j) (c9 .args .f) (c4 .loop-test .taken)
-          (c9 .pre .1) (omega arith) (c9 .pre .3) _ (c .before .alike .ensures) (c .if2 .taken)
+          (c9 .pre .1) (omega arith) (c9 .pre .3) _ (c .before .same-octet .ensures) (c .if2 .taken)
           ∙ c5 .loop .inv .3,
     )
 
@@ -68,7 +68,7 @@ returns-2 c =
     let c5 = c4 .before in
     let c9 = c5 .before .before .before .before in
     same-off (c9 .args .ignoring) (c9 .args .s .now) (c9 .args .t .now) (c5 .loop .i) (c9 .args .e) (c5 .loop .j) (c9 .args .f) (c4 .loop-test .taken)
-    (c9 .pre .1) (omega arith) (c9 .pre .3) _ (c .before .alike .ensures) (c .if2 .left)
+    (c9 .pre .1) (omega arith) (c9 .pre .3) _ (c .before .same-octet .ensures) (c .if2 .left)
     ∙ c5 .loop .inv .3
 
 returns-3 : tie.Need-returns-3 Inv-loop μ-loop
@@ -88,9 +88,9 @@ same-spec =
     sub-if1-2
     returns
     loop-holds
-    shared-slice-read-alike
-    shared-slice-read-alike-2
-    alike-requires
+    shared-slice-read-same-octet
+    shared-slice-read-same-octet-2
+    same-octet-requires
     add-i
     add-j
     loop-less
