@@ -6,12 +6,13 @@ ghost use lib.ListN.{length};
 ghost use lib.Seq.{slice, sets};
 ghost use Rattle.format.specs.Digits.{digits, number};
 ghost use Rattle.format.specs.Base.{bits, toDigits, base32Text, base64Text};
-ghost use Rattle.format.specs.Hex.{hexText};
+ghost use Rattle.format.specs.Hex.{hexText, countedHexText};
 ghost use Rattle.buffer.specs.Writing.{Wrote};
 ghost use Rattle.base.specs.Alphabet.{chars, Grouped};
 use buffer::fitting;
 use buffer::least;
 use buffer::put_all;
+use buffer::put_octet;
 use digits::hex_digit;
 use digits::put_hex_octet;
 
@@ -166,4 +167,15 @@ pub fn put_hex_upper(out: &mut [u8], at: usize, xs: &[u8]) -> usize
     }
     put_hex_octet(out, m, xs[c], b'A');
     at + 2 * xs.len()
+}
+
+// Writes two hex digits for each octet from i to e, or `-` if there is none.
+pub fn counted_hex(out: &mut [u8], at: usize, p: &[u8], i: usize, e: usize) -> usize
+    requires { ⌜ (at < 2 ^ 32) × (i ≤ e) × (e ≤ length (now p)) × (length (now p) ≤ 65535) ⌝ }
+    ensures { λ r. ⌜ Wrote (now (out .entry)) (now (out .exit)) at r (countedHexText (slice i e (now (p .entry)))) ⌝ }
+{
+    if e <= i {
+        return put_octet(out, at, b'-');
+    }
+    put_hex_upper(out, at, &p[i..e])
 }

@@ -13,6 +13,7 @@ ghost use lib.ListN.{drop, length, replicate};
 ghost use lib.Seq.{slice};
 ghost use mathlib.Core.Path.{_≡_};
 use buffer::Value;
+use buffer::put_octet;
 
 // Reads base 32 from one token, and stores the octets after their count.
 pub fn counted_base32(out: &mut [u8], at: usize, t: &[u8], i: usize, e: usize) -> Value
@@ -22,11 +23,14 @@ pub fn counted_base32(out: &mut [u8], at: usize, t: &[u8], i: usize, e: usize) -
     base_group::counted(out, at, t, i, e, 5, 32, 8, 5)
 }
 
-// Reads hex digits from one token, and stores the octets after their count.
+// Reads hex digits from one token, and stores the octets after their count; `-` is a count of 0.
 pub fn counted_hex(out: &mut [u8], at: usize, t: &[u8], i: usize, e: usize) -> Value
     requires { ⌜ (at < 2 ^ 30) × (i ≤ e) × (e ≤ length (now t)) × (length (now t) ≤ 1048576) ⌝ }
     ensures { λ r. ⌜ Values (now (out .entry)) (now (out .exit)) at r (readCountedHex (slice i e (now (t .entry)))) ⌝ }
 {
+    if octets::is_alone(t, i, e, b'-') {
+        return Value::Upto(put_octet(out, at, 0));
+    }
     base_group::counted(out, at, t, i, e, 4, 16, 8, 4)
 }
 

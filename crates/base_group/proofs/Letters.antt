@@ -14,7 +14,7 @@ use Rattle.format.specs.Octets.{Octets, blank, digit, letter, lowered}
 use Rattle.format.specs.Digits.{digitValue, number}
 use Rattle.format.specs.Text.{counted}
 use Rattle.format.specs.Base.{fromDigits}
-use Rattle.format.specs.Hex.{hexPair, fromHex, readCountedHex}
+use Rattle.format.specs.Hex.{hexPair, fromHex}
 use Rattle.format.specs.Base.{readBase32}
 use Rattle.format.proofs.Lists.{below-each, below-take, below-drop, not-true}
 use Rattle.format.proofs.Finite.{at-each, all-same}
@@ -122,7 +122,7 @@ hex-digits (a ∷ b ∷ s) =
 pub octets-hex : (s : List ℕ) → Octets s → octetsBy letters 100 4 16 s ≡ fromHex s
 octets-hex s o = ap (λ x. x >>= fromDigits 4) (each-by (charValue letters 16) (digitValue 16) letters16 s o) ∙ sym (hex-digits s)
 
-pub counted-hex : (s : List ℕ) → Octets s → countedBy 4 16 s ≡ readCountedHex s
+pub counted-hex : (s : List ℕ) → Octets s → countedBy 4 16 s ≡ (fromHex s >>= counted 1)
 counted-hex s o = ap (λ x. x >>= counted 1) (octets-hex s o)
 
 pub bind-bind : {A B C : Type 0} (o : Option A) (f : A → Option B) (g : B → Option C) → (o >>= f >>= g) ≡ (o >>= λ x. f x >>= g)

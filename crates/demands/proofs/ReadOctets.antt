@@ -367,7 +367,8 @@ module _ (o : List ℕ) (b : Octets o) (ts : List Token) (w : All Written ts) wh
       bare-fine readBase32 (λ t c. gives-after Octets (eachOf (digitValue 32) t) _ (λ ds. octets-then (fromDigits 5 ds) (counted 1) (base-octets 5 ds) (counted-octets 1))) ts w
   field-fine b64 = bares-fine readBase64 (λ t c. unpadded-octets (span notPadding t)) ts w
   field-fine hex = bares-fine fromHex (λ t c. hex-octets t) ts w
-  field-fine hexc = bare-fine readCountedHex (λ t c. octets-then (fromHex t) (counted 1) (hex-octets t) (counted-octets 1)) ts w
+  field-fine hexc =
+      bare-fine readCountedHex (λ t c. on-test (Gives Octets) (sameOctets t (ascii "-")) (some (withCount [])) _ (λ e. (omega arith, tt)) (octets-then (fromHex t) (counted 1) (hex-octets t) (counted-octets 1))) ts w
   field-fine (eui v) = bare-fine (readEui v) (λ t c. separated-octets v 45 hexPair pair-less t) ts w
   field-fine time =
       bare-fine readTime (λ t c. number-octets 4 (below (2 ^ 32) (cond (eqb (length t) 14) (eachOf (digitValue 10) t >>= momentOf) (decimalOf t)))) ts w

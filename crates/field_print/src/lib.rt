@@ -39,10 +39,7 @@ pub fn put_field(out: &mut [u8], d: FieldDesc, s: &[u8], p: &[u8], i: usize, e: 
         Form::Base32 => base::print::base32(out, 0, p, i + 1, e),
         Form::Base64 => base::print::base64(out, 0, p, i, e),
         Form::Hex => base::print::put_hex_upper(out, 0, &p[i..e]),
-        Form::Hexc => {
-            let j = i + 1;
-            base::print::put_hex_upper(out, 0, &p[j..e])
-        }
+        Form::Hexc => base::print::counted_hex(out, 0, p, i + 1, e),
         Form::Eui(_) => eui::print::field(out, 0, p, i, e),
         Form::Time => time::print::field(out, 0, p, i, e),
     }

@@ -20,4 +20,5 @@ pub mod Cut
 pub mod Fields
 pub mod Bound
 pub mod Demands
+pub mod Salt
 pub mod Settled

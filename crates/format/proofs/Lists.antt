@@ -151,3 +151,11 @@ octets-same [] [] e = refl
 octets-same [] (y ∷ ys) e = cc
 octets-same (x ∷ xs) [] e = cc
 octets-same (x ∷ xs) (y ∷ ys) e = let q : x ≡ y = eqb-true x y (and-left (eqb x y) (sameOctets xs ys) e) in rw (q, octets-same xs ys (and-right (eqb x y) (sameOctets xs ys) e))
+
+-- two octets or more are not one alone
+pub longer : (c a b : ℕ) (t : List ℕ) → sameOctets (a ∷ b ∷ t) (c ∷ []) ≡ false
+longer c a b t = by (eqb a c)
+  where
+    by : (d : Bool) → d && false ≡ false
+    by true = refl
+    by false = refl

@@ -59,7 +59,7 @@ start raw = toTheEnd false
 start b32 = count 1
 start b64 = toTheEnd false
 start hex = toTheEnd false
-start hexc = count 1
+start hexc = count 0
 start (eui w) = anyOctets w
 start time = anyOctets 4
 

@@ -22,4 +22,5 @@ pub mod Run
 pub mod Entries
 pub mod Job
 pub mod Demands
+pub mod Salt
 pub mod Settled

@@ -18,7 +18,7 @@ use Rattle.format.specs.Address.{dottedText, readA, groups, colons, read
 use Rattle.format.specs.Text.{pieces, stringText, readString, notEmpty, readRaw}
 use Rattle.format.specs.Name.{nameText, readName}
 use Rattle.format.specs.Base.{base32Text, readBase32, base64Text, readBase64}
-use Rattle.format.specs.Hex.{hexText, fromHex, readCountedHex}
+use Rattle.format.specs.Hex.{hexText, fromHex, countedHexText, readCountedHex}
 use Rattle.format.specs.Eui.{euiText, readEui}
 use Rattle.format.specs.Time.{timeText, readTime}
 
@@ -37,7 +37,7 @@ shown raw p = stringText p
 shown b32 p = base32Text (drop 1 p)
 shown b64 p = base64Text p
 shown hex p = hexText p
-shown hexc p = hexText (drop 1 p)
+shown hexc p = countedHexText (drop 1 p)
 shown (eui w) p = euiText p
 shown time p = timeText (number 256 p)
 

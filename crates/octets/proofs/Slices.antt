@@ -1,13 +1,16 @@
 -- Laws of the part of a list from i to e, walked by an index.
 use Prim.Native.Nat.{ℕ, zero, suc, _+_, _-_, _≤_, _<_}
 use mathlib.Core.Path.{_≡_, refl, sym, ap, _∙_}
-use mathlib.Core.Bool.{Bool, true, false}
+use mathlib.Core.Bool.{Bool, true, false, _&&_}
 use mathlib.Core.List.{List, [], _∷_, _++_}
 use native.Mathlib.Omega.{arith}
 use native.Mathlib.Numerals.{add-one}
 use lib.ListN.{length, take, drop, getD, length-take, drop-of-length-le, take-append-drop}
 use lib.Seq.{slice, slice-cons, drop-drop, length-slice, take-nil, take-take, drop-append-le, length-take-le}
+use lib.Dec.{eqb}
 use Rattle.format.specs.Lists.{spanning, span}
+use Rattle.format.specs.Octets.{sameOctets}
+use Rattle.format.proofs.Lists.{longer}
 use Rattle.octets.specs.Octets.{frontEnd}
 
 -- a part is its next element and the rest; past its end it is empty
@@ -16,6 +19,22 @@ next s i e h l = rw (add-one) (slice-cons i e s 0 h l)
 
 pub none : (s : List ℕ) (i e : ℕ) → e ≤ i → slice i e s ≡ []
 none s i e h = let l : length (take e s) ≤ i = omega (arith, length-take e s) in drop-of-length-le (take e s) l
+
+-- a part of one octet is b alone if that octet is b; no other part is
+pub one-octet : (s : List ℕ) (i e b : ℕ) → e - i ≡ 1 → e ≤ length s → eqb (getD s i 0) b ≡ sameOctets (slice i e s) (b ∷ [])
+one-octet s i e b q l = sym (ap (λ t. sameOctets t (b ∷ [])) (next s i e (omega arith) l ∙ ap (λ t. getD s i 0 ∷ t) (none s (i + 1) e (omega arith))) ∙ by (eqb (getD s i 0) b))
+  where
+    by : (c : Bool) → c && true ≡ c
+    by true = refl
+    by false = refl
+
+pub other-octets : (s : List ℕ) (i e b : ℕ) → (e - i ≡ 1 → ⊥) → e ≤ length s → false ≡ sameOctets (slice i e s) (b ∷ [])
+other-octets s i e b q l = by (slice i e s) (length-slice i e s l)
+  where
+    by : (t : List ℕ) → length t ≡ e - i → false ≡ sameOctets t (b ∷ [])
+    by [] k = refl
+    by (x ∷ []) k = absurd (q (sym k))
+    by (x ∷ y ∷ t) k = sym (longer b x y t)
 
 -- the rest of a part is a part
 pub rest : (s : List ℕ) (i n e : ℕ) → drop n (slice i e s) ≡ slice (i + n) e s

@@ -6,9 +6,10 @@ ghost use lib.ListN.{length};
 ghost use lib.Seq.{slice};
 ghost use lib.Dec.{leb};
 ghost use mathlib.Core.Bool.{_&&_};
+ghost use mathlib.Core.List.{[], _∷_};
 ghost use mathlib.Core.Path.{_≡_};
 ghost use Rattle.format.specs.Lists.{span, allOf};
-ghost use Rattle.format.specs.Octets.{lowered};
+ghost use Rattle.format.specs.Octets.{lowered, sameOctets};
 ghost use Rattle.format.specs.Number.{decimalOf};
 ghost use Rattle.octets.specs.Octets.{inClass, lineEnd, firstOr, numberOf};
 ghost use Rattle.octets.specs.declared.Class.the-variants.{NotNewline, FreeText};
@@ -64,6 +65,17 @@ pub fn lower(b: u8) -> u8
         return b + 32;
     }
     b
+}
+
+// Whether the octets from i to e are the octet b alone.
+pub fn is_alone(xs: &[u8], i: usize, e: usize, b: u8) -> bool
+    requires { ⌜ (i ≤ e) × (e ≤ length (now xs)) ⌝ }
+    ensures { λ r. ⌜ r ≡ sameOctets (slice i e (now (xs .entry))) (b ∷ []) ⌝ }
+{
+    if e - i == 1 {
+        return xs[i] == b;
+    }
+    false
 }
 
 // Whether an octet is in the class.

@@ -89,7 +89,7 @@ pub fn layout_of(f: Form) -> Layout
         Form::Time => laid(Shape::Octets, 4),
         Form::Str => laid(Shape::Counted, 0),
         Form::Base32 => laid(Shape::Counted, 1),
-        Form::Hexc => laid(Shape::Counted, 1),
+        Form::Hexc => laid(Shape::Counted, 0),
         Form::Bitmap => laid(Shape::Windows, 0),
         Form::Strs => laid(Shape::Strings, 0),
         Form::Raw => laid(Shape::Rest, 0),

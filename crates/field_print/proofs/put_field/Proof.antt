@@ -1,14 +1,13 @@
 use Rattle.format.specs.Base.{base32Text}
-use Prim.Native.Nat.{_+_}
 use Rattle.octets.proofs.Slices.{rest, lent}
 use Rattle.buffer.proofs.Laws.{wrote-text}
-use Rattle.format.specs.Hex.{hexText}
+use Rattle.format.specs.Hex.{hexText, countedHexText}
 use Rattle.format.specs.Text.{stringText}
 use Rattle.field_print.proofs.Fields.{int-wide}
 use Rattle.stanza_form.proofs.Fields.{symbolsOf, symbols-of, int-four}
 use Rattle.format.specs.Run.{shown}
 use Rattle.field_print.proofs.Fields.{octets-wide, counted-some, name-anyhow}
-use mathlib.Core.Path.{sym, ap, _∙_}
+use mathlib.Core.Path.{sym, ap}
 use native.Mathlib.Omega.{arith}
 use borrow.Author.Needs.{needs}
 use Rattle.field_print.proofs.put_field.Statement.{statement}
@@ -17,6 +16,7 @@ use Rattle.field_print.proofs.put_field.Reads as reads
 use Rattle.field_print.proofs.put_field.Lts as lts
 use Rattle.base.proofs.print.base32.Reads as base32-reads
 use Rattle.base.proofs.print.base64.Reads as base64-reads
+use Rattle.base.proofs.print.counted_hex.Reads as counted-hex-reads
 use Rattle.bitmap.proofs.print.field.Reads as field-reads
 use Rattle.address.proofs.print.aaaa.Reads as aaaa-reads
 use Rattle.address.proofs.print.dotted.Reads as dotted-reads
@@ -101,15 +101,11 @@ base64-requires c κs =
     let c8 = c .before .before .before .before .before .before .before .before in
     (search needs, c8 .pre .2, c8 .pre .3, c8 .pre .4)
 
-sub-put-hex-upper-2 : tie.Need-sub-put-hex-upper-2
-sub-put-hex-upper-2 c =
+counted-hex-requires : tie.Need-counted-hex-requires
+counted-hex-requires c κs =
     let c8 = c .before .before .before .before .before .before .before .before in
-    omega (arith, counted-some (c8 .args .p .now) (c8 .args .i) (c8 .args .e) 1 (rw (c .before .enum-told14 .given .1) at (c8 .pre .5)))
-
-part-put-hex-upper-start-2 : tie.Need-part-put-hex-upper-start-2
-part-put-hex-upper-start-2 c =
-    let c8 = c .before .before .before .before .before .before .before .before in
-    omega (arith, counted-some (c8 .args .p .now) (c8 .args .i) (c8 .args .e) 1 (rw (c .before .enum-told14 .given .1) at (c8 .pre .5)))
+    let q = counted-some (c8 .args .p .now) (c8 .args .i) (c8 .args .e) 0 (rw (c .before .enum-told14 .given .1) at (c8 .pre .5)) in
+    (search needs, omega arith, c8 .pre .3, c8 .pre .4)
 
 field-requires-4 : tie.Need-field-requires-4
 field-requires-4 c κs =
@@ -226,14 +222,10 @@ returns-14 : tie.Need-returns-14
 unfolding shown
 returns-14 c =
     let c2 = c .before .before in
-    let c5 = c2 .before .before .before in
-    let c12 = c5 .before .before .before .before .before .before .before in
-    rw (c5 .enum-told14 .given .1)
-    (wrote-text _ _
-    (ap hexText
-    (lent (c12 .args .p .now) (c12 .args .i + 1) (c12 .args .e)
-    (counted-some (c12 .args .p .now) (c12 .args .i) (c12 .args .e) 1 (rw (c5 .enum-told14 .given .1) at (c12 .pre .5)))
-    ∙ sym (rest (c12 .args .p .now) (c12 .args .i) 1 (c12 .args .e)))) (c2 .put-hex-upper2 .ensures))
+    let c4 = c2 .before .before in
+    let c11 = c4 .before .before .before .before .before .before .before in
+    rw (c4 .enum-told14 .given .1)
+    (wrote-text _ _ (ap countedHexText (sym (rest (c11 .args .p .now) (c11 .args .i) 1 (c11 .args .e)))) (c2 .counted-hex .ensures))
 
 returns-15 : tie.Need-returns-15
 unfolding shown
@@ -289,10 +281,7 @@ put-field-spec =
     (λ c κs. search needs)
     (λ c. search needs)
     (λ c. search needs)
-    sub-put-hex-upper-2
-    part-put-hex-upper-start-2
-    (λ c. search needs)
-    (λ c κs. search needs)
+    counted-hex-requires
     (λ c. search needs)
     (λ c κs. search needs)
     (λ c. search needs)

@@ -1,6 +1,7 @@
 use Rattle.base_group.proofs.Letters.{octets-part, counted-hex}
 use Rattle.buffer.specs.Writing.{Values}
-use mathlib.Core.Path.{subst}
+use mathlib.Core.Path.{refl, subst}
+use mathlib.Core.List.{[], _∷_}
 use lib.Seq.{slice}
 use native.Mathlib.Omega.{arith}
 use borrow.Author.Needs.{needs}
@@ -14,11 +15,22 @@ returns : tie.Need-returns
 returns c =
     let c2 = c .before .before in
     let c4 = c2 .before .before in
-    let c6 = c4 .before .before in
-    subst (λ x. Values (c6 .args .out .now) (c2 .counted .last .0) (c6 .args .at) (c2 .counted .result) x)
-    (counted-hex (slice (c6 .args .i) (c6 .args .e) (c6 .args .t .now))
-    (octets-part (c6 .args .t .now) (c6 .args .i) (c6 .args .e) (λ k. omega (arith, c4 .shared-slice-known .given k))))
-    (c2 .counted .ensures)
+    rw (← c4 .before .is-alone .ensures, c4 .if1 .taken) (0 ∷ [], refl, c2 .put-octet .ensures)
+
+returns-2 : tie.Need-returns-2
+returns-2 c =
+    let c2 = c .before .before in
+    let c4 = c2 .before .before in
+    let c5 = c4 .before in
+    let c6 = c5 .before in
+    let c8 = c6 .before .before in
+    rw (← c5 .is-alone .ensures, c4 .if1 .left)
+    (subst (λ x. Values (c8 .args .out .now) (c2 .counted .last .0) (c8 .args .at) (c2 .counted .result) x)
+    (counted-hex (slice (c8 .args .i) (c8 .args .e) (c8 .args .t .now))
+    (octets-part (c8 .args .t .now) (c8 .args .i) (c8 .args .e) (λ k. omega (arith, c6 .shared-slice-known .given k))))
+    (c2 .counted .ensures))
 
 pub counted-hex-spec : {M : Type 1} → statement M
-counted-hex-spec = tie.close (tie.spec (λ c κs. search needs) (λ c. search needs) returns)
+counted-hex-spec =
+    tie.close
+    (tie.spec (λ c κs. search needs) (λ c κs. search needs) (λ c. search needs) returns (λ c κs. search needs) (λ c. search needs) returns-2)

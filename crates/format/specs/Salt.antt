@@ -1,0 +1,26 @@
+-- Request 1 of document 02, "Records with no salt", sentence by sentence.
+use Prim.Native.Nat.{ℕ}
+use mathlib.Core.Path.{_≡_}
+use mathlib.Core.Bool.{true, false}
+use mathlib.Core.List.{List, [], _∷_, _++_}
+use Rattle.format.specs.Lists.{null}
+use Rattle.format.specs.Octets.{ascii}
+use Rattle.format.specs.Wire.{taken, took, bad}
+use Rattle.format.specs.Field.{b32, hexc, start}
+use Rattle.format.specs.Token.{Token, bare}
+use Rattle.format.specs.Run.{shown, got, badToken, readField}
+
+-- X[C], whatever comes before and after its octet or its token.
+pub record NoSalt : Type 0 where
+  -- "count 0 is accepted"
+  pub accepted : (xs : List ℕ) → taken (start hexc) (0 ∷ xs) ≡ took 1
+  -- "prints `-`"
+  pub prints : shown hexc (0 ∷ []) ≡ ascii "-"
+  -- "and `-` reads back as count 0"
+  pub reads : (o : List ℕ) (ts : List Token) → readField hexc o (bare (ascii "-") ∷ ts) ≡ got (0 ∷ []) ts
+  -- "a `-` next to digits stays 9", and so does one next to anything else
+  pub beside : (o : List ℕ) (ts : List Token) (a b : List ℕ) → null (a ++ b) ≡ false → readField hexc o (bare (a ++ ascii "-" ++ b) ∷ ts) ≡ badToken
+  -- "B32 keeps its minimum of 1."
+  pub base32 : (xs : List ℕ) → taken (start b32) (0 ∷ xs) ≡ bad
+  -- "`-` is not an empty text": X[C] has none
+  pub some-text : (p : List ℕ) → null (shown hexc p) ≡ false
