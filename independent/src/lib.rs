@@ -4,7 +4,9 @@
 //! stanza); turn master-file text into uncompressed RDATA under it; turn RDATA
 //! into text. Either conversion may be asked for any run of consecutive fields.
 //!
-//! Quoted sentences in the comments of this crate are the scope document's.
+//! Quoted sentences in the comments of this crate are the scope document's
+//! (document 01), or those of a later request (document 02) where the comment
+//! names it.
 
 mod address;
 mod base;

@@ -28,7 +28,7 @@ pub fn run(fields: &[Kind], rdata: &[u8]) -> Result<Vec<u8>, Refusal> {
     Ok(text)
 }
 
-fn field(kind: &Kind, wire: &mut Wire, out: &mut Vec<u8>) -> Result<(), Fault> {
+pub fn field(kind: &Kind, wire: &mut Wire, out: &mut Vec<u8>) -> Result<(), Fault> {
     match kind {
         Kind::Integer(width, symbols) => {
             symbols.print(big_endian(wire.take(width.octets())?), out);
@@ -61,7 +61,11 @@ fn field(kind: &Kind, wire: &mut Wire, out: &mut Vec<u8>) -> Result<(), Fault> {
         Kind::Base64 => base::print_base64(wire.all_from_one()?, out),
         // "X: tail, one or more octets"
         Kind::Hex => base::print_hex(wire.all_from_one()?, out),
-        Kind::CountedHex => base::print_hex(wire.counted_from_one()?, out),
+        // Document 02, request 1: "count 0 is accepted, prints `-`"
+        Kind::CountedHex => match wire.counted()? {
+            [] => out.push(b'-'),
+            octets => base::print_hex(octets, out),
+        },
         Kind::Eui(count) => address::print_eui(wire.take(*count)?, out),
         Kind::Time => time::print(u32::from_be_bytes(wire.array()?), out),
     }

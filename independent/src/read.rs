@@ -26,7 +26,7 @@ pub fn run(fields: &[Kind], origin: &[u8], text: &[u8]) -> Result<Vec<u8>, Refus
 
 /// "A field that isn't a tail takes one token, S[X] one, N[O] at most one, other
 /// tails all that are left."
-fn field(kind: &Kind, origin: &[u8], tokens: &mut Tokens, out: &mut Vec<u8>) -> Result<(), Fault> {
+pub fn field(kind: &Kind, origin: &[u8], tokens: &mut Tokens, out: &mut Vec<u8>) -> Result<(), Fault> {
     let sound = match kind {
         Kind::Integer(width, symbols) => {
             symbols.read(*width, tokens.bare()?).map(|value| width.write(value, out))
@@ -55,7 +55,7 @@ fn field(kind: &Kind, origin: &[u8], tokens: &mut Tokens, out: &mut Vec<u8>) -> 
         Kind::Base32 => counted(tokens.bare()?, base::read_base32, out),
         Kind::Base64 => base::read_base64(&tokens.joined()?, out),
         Kind::Hex => base::read_hex(&tokens.joined()?, out),
-        Kind::CountedHex => counted(tokens.bare()?, base::read_hex, out),
+        Kind::CountedHex => counted_hex(tokens.bare()?, out),
         Kind::Eui(count) => {
             let start = out.len();
             out.resize(start + count, 0);
@@ -74,6 +74,16 @@ fn type_list<'a>(first: Token<'a>, rest: &mut Tokens<'a>, out: &mut Vec<u8>) -> 
     }
     picture.write(out);
     Some(())
+}
+
+/// Document 02, request 1: "`-` reads back as count 0; a `-` next to digits
+/// stays 9", as `-` is no digit.
+fn counted_hex(token: &[u8], out: &mut Vec<u8>) -> Option<()> {
+    if token == b"-" {
+        out.push(0);
+        return Some(());
+    }
+    counted(token, base::read_hex, out)
 }
 
 /// "count 1 to 255", then the octets of one token's digits.

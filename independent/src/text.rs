@@ -26,6 +26,7 @@ pub enum Token<'a> {
 
 /// "Text is tokens parted by blanks; leading and trailing blanks are allowed."
 /// Each octet of the text is looked at once to find the tokens.
+#[derive(Clone)]
 pub struct Tokens<'a> {
     rest: &'a [u8],
 }

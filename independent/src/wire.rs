@@ -38,14 +38,15 @@ impl<'a> Wire<'a> {
         self.array().map(|[octet]| octet)
     }
 
-    /// A count octet, then octets (S).
+    /// A count octet, then octets (S, and X[C] as of document 02, request 1:
+    /// "From now on count 0 is accepted").
     pub fn counted(&mut self) -> Result<&'a [u8], Fault> {
         let count = self.octet()?;
         self.take(usize::from(count))
     }
 
-    /// "count 1 to 255" (B32, X[C]): a rule "is judged at the last octet it
-    /// needs", here the count.
+    /// "count 1 to 255" (B32): a rule "is judged at the last octet it needs",
+    /// here the count. Document 02, request 1: "B32 keeps its minimum of 1."
     pub fn counted_from_one(&mut self) -> Result<&'a [u8], Fault> {
         match self.octet()? {
             0 => Err(Fault::Breaks),

@@ -75,13 +75,27 @@ fn check_row(fields: &str, text: &str, wire: &str) -> Result<(), String> {
     }
 }
 
+/// Source, fields, text and wire of a row.
+fn columns(row: &str) -> [&str; 4] {
+    let columns: Vec<&str> = row.split('\t').collect();
+    columns.try_into().unwrap_or_else(|_| panic!("four columns: {row}"))
+}
+
+/// BIND refuses this text, whose hash has 40 octets. Here "B32: count 1 to 255"
+/// allows them. Document 01 refused the text for its empty salt alone, so it is
+/// accepted since document 02's request 1: the text, and the octets it gives.
+const LONG_HASH: [&str; 2] = [
+    "2 0 10 - 64P36D1L6ORJGE9G64P36D1L6ORJGE9G64P36D1L6ORJGE9G64P36D1L6ORJGE9G",
+    "0200000A002831323334353637383930313233343536373839303132333435363738393031323334353637383930",
+];
+
 #[test]
 fn published_vectors() {
     let mut wrong = Vec::new();
     let rows = data("published.tsv");
     for row in rows.lines() {
-        let columns: Vec<&str> = row.split('\t').collect();
-        let [source, fields, text, wire] = columns[..] else { panic!("four columns: {row}") };
+        let [source, fields, text, wire] = columns(row);
+        let wire = if text == LONG_HASH[0] { LONG_HASH[1] } else { wire };
         if let Err(message) = check_row(fields, text, wire) {
             wrong.push(format!("{source}: {fields}: {text} {wire}: {message}"));
         }

@@ -1,4 +1,4 @@
-//! P1 to P14 and the lines that are only run.
+//! P1 to P14, the lines that are only run, and document 02's request 1.
 
 use independent::{job, judge, print, read};
 
@@ -111,6 +111,34 @@ fn no_run_overflows() {
         assert_eq!(print(DOOR, first, length, b"", u64::MAX).number, 6);
         assert_eq!(read(DOOR, first, length, b"\0", b"", u64::MAX).number, 6);
     }
+}
+
+/// "count 0 is accepted, prints `-`, and `-` reads back as count 0 [...] B32 keeps
+/// its minimum of 1."
+#[test]
+fn no_salt() {
+    both_ways("X[C]", &[0], "-");
+    both_ways("X[C]", &[1, 0], "00");
+    assert_eq!(printed("X[C]", &[]), (8, 1, "".into()));
+    assert_eq!(printed("X[C]", &[1]), (8, 1, "".into()));
+    assert_eq!(printed("X[C]", &[0, 0]), (10, 2, "".into()));
+    assert_eq!(printed("B32", &[0]), (9, 1, "".into()));
+    assert_eq!(got("B32", b"-"), (9, 1, vec![]));
+    assert_eq!(got("X", b"-"), (9, 1, vec![]));
+}
+
+/// "`-` reads back as count 0", and no other token does. Blanks may be around it.
+#[test]
+fn only_a_dash_is_no_salt() {
+    let mut empty = 0;
+    for pair in 0..=u16::MAX {
+        let text = pair.to_be_bytes();
+        let token: Vec<u8> = text.into_iter().filter(|octet| !b" \t".contains(octet)).collect();
+        let (number, _, octets) = got("X[C]", &text);
+        assert_eq!(number == 0 && octets == [0], token == b"-", "{text:?}");
+        empty += u32::from(octets == [0]);
+    }
+    assert_eq!(empty, 4);
 }
 
 /// Every bit of an R[L] field, both ways.

@@ -5,6 +5,7 @@
 //! Good and damaged inputs are mixed so that about half are accepted and every
 //! refusal number and every field kind with every qualifier occurs often.
 
+mod empty_salts;
 mod jobs;
 mod limits;
 mod random;

@@ -1,7 +1,7 @@
 //! Requests for judging, printing and reading.
 
 use super::random::Random;
-use super::{stanzas, texts, values};
+use super::{empty_salts, stanzas, texts, values};
 use crate::probe::{judge_request, print_request, read_request};
 use crate::stanza::{Kind, Stanza};
 use crate::{print, read};
@@ -111,8 +111,9 @@ fn printing(random: &mut Random) -> Vec<u8> {
     let octets = mostly_good_stanza(random);
     let stanza = Stanza::judge(&octets).ok();
     let (first, length) = run(random, stanza.as_ref().map_or(1, |stanza| stanza.fields().len()));
+    let fields = fields_of(&stanza, first, length);
     let mut rdata = Vec::new();
-    for kind in fields_of(&stanza, first, length) {
+    for kind in fields {
         values::value(kind, random, &mut rdata);
     }
     match random.below(20) {
@@ -126,7 +127,8 @@ fn printing(random: &mut Random) -> Vec<u8> {
         }
         _ => {}
     }
-    let needed = print(&octets, first, length, &rdata, u64::MAX).place;
+    let answer = print(&octets, first, length, &rdata, u64::MAX);
+    let needed = empty_salts::first_on_the_wire(fields, &rdata).unwrap_or(answer.place);
     print_request(&octets, first, length, &rdata, room(random, needed))
 }
 
@@ -185,9 +187,11 @@ fn reading(random: &mut Random) -> Vec<u8> {
     let octets = mostly_good_stanza(random);
     let stanza = Stanza::judge(&octets).ok();
     let (first, length) = run(random, stanza.as_ref().map_or(1, |stanza| stanza.fields().len()));
-    let text = text(random, fields_of(&stanza, first, length));
+    let fields = fields_of(&stanza, first, length);
+    let text = text(random, fields);
     let origin = origin(random);
-    let needed = read(&octets, first, length, &origin, &text, u64::MAX).place;
+    let answer = read(&octets, first, length, &origin, &text, u64::MAX);
+    let needed = empty_salts::first_in_text(fields, &origin, &text).unwrap_or(answer.place);
     read_request(&octets, first, length, &origin, &text, room(random, needed))
 }
 
