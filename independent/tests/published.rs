@@ -104,6 +104,37 @@ fn published_vectors() {
     assert!(wrong.is_empty(), "{} wrong:\n{}", wrong.len(), wrong.join("\n"));
 }
 
+/// The rows of `salt.tsv` whose printed text is not the text of the row, even if
+/// the case of B32 is ignored: a number that has a symbol prints it, and types
+/// print rising. Each with what it prints.
+const PRINTED: [[&str; 2]; 2] = [
+    ["1 0 10 - AJHVGTICN6K0VDA53GCHFMT219SRRQLM", "SHA-1 0 10 - AJHVGTICN6K0VDA53GCHFMT219SRRQLM"],
+    [
+        "1 1 12 - 2t7b4g4vsa5smi47k61mv5bv1a22bojr TYPE15 TYPE48 TYPE2 TYPE6 TYPE51 TYPE46",
+        "SHA-1 OPTOUT 12 - 2T7B4G4VSA5SMI47K61MV5BV1A22BOJR TYPE2 TYPE6 TYPE15 TYPE46 TYPE48 TYPE51",
+    ],
+];
+
+/// Document 02, request 1: "count 0 is accepted, prints `-`, and `-` reads back as
+/// count 0".
+#[test]
+fn records_with_no_salt() {
+    let rows = data("salt.tsv");
+    for row in rows.lines() {
+        let [_, fields, text, wire] = columns(row);
+        assert_eq!(check_row(fields, text, wire), Ok(()), "{row}");
+        let printed = print_all(&stanza_of(fields), &octets(wire));
+        let printed = String::from_utf8(printed.octets).unwrap();
+        match PRINTED.iter().find(|[written, _]| *written == text) {
+            Some([_, expected]) => assert_eq!(printed, *expected),
+            // The source gives no text.
+            None if text == "-" => assert!(printed.contains(" - "), "{printed}"),
+            None => assert!(printed.eq_ignore_ascii_case(text), "{text}: {printed}"),
+        }
+    }
+    assert_eq!(rows.lines().count(), 5);
+}
+
 /// The published descriptions by type name.
 fn stanzas() -> HashMap<String, String> {
     data("stanzas.txt")
