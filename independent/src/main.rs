@@ -12,6 +12,7 @@ const USAGE: &str = "usage: independent MODE
                             stanzas, then N random ones
   print-requests N SEED     N random request lines
   read-requests N SEED      N random request lines
+  salt-requests N SEED      N random request lines about X[C], to print and to read
   limit-requests            the large request lines
   job-requests N SEED DIR   N random jobs as files 000000.job, 000001.job, ... in DIR";
 
@@ -40,6 +41,7 @@ fn generate_requests(mode: &str, count: u64, seed: u64, rest: &[&str]) -> io::Re
         ("judge-requests", []) => write_lines(generate::judge_requests(count, seed)),
         ("print-requests", []) => write_lines(generate::print_requests(count, seed)),
         ("read-requests", []) => write_lines(generate::read_requests(count, seed)),
+        ("salt-requests", []) => write_lines(generate::salt_requests(count, seed)),
         ("job-requests", [directory]) => {
             let directory = Path::new(directory);
             std::fs::create_dir_all(directory)?;

@@ -90,12 +90,12 @@ fn run(random: &mut Random, count: usize) -> (u64, u64) {
 }
 
 /// The fields of a run, none where there is no such run.
-fn fields_of<'a, 'b>(stanza: &'b Option<Stanza<'a>>, first: u64, length: u64) -> &'b [Kind<'a>] {
+pub fn fields_of<'a, 'b>(stanza: &'b Option<Stanza<'a>>, first: u64, length: u64) -> &'b [Kind<'a>] {
     stanza.as_ref().and_then(|stanza| stanza.run(first, length).ok()).unwrap_or(&[])
 }
 
 /// Room for a result of so many octets: much, just enough, too little, none.
-fn room(random: &mut Random, needed: u64) -> u64 {
+pub fn room(random: &mut Random, needed: u64) -> u64 {
     match random.below(16) {
         0 => needed.saturating_sub(1),
         1 => 0,
@@ -133,7 +133,7 @@ fn printing(random: &mut Random) -> Vec<u8> {
 }
 
 /// Wire names of every length, and octets that are none.
-fn origin(random: &mut Random) -> Vec<u8> {
+pub fn origin(random: &mut Random) -> Vec<u8> {
     let labels = |lengths: &[u8]| {
         let mut name: Vec<u8> = Vec::new();
         for &length in lengths {

@@ -31,7 +31,7 @@ fn fields(random: &mut Random, count: usize) -> Vec<Vec<u8>> {
 }
 
 /// A stanza around field lines (without their LF).
-fn assemble(random: &mut Random, fields: impl FnOnce(&mut Random) -> Vec<Vec<u8>>) -> Vec<u8> {
+pub fn assemble(random: &mut Random, fields: impl FnOnce(&mut Random) -> Vec<Vec<u8>>) -> Vec<u8> {
     let mut lines = Vec::new();
     filling(random, &mut lines);
     lines.push(header(random));
@@ -114,7 +114,7 @@ fn field(random: &mut Random, tail: bool, index: usize) -> Vec<u8> {
 
 /// Blanks before, and perhaps a name and free text after, a type with its
 /// qualifiers.
-fn dress(random: &mut Random, body: &[u8], index: usize) -> Vec<u8> {
+pub fn dress(random: &mut Random, body: &[u8], index: usize) -> Vec<u8> {
     let blanks: &[u8] = random.pick(&[b" ", b" ", b"   ", b"\t", b" \t "]);
     let mut line = blanks.to_vec();
     line.extend_from_slice(body);
@@ -130,7 +130,7 @@ fn dress(random: &mut Random, body: &[u8], index: usize) -> Vec<u8> {
     line
 }
 
-fn plain_body(random: &mut Random) -> Vec<u8> {
+pub fn plain_body(random: &mut Random) -> Vec<u8> {
     match random.below(PLAIN.len() + 5) {
         0 | 1 => integer_body(random),
         2 => b"X[C]".to_vec(),
@@ -140,7 +140,7 @@ fn plain_body(random: &mut Random) -> Vec<u8> {
     }
 }
 
-fn tail_body(random: &mut Random) -> Vec<u8> {
+pub fn tail_body(random: &mut Random) -> Vec<u8> {
     match random.pick(TAILS) {
         "N[O]" => name_body(random, true),
         tail => tail.into(),
