@@ -1,9 +1,9 @@
 //! What the generators promise: every refusal and every kind of field, about
 //! half the requests accepted, the same requests for the same seed.
 
-use std::collections::BTreeMap;
+use std::collections::{BTreeMap, BTreeSet};
 
-use independent::{generate, job, probe};
+use independent::{generate, job, judge, probe};
 
 /// Answers by number, and the number of lines over 600 octets.
 fn tally(lines: impl Iterator<Item = Vec<u8>>) -> (BTreeMap<u64, u64>, u64) {
@@ -64,6 +64,109 @@ fn reading() {
     assert!(long < 1_000);
 }
 
+fn octets(word: &str) -> Vec<u8> {
+    if word == "-" {
+        return Vec::new();
+    }
+    (0..word.len()).step_by(2).map(|i| u8::from_str_radix(&word[i..i + 2], 16).unwrap()).collect()
+}
+
+/// The types of a stanza's fields, with their qualifiers.
+fn types(stanza: &[u8]) -> Vec<String> {
+    let lines = stanza.split(|&octet| octet == b'\n').map(String::from_utf8_lossy);
+    lines
+        .filter(|line| line.starts_with([' ', '\t']))
+        .map(|line| line.trim_start().split([':', ' ', '\t']).next().unwrap().to_string())
+        .filter(|word| !word.is_empty() && !word.starts_with('#'))
+        .collect()
+}
+
+/// The requests about X[C], to print or to read, each with the types of its run
+/// and the RDATA or text.
+fn salt_requests(
+    count: u64,
+    seed: u64,
+    action: &'static str,
+) -> impl Iterator<Item = (Vec<u8>, Vec<String>, Vec<u8>)> {
+    generate::salt_requests(count, seed).filter_map(move |line| {
+        let text = String::from_utf8(line.clone()).unwrap();
+        let words: Vec<&str> = text.split(' ').collect();
+        let [first, length] = [words[2], words[3]].map(|word| word.parse::<usize>().unwrap());
+        let run = types(&octets(words[1])).into_iter().skip(first.saturating_sub(1)).take(length).collect();
+        (words[0] == action).then(|| (line, run, octets(words[words.len() - 2])))
+    })
+}
+
+#[test]
+fn salts() {
+    for (action, origins) in [("P", 0), ("R", 50)] {
+        let (numbers, long) = tally(salt_requests(20_000, 7, action).map(|(line, _, _)| line));
+        assert_eq!(numbers.values().sum::<u64>(), 10_000);
+        has(&numbers, &[(6, 100), (7, origins), (8, 200), (9, 500), (10, 200), (12, 500)]);
+        assert!(long < 1_000);
+    }
+}
+
+/// One or more X[C] among 1 to 6 fields of every kind.
+#[test]
+fn salt_stanzas() {
+    let mut seen = BTreeMap::new();
+    for line in generate::salt_requests(10_000, 7) {
+        let line = String::from_utf8(line).unwrap();
+        let stanza = octets(line.split(' ').nth(1).unwrap());
+        let types = types(&stanza);
+        assert_eq!(judge(&stanza), (0, types.len() as u64));
+        assert!((1..=6).contains(&types.len()) && types.contains(&"X[C]".to_string()), "{types:?}");
+        for word in types {
+            let kind = word.split_once('=').map_or(word.as_str(), |_| &word[..3]);
+            *seen.entry(kind.to_string()).or_insert(0) += 1;
+        }
+    }
+    for kind in [
+        "I1", "I2", "I4", "I1[", "I2[", "I4[", "R", "R[L]", "A", "AA", "AAAA", "N", "N[C]", "N[O]", "S",
+        "S[M]", "S[X]", "B32", "B64", "X", "T", "EUI48", "EUI64", "X6", "X8",
+    ] {
+        assert!(seen.get(kind).is_some_and(|&count| count >= 50), "{kind}: {seen:?}");
+    }
+}
+
+/// About half of the salts are empty, seen at the first field of the run.
+#[test]
+fn empty_salts() {
+    for (action, empty) in [("P", b'\0'), ("R", b'-')] {
+        let (mut all, mut found) = (0, 0);
+        for (_, run, input) in salt_requests(20_000, 8, action) {
+            let first = run.first().is_some_and(|word| word == "X[C]");
+            let mut tokens = input.split(|octet| b" \t".contains(octet)).filter(|token| !token.is_empty());
+            let start = if action == "P" { input.get(..1) } else { tokens.next() };
+            all += u32::from(first && start.is_some());
+            found += u32::from(first && start == Some(&[empty]));
+        }
+        assert!(all > 2_000 && (45..=55).contains(&(found * 100 / all)), "{action}: {found} of {all}");
+    }
+}
+
+/// Every token that is only near to `-` occurs in X[C], and `-` in fields that do
+/// not take it: each is refused at its field, here the last of the run.
+#[test]
+fn other_dashes() {
+    let mut refused = BTreeSet::new();
+    for (line, run, text) in salt_requests(40_000, 9, "R") {
+        let text = String::from_utf8_lossy(&text);
+        let tokens: Vec<&str> = text.split([' ', '\t']).filter(|token| !token.is_empty()).collect();
+        let nine = format!("9 {} -", run.len()).into_bytes();
+        if !run.is_empty() && run.len() == tokens.len() && probe::answer(&line) == nine {
+            refused.insert(format!("{} {}", run[run.len() - 1], tokens[tokens.len() - 1]));
+        }
+    }
+    for wanted in [
+        "X[C] --", "X[C] -A", "X[C] A-", "X[C] -AB", "X[C] \\-", "X[C] \"-\"", "X[C] '-'", "X -", "B32 -",
+        "B64 -", "I1 -", "T -",
+    ] {
+        assert!(refused.contains(wanted), "{wanted}");
+    }
+}
+
 /// Each type with each qualifier it can have, in accepted and in refused
 /// requests.
 #[test]
@@ -121,6 +224,8 @@ fn the_same_seed_gives_the_same() {
     assert!(generate::print_requests(200, 9).eq(generate::print_requests(200, 9)));
     assert!(!generate::print_requests(200, 9).eq(generate::print_requests(200, 10)));
     assert!(generate::judge_requests(200, 9).eq(generate::judge_requests(200, 9)));
+    assert!(generate::salt_requests(200, 9).eq(generate::salt_requests(300, 9).take(200)));
+    assert!(!generate::salt_requests(200, 9).eq(generate::salt_requests(200, 10)));
     assert_eq!(generate::job(9, 3), generate::job(9, 3));
 }
 

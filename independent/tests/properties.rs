@@ -1,6 +1,6 @@
 //! Properties of the conversions, over generated requests.
 
-use independent::{generate, judge, print, read};
+use independent::{generate, judge, print, read, Answer};
 
 const MUCH: u64 = u64::MAX;
 const ORIGINS: [&[u8]; 3] = [b"\0", b"\x07example\0", b"\x01o\x02\0.\0"];
@@ -33,10 +33,11 @@ fn returns(stanza: &[u8], first: u64, length: u64, rdata: &[u8]) {
     }
 }
 
-#[test]
-fn what_prints_reads_back() {
+/// Returns how many of the requests to print are accepted, each of which must
+/// return.
+fn printings_return(lines: impl Iterator<Item = Vec<u8>>) -> u32 {
     let mut accepted = 0;
-    for line in generate::print_requests(8_000, 11) {
+    for line in lines {
         let words = words(line);
         let (stanza, rdata) = (octets(&words[1]), octets(&words[4]));
         let (first, length) = (words[2].parse().unwrap(), words[3].parse().unwrap());
@@ -45,13 +46,13 @@ fn what_prints_reads_back() {
             returns(&stanza, first, length, &rdata);
         }
     }
-    assert!(accepted > 3_000);
+    accepted
 }
 
-#[test]
-fn what_is_read_prints_and_reads_back() {
+/// The same for requests to read.
+fn readings_return(lines: impl Iterator<Item = Vec<u8>>) -> u32 {
     let mut accepted = 0;
-    for line in generate::read_requests(8_000, 12) {
+    for line in lines {
         let words = words(line);
         let (stanza, origin, text) = (octets(&words[1]), octets(&words[4]), octets(&words[5]));
         let (first, length) = (words[2].parse().unwrap(), words[3].parse().unwrap());
@@ -61,16 +62,54 @@ fn what_is_read_prints_and_reads_back() {
             returns(&stanza, first, length, &answer.octets);
         }
     }
-    assert!(accepted > 3_000);
+    accepted
+}
+
+/// The requests about X[C] to print (`P`) or to read (`R`).
+fn salt_requests(count: u64, seed: u64, action: u8) -> impl Iterator<Item = Vec<u8>> {
+    generate::salt_requests(count, seed).filter(move |line| line[0] == action)
+}
+
+#[test]
+fn what_prints_reads_back() {
+    assert!(printings_return(generate::print_requests(8_000, 11)) > 3_000);
+    assert!(printings_return(salt_requests(16_000, 14, b'P')) > 3_000);
+}
+
+#[test]
+fn what_is_read_prints_and_reads_back() {
+    assert!(readings_return(generate::read_requests(8_000, 12)) > 3_000);
+    assert!(readings_return(salt_requests(16_000, 15, b'R')) > 3_000);
 }
 
 /// "The whole list accepts it exactly when it divides into a front the first
 /// list accepts and a back the second accepts"; there is only one such
 /// division, and the texts are joined by one space if neither is empty.
-#[test]
-fn every_cut() {
+fn cuts_at(cut: u64, count: u64, stanza: &[u8], rdata: &[u8], whole: &Answer) {
+    let mut divisions = 0;
+    for place in 0..=rdata.len() {
+        let (front, back) = rdata.split_at(place);
+        let front = print(stanza, 1, cut, front, MUCH);
+        let back = print(stanza, cut + 1, count - cut, back, MUCH);
+        if front.number != 0 || back.number != 0 {
+            continue;
+        }
+        divisions += 1;
+        let mut text = front.octets;
+        if !text.is_empty() && !back.octets.is_empty() {
+            text.push(b' ');
+        }
+        text.extend(back.octets);
+        assert_eq!(text, whole.octets);
+    }
+    assert_eq!(divisions, u32::from(whole.number == 0));
+}
+
+/// Returns how many of the requests to print have RDATA that the whole list
+/// accepts. All have it cut everywhere.
+fn cuts(lines: impl Iterator<Item = Vec<u8>>) -> u32 {
     let mut accepted = 0;
-    for line in generate::print_requests(3_000, 13) {
+    for line in lines {
         let words = words(line);
         let (stanza, rdata) = (octets(&words[1]), octets(&words[4]));
         let (number, count) = judge(&stanza);
@@ -80,24 +119,16 @@ fn every_cut() {
         let whole = print(&stanza, 1, count, &rdata, MUCH);
         accepted += u32::from(whole.number == 0);
         for cut in 0..=count {
-            let mut divisions = 0;
-            for place in 0..=rdata.len() {
-                let (front, back) = rdata.split_at(place);
-                let front = print(&stanza, 1, cut, front, MUCH);
-                let back = print(&stanza, cut + 1, count - cut, back, MUCH);
-                if front.number != 0 || back.number != 0 {
-                    continue;
-                }
-                divisions += 1;
-                let mut text = front.octets;
-                if !text.is_empty() && !back.octets.is_empty() {
-                    text.push(b' ');
-                }
-                text.extend(back.octets);
-                assert_eq!(text, whole.octets);
-            }
-            assert_eq!(divisions, u32::from(whole.number == 0));
+            cuts_at(cut, count, &stanza, &rdata, &whole);
         }
     }
-    assert!(accepted > 800);
+    accepted
+}
+
+/// Document 02, request 1: "Demand 3 reads unchanged, since `-` is not an empty
+/// text."
+#[test]
+fn every_cut() {
+    assert!(cuts(generate::print_requests(3_000, 13)) > 800);
+    assert!(cuts(salt_requests(6_000, 16, b'P')) > 800);
 }
