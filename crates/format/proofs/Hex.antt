@@ -60,10 +60,10 @@ counted-length (x ∷ xs) = omega (arith, hex-length (x ∷ xs))
 
 counted-reads : (xs : List ℕ) → Octets xs → length xs ≤ 255 → readCountedHex (countedHexText xs) ≡ some (withCount xs)
 counted-reads [] b l = refl
-counted-reads (x ∷ xs) b l = rw (longer 45 (upperDigit (x / 16 % 16)) (upperDigit (x % 16)) (hexText xs), hex-reads (x ∷ xs) b) (counted-some 1 (x ∷ xs) (omega arith) l)
+counted-reads (x ∷ xs) b l = rw (longer _ (upperDigit (x / 16 % 16)) (upperDigit (x % 16)) (hexText xs), hex-reads (x ∷ xs) b) (counted-some 1 (x ∷ xs) (omega arith) l)
 
 counted-value : (t p : List ℕ) → readCountedHex t ≡ some p → taken (count 0) p ≡ took (length p)
-counted-value t p e = by (sameOctets t (ascii "-")) e
+counted-value t p e = by (sameOctets t (countedHexText [])) e
   where
     by : (c : Bool) → cond c (some (withCount [])) (fromHex t >>= counted 1) ≡ some p → taken (count 0) p ≡ took (length p)
     by true e = counted-accepted 0 [] p e
