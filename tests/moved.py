@@ -11,6 +11,8 @@ from lines import JOB, PROBE, ROOT, field_lines, lines_of
 LONGEST_GONE = 100
 LONGEST_SHOWN = 120
 LONGEST_ANSWER = 30
+# of a request that is cut, so much is kept of what follows the stanza
+LONGEST_WORDS = 40
 
 
 def stored(revision, path):
@@ -35,9 +37,11 @@ def decoded(word):
 
 
 def short_request(request, length):
-    """A request with its stanza, or its job, as text, cut."""
+    """A request with its stanza, or its job, as text, cut, and in the stanza first."""
     letter, *words = readable(request).split(" ")
-    return " ".join([letter, *map(decoded, words[:1]), *words[1:]])[:length]
+    front, back = " ".join([letter, *map(decoded, words[:1])]), "".join(" " + word for word in words[1:])
+    back = back[: max(LONGEST_WORDS, length - len(front))]
+    return front[: length - len(back)] + back
 
 
 def short_answer(request, answer):
@@ -63,12 +67,15 @@ def number_of(request, answer):
 
 
 def field_at(request, answer):
-    """The field line at the answer's place in the run, where the answer is 8, 9 or 10 and that place is a field."""
+    """The field at the answer's place in the run, its line without name and free text, where the answer is 8, 9 or 10 and that
+    place is a field."""
     letter, *words = request.split(b" ")
     if letter not in (b"P", b"R") or number_of(request, answer) not in ("8", "9", "10"):
         return ""
     stanza, first, length, place = bytes.fromhex(words[0].decode()), int(words[1]), int(words[2]), int(answer.split(b" ")[1])
-    return readable(field_lines(stanza)[first + place - 2].strip()) if place <= length else ""
+    if place > length:
+        return ""
+    return readable(field_lines(stanza)[first + place - 2].split(b":")[0].split()[0])
 
 
 def row(request, old, new):
