@@ -7,7 +7,7 @@ requests. The examples of the decisions are among the readings, which document 0
 """
 import re
 
-from lines import BAD_ORIGINS, FULL_NAME, LONGEST_RDATA, LONGEST_STANZA, LONGEST_TEXT, MOST_FIELDS, accepted, edge_runs
+from lines import BAD_ORIGINS, FULL_NAME, LONGEST_RDATA, LONGEST_STANZA, MOST_FIELDS, accepted, edge_runs
 from lines import field_lines, job_of, lines_of, named_stanzas, numbered, printing, reading, record_cuts, refused, rows
 from lines import run, text_cuts, texts, with_fields, word
 
@@ -208,15 +208,14 @@ def both_ways(stanza, fields, octets, first, length, answer):
 
 
 def over_limits():
-    """1: a stanza, RDATA and a text of one octet too many; and as many as there may be."""
+    """1: a stanza and RDATA of one octet too many; and as many as there may be. Document 01's lines have the longest text."""
     for stanza, fields, octets in WHOLE:
         longest = stanza + b"#" * (LONGEST_STANZA - len(stanza))
         yield reading(longest, b" ".join(fields)), accepted(b"".join(octets))
         yield printing(longest, b"".join(octets)), accepted(b" ".join(fields))
         yield from both_ways(longest + b"#", fields, octets, 1, len(fields), refused(1, 0))
-        yield printing(stanza, b"".join(octets).ljust(LONGEST_RDATA + 1, b"\x00")), refused(1, 0)
-    yield printing(ONE_SALT, b"\x07\x00\x07".ljust(LONGEST_RDATA, b"\x00")), refused(10, 4)
-    yield reading(ONE_SALT, b"7 - 7".ljust(LONGEST_TEXT + 1)), refused(1, 0)
+    for octets, answer in ((LONGEST_RDATA, refused(10, 4)), (LONGEST_RDATA + 1, refused(1, 0))):
+        yield printing(ONE_SALT, b"\x07\x00\x07".ljust(octets, b"\x00")), answer
 
 
 # header lines and field lines that are refused, and the number
