@@ -1,7 +1,7 @@
 -- What request 1 of document 02 says of X[C].
 use Prim.Native.Nat.{ℕ}
 use mathlib.Core.Path.{_≡_, refl, ap}
-use mathlib.Core.Bool.{true, false}
+use mathlib.Core.Bool.{false}
 use mathlib.Core.List.{List, [], _∷_, _++_}
 use mathlib.Core.Option.{Option, none, some}
 use lib.ListN.{drop}
@@ -14,11 +14,11 @@ use Rattle.format.specs.Run.{shown, readField}
 use Rattle.format.specs.Salt.{NoSalt}
 use Rattle.format.proofs.Lists.{longer}
 
+-- `-` is no digit, and one that is none leaves no value
 none-after : (o : Option ℕ) (p : Option (List ℕ)) → p ≡ none → consBoth o p ≡ none
 none-after none p e = refl
 none-after (some x) p e = rw e refl
 
--- `-` is no digit
 no-pair : (x : ℕ) → hexPair (x ∷ ascii "-") ≡ none
 no-pair x = ap (λ (p : Option (List ℕ)). p >>= λ ds. some (number 16 ds)) (none-after (digitValue 16 x) none refl)
 

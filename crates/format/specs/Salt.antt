@@ -1,7 +1,7 @@
 -- Request 1 of document 02, "Records with no salt", sentence by sentence.
 use Prim.Native.Nat.{ℕ}
 use mathlib.Core.Path.{_≡_}
-use mathlib.Core.Bool.{true, false}
+use mathlib.Core.Bool.{false}
 use mathlib.Core.List.{List, [], _∷_, _++_}
 use Rattle.format.specs.Lists.{null}
 use Rattle.format.specs.Octets.{ascii}
@@ -10,7 +10,7 @@ use Rattle.format.specs.Field.{b32, hexc, start}
 use Rattle.format.specs.Token.{Token, bare}
 use Rattle.format.specs.Run.{shown, got, badToken, readField}
 
--- X[C], whatever comes before and after its octet or its token.
+-- X[C] and B32, whatever octets or tokens come after.
 pub record NoSalt : Type 0 where
   -- "count 0 is accepted"
   pub accepted : (xs : List ℕ) → taken (start hexc) (0 ∷ xs) ≡ took 1
