@@ -1,2 +1,3 @@
 pub mod Alphabet
+pub mod Hex
 pub mod Rest

@@ -1,5 +1,6 @@
 // Writers of octets as digits. Those of B32 and B64 have w bits, and an alphabet gives their characters; they are written in
-// groups of g octets that make whole digits: 5 octets are 8 digits of 5 bits, 3 are 4 of 6 bits. X has two hex digits an octet.
+// groups of g octets that make whole digits: 5 octets are 8 digits of 5 bits, 3 are 4 of 6 bits. X has two hex digits an octet,
+// each from a table of sixteen characters.
 ghost use mathlib.Core.Path.{_≡_};
 ghost use Prim.Native.Nat.{_+_, _*_, _-_, _/_, _^_, _<_, _≤_};
 ghost use lib.ListN.{length};
@@ -9,12 +10,12 @@ ghost use Rattle.format.specs.Base.{bits, toDigits, base32Text, base64Text};
 ghost use Rattle.format.specs.Hex.{hexText, countedHexText};
 ghost use Rattle.buffer.specs.Writing.{Wrote};
 ghost use Rattle.base.specs.Alphabet.{chars, Grouped};
+ghost use Rattle.base.specs.Hex.{tableText};
 use buffer::fitting;
 use buffer::least;
+use buffer::put;
 use buffer::put_all;
 use buffer::put_octet;
-use digits::hex_digit;
-use digits::put_hex_octet;
 
 // The number whose bits are those of the g octets from i on.
 fn number_of(p: &[u8], i: usize, g: usize) -> usize
@@ -138,35 +139,45 @@ pub fn base64(out: &mut [u8], at: usize, p: &[u8], i: usize, e: usize) -> usize
     put_all(out, r, &padding[0..k])
 }
 
-// Writes two hex digits for each octet; there is room for all.
-fn hex_pairs(out: &mut [u8], at: usize, xs: &[u8]) -> usize
+// Writes two digits for each octet, from a table; there is room for all.
+fn hex_pairs(out: &mut [u8], at: usize, table: &[u8; 16], xs: &[u8]) -> usize
     requires { ⌜ 2 * length (now xs) ≤ length (now out) - at ⌝ }
-    ensures { λ r. ⌜ Wrote (now (out .entry)) (now (out .exit)) at r (hexText (now (xs .entry))) ⌝ }
+    ensures { λ r. ⌜ Wrote (now (out .entry)) (now (out .exit)) at r (tableText (now (table .entry)) (now (xs .entry))) ⌝ }
 {
     let mut m = at;
     let mut i = 0;
     while i < xs.len() {
         let b = xs[i];
-        out[m] = hex_digit(b / 16 % 16, b'A');
-        out[m + 1] = hex_digit(b % 16, b'A');
+        out[m] = table[(b / 16) as usize];
+        out[m + 1] = table[(b % 16) as usize];
         m = m + 2;
         i = i + 1;
     }
     m
 }
 
-// Writes two hex digits for each octet. The first octet without room for both may have room for one; those after it have none.
+// Writes two digits for each octet, from a table. The first octet without room for both may have room for one; those after it
+// have none.
+fn hex_by_table(out: &mut [u8], at: usize, table: &[u8; 16], xs: &[u8]) -> usize
+    requires { ⌜ (at < 2 ^ 32) × (length (now xs) < 2 ^ 32) ⌝ }
+    ensures { λ r. ⌜ Wrote (now (out .entry)) (now (out .exit)) at r (tableText (now (table .entry)) (now (xs .entry))) ⌝ }
+{
+    let c = fitting(out.len(), at, 2, xs.len());
+    let m = hex_pairs(out, at, table, &xs[0..c]);
+    if xs.len() <= c {
+        return m;
+    }
+    put(out, m, table[(xs[c] / 16) as usize]);
+    at + 2 * xs.len()
+}
+
+// Writes two hex digits for each octet. The table is bound once and lent: a byte string is stored anew wherever it is named.
 pub fn put_hex_upper(out: &mut [u8], at: usize, xs: &[u8]) -> usize
     requires { ⌜ (at < 2 ^ 32) × (length (now xs) < 2 ^ 32) ⌝ }
     ensures { λ r. ⌜ Wrote (now (out .entry)) (now (out .exit)) at r (hexText (now (xs .entry))) ⌝ }
 {
-    let c = fitting(out.len(), at, 2, xs.len());
-    let m = hex_pairs(out, at, &xs[0..c]);
-    if xs.len() <= c {
-        return m;
-    }
-    put_hex_octet(out, m, xs[c], b'A');
-    at + 2 * xs.len()
+    let table = b"0123456789ABCDEF";
+    hex_by_table(out, at, table, xs)
 }
 
 // Writes two hex digits for each octet from i to e, or `-` if there is none.
