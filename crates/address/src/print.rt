@@ -40,17 +40,17 @@ fn group(out: &mut [u8], at: usize, v: u64) -> usize
     ensures { λ r. ⌜ Wrote (now (out .entry)) (now (out .exit)) at r (groupText v) ⌝ }
 {
     if v < 16 {
-        return put_octet(out, at, hex_digit(v as u8, b'a'));
+        return put_octet(out, at, hex_digit(v as u8));
     }
     if v < 256 {
-        return put_hex_octet(out, at, v as u8, b'a');
+        return put_hex_octet(out, at, v as u8);
     }
     if v < 4096 {
-        let m = put_octet(out, at, hex_digit((v / 256) as u8, b'a'));
-        return put_hex_octet(out, m, (v % 256) as u8, b'a');
+        let m = put_octet(out, at, hex_digit((v / 256) as u8));
+        return put_hex_octet(out, m, (v % 256) as u8);
     }
-    let m = put_hex_octet(out, at, (v / 256) as u8, b'a');
-    put_hex_octet(out, m, (v % 256) as u8, b'a')
+    let m = put_hex_octet(out, at, (v / 256) as u8);
+    put_hex_octet(out, m, (v % 256) as u8)
 }
 
 // Writes groups in hex, with colons between them.

@@ -2,10 +2,9 @@
 ghost use mathlib.Core.Path.{_≡_};
 ghost use mathlib.Core.List.{map};
 ghost use Prim.Native.Nat.{_-_, _^_, _<_, _≤_};
-ghost use Rattle.format.specs.Digits.{digits};
+ghost use Rattle.format.specs.Digits.{digits, lowerDigit};
 ghost use Rattle.format.specs.Number.{decimal, fixedDecimal};
 ghost use Rattle.buffer.specs.Writing.{Wrote};
-ghost use Rattle.digits.specs.Hex.{digitFrom};
 use buffer::put;
 
 // Writes a number in w decimal digits; the last digit is stored first.
@@ -38,21 +37,21 @@ pub fn put_octets(out: &mut [u8], at: usize, w: usize, v: u64) -> usize
     at + w
 }
 
-// The hex digit d; `ten` is the letter for ten, `A` or `a`.
-pub fn hex_digit(d: u8, ten: u8) -> u8
-    requires { ⌜ (d < 16) × (ten ≤ 97) ⌝ }
-    ensures { λ r. ⌜ r ≡ digitFrom ten d ⌝ }
+// The hex digit d in lower case.
+pub fn hex_digit(d: u8) -> u8
+    requires { ⌜ d < 16 ⌝ }
+    ensures { λ r. ⌜ r ≡ lowerDigit d ⌝ }
 {
-    if d < 10 { b'0' + d } else { ten + (d - 10) }
+    if d < 10 { b'0' + d } else { b'a' + (d - 10) }
 }
 
-// Writes the two hex digits of an octet.
-pub fn put_hex_octet(out: &mut [u8], at: usize, b: u8, ten: u8) -> usize
-    requires { ⌜ (at < 2 ^ 34) × (ten ≤ 97) ⌝ }
-    ensures { λ r. ⌜ Wrote (now (out .entry)) (now (out .exit)) at r (map (digitFrom ten) (digits 16 2 b)) ⌝ }
+// Writes the two hex digits of an octet in lower case.
+pub fn put_hex_octet(out: &mut [u8], at: usize, b: u8) -> usize
+    requires { ⌜ at < 2 ^ 34 ⌝ }
+    ensures { λ r. ⌜ Wrote (now (out .entry)) (now (out .exit)) at r (map lowerDigit (digits 16 2 b)) ⌝ }
 {
-    put(out, at, hex_digit(b / 16 % 16, ten));
-    put(out, at + 1, hex_digit(b % 16, ten));
+    put(out, at, hex_digit(b / 16 % 16));
+    put(out, at + 1, hex_digit(b % 16));
     at + 2
 }
 

@@ -15,11 +15,11 @@ pub fn field(out: &mut [u8], at: usize, p: &[u8], i: usize, e: usize) -> usize
     if e <= i {
         return at;
     }
-    let mut m = put_hex_octet(out, at, p[i], b'a');
+    let mut m = put_hex_octet(out, at, p[i]);
     let mut j = i + 1;
     while j < e {
         m = put_octet(out, m, b'-');
-        m = put_hex_octet(out, m, p[j], b'a');
+        m = put_hex_octet(out, m, p[j]);
         j = j + 1;
     }
     m
