@@ -15,6 +15,7 @@ use Rattle.format.specs.Digits.{digits, withoutZeros, lowerDigit, digitV
 use Rattle.format.specs.Number.{decimal}
 use Rattle.format.specs.Token.{between, scanned}
 use Rattle.format.specs.Address.{smallNumber, readA, groups, groupOctets, groupText, colons, groupOf, readAA, zerosAt, longestZeros, beforeRun, afterRun, aaaaText, groupsOf, sideOf, Doubled, single, double, intoBefore, atDoubleColon, eightGroups, readAAAA}
+use Rattle.format.specs.Catalogue.{TypeName}
 use Rattle.format.specs.Run.{shown, got, oneBare, readField}
 use Rattle.format.proofs.Lists.{not-true, bind-some, provided-some, below-parts}
 use Rattle.format.proofs.Finite.{at-each}
@@ -28,9 +29,9 @@ use Rattle.format.proofs.Number.{decimal-10}
 dotted : Separated 256 46 decimal smallNumber
 dotted = octets-separated 46 decimal smallNumber refl refl refl refl refl
 
-pub a4-laws : FieldLaws a4
+pub a4-laws : (c : List TypeName) → FieldLaws c a4
 unfolding Back shown readField
-a4-laws = record {
+a4-laws c = record {
   back = λ o p b e r q t. separated-back 4 46 decimal smallNumber dotted (omega arith) readA (λ t. refl) p b (octets-taken 4 p (omega arith) e) r q;
   bound = λ p b e. omega (arith, pieces-bound 10 46 decimal p decimal-10, octets-taken 4 p (omega arith) e);
   accepted = λ o n ts us p e. width-accepted 4 (omega arith) readA (λ t p e. exactly-length 4 (eachOf smallNumber (splitOn 46 t)) p e) ts us p e;
@@ -109,9 +110,9 @@ groups-short [] = omega arith
 groups-short (x ∷ []) = omega arith
 groups-short (x ∷ y ∷ p) = omega (arith, groups-short p)
 
-pub aa-laws : FieldLaws aa
+pub aa-laws : (c : List TypeName) → FieldLaws c aa
 unfolding Back shown readField
-aa-laws = record {
+aa-laws c = record {
   back = λ o p b e r q t. by p r q (pairs-back 4 p (octets-taken 8 p (omega arith) e) b);
   bound = λ p b e. omega (arith, colons-bound (groups p), groups-short p);
   accepted = λ o n ts us p e. width-accepted 8 (omega arith) readAA (λ t p e. groups-octets 4 (exactly 4 (eachOf groupOf (splitOn 58 t))) p (exactly-length 4 (eachOf groupOf (splitOn 58 t))) e) ts us p e;
@@ -294,9 +295,9 @@ groups-bound gs = by (ltb (longestZeros gs) 2)
     by true = omega (arith, colons-bound gs)
     by false = omega (arith, colons-bound s, colons-bound t, before-short (longestZeros gs) gs, after-short (longestZeros gs) gs, length-append (colons s) (58 ∷ 58 ∷ colons t))
 
-pub aaaa-laws : FieldLaws aaaa
+pub aaaa-laws : (c : List TypeName) → FieldLaws c aaaa
 unfolding Back shown readField
-aaaa-laws = record {
+aaaa-laws c = record {
   back = λ o p b e r q t. by p r q (pairs-back 8 p (octets-taken 16 p (omega arith) e) b);
   bound = λ p b e. omega (arith, groups-bound (groups p), groups-short p, octets-taken 16 p (omega arith) e);
   accepted = λ o n ts us p e. width-accepted 16 (omega arith) readAAAA (λ t p e. groups-octets 8 (eightGroups t (atDoubleColon t)) p (eight t (atDoubleColon t)) e) ts us p e;

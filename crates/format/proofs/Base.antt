@@ -18,6 +18,7 @@ use Rattle.format.specs.Digits.{digits, numberFrom, upperDigit, digitVal
 use Rattle.format.specs.Token.{between, scanned}
 use Rattle.format.specs.Text.{withCount, counted}
 use Rattle.format.specs.Base.{bits, filled, wholeOctets, toDigits, fromDigits, base32Text, readBase32, base64Char, base64Value, padding, base64Text, notPadding, readBase64}
+use Rattle.format.specs.Catalogue.{TypeName}
 use Rattle.format.specs.Run.{shown, got, oneBare, readField}
 use Rattle.format.proofs.Lists.{bind-some, below-append, same-octets}
 use Rattle.format.proofs.Finite.{allBelow, at-each}
@@ -157,18 +158,18 @@ module _ (xs : List ℕ) where
   base32-length : (length xs ≤ length (base32Text xs)) × (length (base32Text xs) ≤ 2 * length xs)
   base32-length = omega (arith, digits-many 5 (omega arith) xs, length-map (toDigits 5 xs) upperDigit)
 
-pub b64-laws : FieldLaws b64
+pub b64-laws : (c : List TypeName) → FieldLaws c b64
 unfolding Back shown readField
-b64-laws = record {
+b64-laws c = record {
   back = λ o p b e r q t.
       all-back readBase64 (base64Text p) p r (omega (arith, base64-length p, end-some p e)) (base64-plain p) (base64-back p b) (end-some p e) (t refl);
   bound = λ p b e. omega (arith, base64-length p .1);
   accepted = λ o h ts us p e. all-accepted readBase64 ts us p e;
 }
 
-pub b32-laws : FieldLaws b32
+pub b32-laws : (c : List TypeName) → FieldLaws c b32
 unfolding Back shown readField
-b32-laws = record {
+b32-laws c = record {
   back = λ o p b e r q t. back p r (counted-octets 1 p e) b q;
   bound = λ p b e. omega (arith, base32-length (drop 1 p) .1, length-drop 1 p);
   accepted = λ o h ts us p e. bare-accepted (count 1) readBase32 accepted ts us p e;

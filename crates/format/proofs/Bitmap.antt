@@ -5,7 +5,7 @@ use mathlib.Core.Bool.{Bool, true, false, cond, _||_, or-assoc, or-false}
 use mathlib.Core.List.{List, [], _∷_, _++_, map, append-assoc, append-nil}
 use mathlib.Core.Option.{Option, some}
 use native.Mathlib.Omega.{arith}
-use native.Mathlib.Nat.{add-zero, mul-le-mul-left, le-trans}
+use native.Mathlib.Nat.{add-zero}
 use lib.ListN.{length, take, drop, length-append, length-map, replicate, length-replicate}
 use lib.Dec.{leb, ltb, eqb}
 use borrow.Author.Tests.{lt-ltb, le-ltb, le-leb, eq-eqb, eqb-true, ltb-false, leb-true, eqb-false, ne-eqb}
@@ -16,15 +16,16 @@ use Rattle.format.specs.Wire.{window, blockCount, blockOctet, fault, go,
 use Rattle.format.specs.Field.{bitmap}
 use Rattle.format.specs.Digits.{digits, number}
 use Rattle.format.specs.Token.{Token, bare, between, scanned, plain}
-use Rattle.format.specs.Rrtype.{typeText, typeNumber}
 use Rattle.format.specs.Bitmap.{setBits, atOctets, typesFrom, types, bitmapText, bitsOf, octetsFrom, windowOctets, beforeZeros, withoutLastZeros, blockOf, blocksFrom, blocks, readBitmap}
 use Rattle.format.specs.Base.{bits}
+use Rattle.format.specs.Catalogue.{TypeName, typeTextIn, typeNumberIn}
 use Rattle.format.specs.Run.{shown, bareOf, readField}
 use Rattle.format.proofs.Lists.{bind-some, below-append}
 use Rattle.format.proofs.Digits.{number-digits}
 use Rattle.format.proofs.Token.{Parted, at-end-of-text, spaced, Plainly, bare-scanned, none-scanned, space-scanned}
-use Rattle.format.proofs.Field.{Back, FieldLaws, got-some, Each, parted-bound}
-use Rattle.format.proofs.Rrtype.{type-plain, type-length, type-value}
+use Rattle.format.proofs.Field.{Back, FieldLaws, got-some}
+use Rattle.format.specs.Demands.{soundNames}
+use Rattle.format.proofs.Catalogue.{type-text, few-names, names-good, Rising, rising-from, weight, names-weight}
 use Rattle.format.proofs.Base.{bits-below, bits-length}
 use Rattle.format.proofs.Wire.{one-less}
 
@@ -46,6 +47,20 @@ set-within : (lo hi n : ℕ) (bs : List ℕ) → lo ≤ n → n + length bs ≤ 
 set-within lo hi n [] h k = tt
 set-within lo hi n (zero ∷ bs) h k = set-within lo hi (suc n) bs (omega arith) (omega arith)
 set-within lo hi n (suc b ∷ bs) h k = (h, omega arith, set-within lo hi (suc n) bs (omega arith) (omega arith))
+
+-- they rise
+set-rising : (n : ℕ) (bs : List ℕ) → Rising n (setBits n bs)
+set-rising n [] = tt
+set-rising n (zero ∷ bs) = rising-from (suc n) n (setBits (suc n) bs) (omega arith) (set-rising (suc n) bs)
+set-rising n (suc b ∷ bs) = (omega arith, set-rising (suc n) bs)
+
+rising-append : (lo mid : ℕ) (xs ys : List ℕ) → lo ≤ mid → Rising lo xs → Within 0 mid xs → Rising mid ys → Rising lo (xs ++ ys)
+rising-append lo mid [] ys l h w k = rising-from mid lo ys l k
+rising-append lo mid (x ∷ xs) ys l h w k = (h .0, rising-append (suc x) mid xs ys (w .1) (h .1) (w .2) k)
+
+within-below : (hi : ℕ) (xs : List ℕ) → Within 0 hi xs → Below hi xs
+within-below hi [] h = tt
+within-below hi (x ∷ xs) h = (h .1, within-below hi xs (h .2))
 
 pub set-short : (n : ℕ) (bs : List ℕ) → length (setBits n bs) ≤ length bs
 set-short n [] = omega arith
@@ -134,6 +149,12 @@ types-within : (lo hi w k : ℕ) (p : List ℕ) → Windows w k p → lo ≤ w *
 types-within lo hi w zero p done h l = tt
 types-within lo hi w (suc k) p (next xs q a b c r) h l =
     rw (block-types w xs q) (within-append lo hi (setBits (w * 256) (bits 8 xs)) (types q) (block-within lo hi w xs a h (omega arith)) (types-within lo hi (suc w) k q r (omega arith) (omega arith)))
+
+types-rising : (w k : ℕ) (p : List ℕ) → Windows w k p → Rising (w * 256) (types p)
+types-rising w zero p done = tt
+types-rising w (suc k) p (next xs q a b c r) =
+    rw (block-types w xs q)
+    (rising-append (w * 256) (suc w * 256) (setBits (w * 256) (bits 8 xs)) (types q) (omega arith) (set-rising (w * 256) (bits 8 xs)) (block-within 0 (suc w * 256) w xs a (omega arith) (omega arith)) (types-rising (suc w) k q r))
 
 types-short : (w k : ℕ) (p : List ℕ) → Windows w k p → length (types p) ≤ 256 * k
 types-short w zero p done = omega arith
@@ -252,18 +273,23 @@ windows-of (suc k) w p h b e = by (at-window w p b e) (λ q. windows-of k (suc w
     by : First w p → ((q : List ℕ) → Octets q → taken (window (suc w)) q ≡ took (length q) → Windows (suc w) k q) → Windows w (suc k) p
     by (first xs q c l t d f g) ih = rw c (next xs q l t d (ih q f g))
 
--- A way to write a type, in at most c octets, and to read it.
-pub record TypeTexts (text : ℕ → List ℕ) (value : Token → Option ℕ) (c : ℕ) : Type 0 where
+-- A way to write a type, and to read it.
+pub record TypeTexts (text : ℕ → List ℕ) (value : Token → Option ℕ) : Type 0 where
   pub plain : (n : ℕ) → n < 65536 → Plainly (text n)
   pub some-octet : (n : ℕ) → n < 65536 → 1 ≤ length (text n)
-  pub short : (n : ℕ) → n < 65536 → length (text n) ≤ c
   pub reads : (n : ℕ) → n < 65536 → value (bare (text n)) ≡ some n
 
 plain-scanned : (t r : List ℕ) → 1 ≤ length t → Plainly t → Parted r → scanned between (t ++ r) ≡ bare t ∷ scanned between r
 plain-scanned [] r h k p = absurd (omega arith)
 plain-scanned (x ∷ t) r h k p = bare-scanned x t r k p
 
-module _ (text : ℕ → List ℕ) (value : Token → Option ℕ) (c : ℕ) (w : TypeTexts text value c) where
+-- texts with a space between them
+parted-weight : (text : ℕ → List ℕ) (ts : List ℕ) → length (parted (ascii " ") (map text ts)) ≤ weight text ts
+parted-weight text [] = omega arith
+parted-weight text (t ∷ []) = omega arith
+parted-weight text (t ∷ u ∷ ts) = omega (arith, parted-weight text (u ∷ ts), length-append (text t) (ascii " "), length-append (text t ++ ascii " ") (parted (ascii " ") (map text (u ∷ ts))))
+
+module _ (text : ℕ → List ℕ) (value : Token → Option ℕ) (w : TypeTexts text value) where
   one-scanned : (n : ℕ) (r : List ℕ) → n < 65536 → Parted r → eachOf value (scanned between (text n ++ r)) ≡ consBoth (some n) (eachOf value (scanned between r))
   one-scanned n r h p = rw (plain-scanned (text n) r (w .some-octet n h) (w .plain n h) p, w .reads n h)
 
@@ -273,10 +299,6 @@ module _ (text : ℕ → List ℕ) (value : Token → Option ℕ) (c : ℕ) (w :
   list-scanned (t ∷ u ∷ ts) h =
       let r : List ℕ = parted (ascii " ") (map text (u ∷ ts)) in
       rw (append-assoc (text t) (ascii " ") r, one-scanned t (32 ∷ r) (h .1) (spaced r), space-scanned r, list-scanned (u ∷ ts) (h .2))
-
-  each-short : (ts : List ℕ) → Within 0 65536 ts → Each c (map text ts)
-  each-short [] h = tt
-  each-short (t ∷ ts) h = (w .short t (h .1), each-short ts (h .2))
 
   module _ (p : List ℕ) (b : Octets p) (e : taken (window 0) p ≡ took (length p)) where
     of-bitmap : Windows 0 256 p
@@ -288,10 +310,14 @@ module _ (text : ℕ → List ℕ) (value : Token → Option ℕ) (c : ℕ) (w :
     bitmap-back : readBitmap value (scanned between (bitmapText text p)) ≡ some p
     bitmap-back = rw (list-scanned (types p) types-of-bitmap, blocks-back (types p) 0 256 p of-bitmap (λ i l m. refl))
 
-    bitmap-bound : length (bitmapText text p) ≤ suc c * 65536
-    bitmap-bound =
-        let n : length (map text (types p)) ≤ 65536 = omega (arith, length-map (types p) text, types-short 0 256 p of-bitmap) in
-        le-trans (parted-bound c 32 (map text (types p)) (each-short (types p) types-of-bitmap)) (mul-le-mul-left (suc c) n)
+    bitmap-bound : length (bitmapText text p) ≤ weight text (types p)
+    bitmap-bound = parted-weight text (types p)
+
+    types-rise : Rising 0 (types p)
+    types-rise = types-rising 0 256 p of-bitmap
+
+    types-few : length (types p) ≤ 65536
+    types-few = types-short 0 256 p of-bitmap
 
 bitmap-accepted : (value : Token → Option ℕ) (ts : List Token) (p : List ℕ) → readBitmap value ts ≡ some p → taken (window 0) p ≡ took (length p)
 bitmap-accepted value ts p e =
@@ -299,14 +325,22 @@ bitmap-accepted value ts p e =
     let q : blocks l ≡ p = cc in
     rw (← q) (blocks-taken l 256 0 0 (omega arith))
 
-type-texts : TypeTexts typeText (λ t. bareOf t >>= typeNumber) 9
-type-texts = record { plain = λ n h. type-plain n; some-octet = λ n h. type-length n h .0; short = λ n h. type-length n h .1; reads = λ n h. type-value n h }
+type-texts : (c : List TypeName) → soundNames c ≡ true → TypeTexts (typeTextIn c) (λ t. bareOf t >>= typeNumberIn c)
+type-texts c g = record { plain = λ n h. type-text c g n h .plain; some-octet = λ n h. type-text c g n h .some-octet; reads = λ n h. type-text c g n h .reads }
 
-pub bitmap-laws : FieldLaws bitmap
+pub bitmap-laws : (c : List TypeName) → soundNames c ≡ true → FieldLaws c bitmap
 unfolding Back shown readField
-bitmap-laws = record {
+bitmap-laws c g = record {
   back = λ o p b e r q t.
-      rw (t refl, append-nil (bitmapText typeText p), bitmap-back typeText (λ t. bareOf t >>= typeNumber) 9 type-texts p b e, none-scanned);
-  bound = λ p b e. omega (arith, bitmap-bound typeText (λ t. bareOf t >>= typeNumber) 9 type-texts p b e);
-  accepted = λ o n ts us p e. bitmap-accepted (λ t. bareOf t >>= typeNumber) ts p (got-some _ [] us p e);
+      rw (t refl, append-nil (bitmapText (typeTextIn c) p), bitmap-back (typeTextIn c) (λ t. bareOf t >>= typeNumberIn c) (type-texts c g) p b e, none-scanned);
+  bound = λ p b e.
+      let x = type-texts c g in
+      omega (
+        arith,
+        bitmap-bound (typeTextIn c) (λ t. bareOf t >>= typeNumberIn c) x p b e,
+        names-weight c (names-good c g) (types p) (types-rise (typeTextIn c) (λ t. bareOf t >>= typeNumberIn c) x p b e) (within-below 65536 (types p) (types-of-bitmap (typeTextIn c) (λ t. bareOf t >>= typeNumberIn c) x p b e)),
+        types-few (typeTextIn c) (λ t. bareOf t >>= typeNumberIn c) x p b e,
+        few-names c g,
+      );
+  accepted = λ o n ts us p e. bitmap-accepted (λ t. bareOf t >>= typeNumberIn c) ts p (got-some _ [] us p e);
 }

@@ -11,6 +11,7 @@ use lib.Dec.{leb}
 use borrow.Author.Tests.{leb-true, leb-false}
 use Rattle.format.specs.Wire.{took, taken}
 use Rattle.format.specs.Field.{Kind, start, tail}
+use Rattle.format.specs.Catalogue.{TypeName}
 use Rattle.format.specs.Run.{shown, Parts, refused, parts, withFirst, partsOf, isParts, maxRdata, accepts, joined, textOf}
 use Rattle.format.specs.Demands.{tailsLast, Divides}
 use Rattle.format.proofs.Wire.{fits, alone, anyhow}
@@ -162,6 +163,6 @@ module _ (ks ls : List Kind) (c : Cuttable ks ls) (xs : List ℕ) where
       by true h = ordered d e (leb-true d e h) p q
       by false h = let lt = leb-false d e h in sym (ordered e d (omega arith) q p)
 
-  pub cut-text : (d : ℕ) → Divides ks ls xs d → textOf (ks ++ ls) xs ≡ joined (textOf ks (take d xs)) (textOf ls (drop d xs))
+  pub cut-text : (c : List TypeName) (d : ℕ) → Divides ks ls xs d → textOf c (ks ++ ls) xs ≡ joined (textOf c ks (take d xs)) (textOf c ls (drop d xs))
   unfolding textOf
-  cut-text d w = let (ps, qs, e, f, g) = both d w in rw (g, e, f, text-append shown ks ls ps qs (part-count ks (take d xs) ps e))
+  cut-text n d w = let (ps, qs, e, f, g) = both d w in rw (g, e, f, text-append (shown n) ks ls ps qs (part-count ks (take d xs) ps e))

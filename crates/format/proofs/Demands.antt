@@ -17,14 +17,16 @@ use Rattle.format.specs.Token.{tokens}
 use Rattle.format.specs.Name.{isWireName}
 use Rattle.format.specs.Judge.{Description, described, judged}
 use Rattle.format.specs.Run.{shown, readField, Parts, refused, parts, withFirst, afterTaking, partsOf, isParts, maxRdata, accepts, textOfParts, textIn, textOf, readRun}
-use Rattle.format.specs.Entries.{Answer, done, refusal, maxText, orRefusal, ofParts, isRun, run, printing, reading, ifRoom, room, outcome, print, read}
-use Rattle.format.specs.Demands.{tailsLast, soundKind, Sound, Prints, Divides, wholeList, secondList, Demand3, RoundTrip, Demand2, ReadAccepted}
+use Rattle.format.specs.Catalogue.{Entry, TypeName, Catalogued, badEntry, known, cataloguedFrom, catalogued}
+use Rattle.format.specs.Entries.{Answer, done, refusal, maxText, orRefusal, ofParts, isRun, run, ofCatalogue, printingWith, readingWith, ifRoom, room, outcome, printWith, readWith}
+use Rattle.format.specs.Demands.{tailsLast, soundKind, soundNames, Sound, Prints, Divides, wholeList, secondList, Demand3, RoundTrip, Demand2, ReadAccepted, BadCatalogue, BadRun, BadOrigin, OldAnswers}
 use Rattle.format.proofs.Lists.{and-right, all-take, all-drop}
 use Rattle.format.proofs.Judge.{judges}
 use Rattle.format.proofs.Run.{first, parts-accepted, no-tail}
 use Rattle.format.proofs.Cut.{Cuttable, cut-cases, none-left, cut-accepted, cut-once, cut-text}
 use Rattle.format.proofs.Fields.{round-trip, reads-accepted}
 use Rattle.format.proofs.Bound.{text-within}
+use Rattle.format.proofs.Catalogue.{catalogues}
 
 -- a run of a stanza's fields
 tails-drop : (n : ℕ) (ks : List Kind) → tailsLast ks ≡ true → tailsLast (drop n ks) ≡ true
@@ -60,8 +62,8 @@ run-fit d s first len =
 
 -- what reading answers with 0 is accepted
 pub read-accepted : ReadAccepted
-unfolding reading
-read-accepted s d j first len o t xs e = by (leb (length t) maxText) (rw j at e)
+unfolding readingWith
+read-accepted es names s d j first len o t xs e = by (leb (length t) maxText) (rw j at e)
   where
     ks : List Kind
     ks = run first len (kinds (d .fields))
@@ -69,23 +71,31 @@ read-accepted s d j first len o t xs e = by (leb (length t) maxText) (rw j at e)
     fit : Fit ks
     fit = run-fit d (judges s d j) first len
 
-    on-parts : isWireName o ≡ true → (q : Parts) → readRun (λ k ts. readField k o ts) ks (tokens t) ≡ q → ofParts q (λ ps. orRefusal 11 (leb (length (flat ps)) maxRdata) (done (flat ps))) ≡ done xs → accepts ks xs ≡ true
-    on-parts w (refused n i) p e = cc
-    on-parts w (parts ps) p e = on-length (leb (length (flat ps)) maxRdata) refl e
+    -- what follows 13
+    Rest : List TypeName → Answer
+    Rest c = ofParts (readRun (λ k ts. readField c k o ts) ks (tokens t)) (λ ps. orRefusal 11 (leb (length (flat ps)) maxRdata) (done (flat ps)))
+
+    on-parts : (c : List TypeName) → soundNames c ≡ true → isWireName o ≡ true → (q : Parts) → readRun (λ k ts. readField c k o ts) ks (tokens t) ≡ q → ofParts q (λ ps. orRefusal 11 (leb (length (flat ps)) maxRdata) (done (flat ps))) ≡ done xs → accepts ks xs ≡ true
+    on-parts c g w (refused n i) p e = cc
+    on-parts c g w (parts ps) p e = on-length (leb (length (flat ps)) maxRdata) refl e
       where
         on-length : (a : Bool) → leb (length (flat ps)) maxRdata ≡ a → orRefusal 11 a (done (flat ps)) ≡ done xs → accepts ks xs ≡ true
-        on-length true a e = let z : flat ps ≡ xs = cc in rw (← z) (parts-accepted ks (flat ps) ps (leb-true (length (flat ps)) maxRdata a) (reads-accepted o w ks (tokens t) ps (fit .tails) (fit .sound) p))
+        on-length true a e = let z : flat ps ≡ xs = cc in rw (← z) (parts-accepted ks (flat ps) ps (leb-true (length (flat ps)) maxRdata a) (reads-accepted c g o w ks (tokens t) ps (fit .tails) (fit .sound) p))
         on-length false a e = cc
 
-    on-origin : (a : Bool) → isWireName o ≡ a → orRefusal 7 a (ofParts (readRun (λ k ts. readField k o ts) ks (tokens t)) (λ ps. orRefusal 11 (leb (length (flat ps)) maxRdata) (done (flat ps)))) ≡ done xs → accepts ks xs ≡ true
-    on-origin true a e = on-parts a (readRun (λ k ts. readField k o ts) ks (tokens t)) refl e
+    on-names : isWireName o ≡ true → (r : Catalogued) → catalogued names es ≡ r → ofCatalogue r Rest ≡ done xs → accepts ks xs ≡ true
+    on-names w (badEntry i) p e = cc
+    on-names w (known c) p e = on-parts c (catalogues names es c p .0) w (readRun (λ k ts. readField c k o ts) ks (tokens t)) refl e
+
+    on-origin : (a : Bool) → isWireName o ≡ a → orRefusal 7 a (ofCatalogue (catalogued names es) Rest) ≡ done xs → accepts ks xs ≡ true
+    on-origin true a e = on-names a (catalogued names es) refl e
     on-origin false a e = cc
 
-    on-run : (a : Bool) → orRefusal 6 a (orRefusal 7 (isWireName o) (ofParts (readRun (λ k ts. readField k o ts) ks (tokens t)) (λ ps. orRefusal 11 (leb (length (flat ps)) maxRdata) (done (flat ps))))) ≡ done xs → accepts ks xs ≡ true
+    on-run : (a : Bool) → orRefusal 6 a (orRefusal 7 (isWireName o) (ofCatalogue (catalogued names es) Rest)) ≡ done xs → accepts ks xs ≡ true
     on-run true e = on-origin (isWireName o) refl e
     on-run false e = cc
 
-    by : (a : Bool) → orRefusal 1 a (orRefusal 6 (isRun first len (kinds (d .fields))) (orRefusal 7 (isWireName o) (ofParts (readRun (λ k ts. readField k o ts) ks (tokens t)) (λ ps. orRefusal 11 (leb (length (flat ps)) maxRdata) (done (flat ps)))))) ≡ done xs → accepts ks xs ≡ true
+    by : (a : Bool) → orRefusal 1 a (orRefusal 6 (isRun first len (kinds (d .fields))) (orRefusal 7 (isWireName o) (ofCatalogue (catalogued names es) Rest))) ≡ done xs → accepts ks xs ≡ true
     by true e = on-run (isRun first len (kinds (d .fields))) e
     by false e = cc
 
@@ -116,16 +126,16 @@ numbered (k ∷ ks) xs = by (taken (start k) xs) (λ ys. numbered ks ys)
     by bad ih = refl
     by (took n) ih = on (take n xs) (partsOf ks (drop n xs)) (ih (drop n xs))
 
-module _ (s : List ℕ) (d : Description) (j : judged s ≡ described d) (first len : ℕ) (r : isRun first len (kinds (d .fields)) ≡ true) where
+module _ (es : List Entry) (names : List ℕ) (c : List TypeName) (n : catalogued names es ≡ known c) (s : List ℕ) (d : Description) (j : judged s ≡ described d) (first len : ℕ) (r : isRun first len (kinds (d .fields)) ≡ true) where
   abbrev ks : List Kind
   ks = run first len (kinds (d .fields))
 
   -- printing, want of room apart
-  prints-text : (xs : List ℕ) → accepts ks xs ≡ true → printing s first len xs ≡ done (textOf ks xs)
-  unfolding printing accepts textOf
-  prints-text xs h = rw (j, r) (by (leb (length xs) maxRdata) (partsOf ks xs) h)
+  prints-text : (xs : List ℕ) → accepts ks xs ≡ true → printingWith s first len es names xs ≡ done (textOf c ks xs)
+  unfolding printingWith accepts textOf
+  prints-text xs h = rw (j, r, n) (by (leb (length xs) maxRdata) (partsOf ks xs) h)
     where
-      by : (a : Bool) (q : Parts) → a && isParts q ≡ true → orRefusal 1 a (ofParts q (λ ps. done (textOfParts shown ks ps))) ≡ done (textIn shown ks q)
+      by : (a : Bool) (q : Parts) → a && isParts q ≡ true → orRefusal 1 a (ofParts q (λ ps. done (textOfParts (shown c) ks ps))) ≡ done (textIn (shown c) ks q)
       by true (parts ps) e = refl
       by true (refused n i) e = cc
       by false q e = cc
@@ -134,21 +144,21 @@ module _ (s : List ℕ) (d : Description) (j : judged s ≡ described d) (first 
   Refusing (done t) = ⊥
   Refusing (refusal n i) = among n (1 ∷ 8 ∷ 9 ∷ 10 ∷ []) ≡ true
 
-  prints-refusal : (xs : List ℕ) → accepts ks xs ≡ false → Refusing (printing s first len xs)
-  unfolding printing accepts
-  prints-refusal xs h = rw (j, r) (by (leb (length xs) maxRdata) (partsOf ks xs) (numbered ks xs) h)
+  prints-refusal : (xs : List ℕ) → accepts ks xs ≡ false → Refusing (printingWith s first len es names xs)
+  unfolding printingWith accepts
+  prints-refusal xs h = rw (j, r, n) (by (leb (length xs) maxRdata) (partsOf ks xs) (numbered ks xs) h)
     where
-      by : (a : Bool) (q : Parts) → Numbered q → a && isParts q ≡ false → Refusing (orRefusal 1 a (ofParts q (λ ps. done (textOfParts shown ks ps))))
+      by : (a : Bool) (q : Parts) → Numbered q → a && isParts q ≡ false → Refusing (orRefusal 1 a (ofParts q (λ ps. done (textOfParts (shown c) ks ps))))
       by true (parts ps) n e = absurd (true≢false e)
       by true (refused m i) n e = n
       by false q n e = refl
 
-  pub prints : (xs : List ℕ) → Prints s first len (run first len (kinds (d .fields))) xs
-  unfolding print
+  pub prints : (xs : List ℕ) → Prints es names c s first len (run first len (kinds (d .fields))) xs
+  unfolding printWith
   prints xs = record {
-    enough-room = λ h out at l. rw (prints-text xs h, fits-room (textOf ks xs) (room out at) l);
-    no-room = λ h out at l. rw (prints-text xs h, lacks-room (textOf ks xs) (room out at) l);
-    refuses = λ h out at. by (printing s first len xs) out at (prints-refusal xs h);
+    enough-room = λ h out at l. rw (prints-text xs h, fits-room (textOf c ks xs) (room out at) l);
+    no-room = λ h out at l. rw (prints-text xs h, lacks-room (textOf c ks xs) (room out at) l);
+    refuses = λ h out at. by (printingWith s first len es names xs) out at (prints-refusal xs h);
   }
     where
       by : (a : Answer) (out : List ℕ) (at : ℕ) → Refusing a → (among (outcome out at (ifRoom (room out at) a) .number) (1 ∷ 8 ∷ 9 ∷ 10 ∷ []) ≡ true) × (outcome out at (ifRoom (room out at) a) .lent ≡ out)
@@ -156,23 +166,26 @@ module _ (s : List ℕ) (d : Description) (j : judged s ≡ described d) (first 
       by (refusal n i) out at h = (h, refl)
 
   -- reading the printed text
-  reads-text : (xs : List ℕ) → Octets xs → accepts ks xs ≡ true → (o : List ℕ) → isWireName o ≡ true → reading s first len o (textOf ks xs) ≡ done xs
-  unfolding reading accepts textOf
+  reads-text : (xs : List ℕ) → Octets xs → accepts ks xs ≡ true → (o : List ℕ) → isWireName o ≡ true → readingWith s first len es names o (textOf c ks xs) ≡ done xs
+  unfolding readingWith accepts textOf
   reads-text xs b h o w = by (leb (length xs) maxRdata) refl (partsOf ks xs) refl h
     where
       fit : Fit ks
       fit = run-fit d (judges s d j) first len
 
-      by : (a : Bool) → leb (length xs) maxRdata ≡ a → (q : Parts) → partsOf ks xs ≡ q → a && isParts q ≡ true → reading s first len o (textIn shown ks q) ≡ done xs
+      sound : soundNames c ≡ true
+      sound = catalogues names es c n .0
+
+      by : (a : Bool) → leb (length xs) maxRdata ≡ a → (q : Parts) → partsOf ks xs ≡ q → a && isParts q ≡ true → readingWith s first len es names o (textIn (shown c) ks q) ≡ done xs
       by true a (parts ps) p e =
-          let h = round-trip o ks (fit .tails) (fit .sound) xs b ps p in
-          let m : length (textOfParts shown ks ps) ≤ maxText = text-within ks (fit .tails) (fit .sound) (fit .most) xs b (leb-true (length xs) maxRdata a) ps p in
-          rw (le-leb (length (textOfParts shown ks ps)) maxText m, j, r, w, h .0, h .1, a)
+          let h = round-trip c sound o ks (fit .tails) (fit .sound) xs b ps p in
+          let m : length (textOfParts (shown c) ks ps) ≤ maxText = text-within c sound ks (fit .tails) (fit .sound) (fit .most) xs b (leb-true (length xs) maxRdata a) ps p in
+          rw (le-leb (length (textOfParts (shown c) ks ps)) maxText m, j, r, w, n, h .0, h .1, a)
       by true a (refused n i) p e = cc
       by false a q p e = cc
 
-  round : (xs : List ℕ) → Octets xs → RoundTrip s first len (run first len (kinds (d .fields))) xs
-  unfolding read
+  round : (xs : List ℕ) → Octets xs → RoundTrip es names c s first len (run first len (kinds (d .fields))) xs
+  unfolding readWith
   round xs b = record {
     prints = prints xs;
     reads = λ h o w out at l. rw (reads-text xs b h o w, fits-room xs (room out at) l);
@@ -180,7 +193,7 @@ module _ (s : List ℕ) (d : Description) (j : judged s ≡ described d) (first 
   }
 
 pub demand-2 : Demand2
-demand-2 s d j first len r xs b = round s d j first len r xs b
+demand-2 es names c n s d j first len r xs b = round es names c n s d j first len r xs b
 
 -- the lists of a cut
 whole-list : (ks : List Kind) → wholeList ks ≡ ks
@@ -193,15 +206,15 @@ a-run : (ks : List Kind) (first len : ℕ) → 1 ≤ first → first - 1 + len �
 a-run ks first len h l = rw (le-leb 1 first h, le-leb (first - 1 + len) (length ks) l)
 
 pub demand-3 : Demand3
-demand-3 s d j k h xs m = record {
+demand-3 es names n v s d j k h xs m = record {
   accepted = rw (whole-list ks, second-list ks k) (whole-cut (cut-accepted front back c xs m));
   no-other = λ e v f w u. rw (second-list ks k) (other e (rw (second-list ks k) at v) f w u (accepts front (take f xs)) refl (accepts back (drop f xs)) refl);
-  text = λ e v. rw (whole-list ks, second-list ks k) (whole-text (cut-text front back c xs e (rw (second-list ks k) at v)));
+  text = λ e w. rw (whole-list ks, second-list ks k) (whole-text (cut-text front back c xs n e (rw (second-list ks k) at w)));
   nothing = (λ e. none-left xs (and-right (leb (length xs) maxRdata) (isParts (partsOf [] xs)) (unfold accepts in e)), λ e. rw e (unfold accepts partsOf in refl));
   no-text = unfold textOf partsOf textOfParts in refl;
-  whole-prints = prints s d j 1 (length ks) (a-run ks 1 (length ks) (omega arith) (omega arith)) xs;
-  first-prints = λ e. prints s d j 1 k (a-run ks 1 k (omega arith) (omega (arith, kinds-length (d .fields)))) (take e xs);
-  second-prints = λ e. prints s d j (k + 1) (length ks - k) (a-run ks (k + 1) (length ks - k) (omega arith) (omega (arith, kinds-length (d .fields)))) (drop e xs);
+  whole-prints = prints es names n v s d j 1 (length ks) (a-run ks 1 (length ks) (omega arith) (omega arith)) xs;
+  first-prints = λ e. prints es names n v s d j 1 k (a-run ks 1 k (omega arith) (omega (arith, kinds-length (d .fields)))) (take e xs);
+  second-prints = λ e. prints es names n v s d j (k + 1) (length ks - k) (a-run ks (k + 1) (length ks - k) (omega arith) (omega (arith, kinds-length (d .fields)))) (drop e xs);
 }
   where
     ks : List Kind
@@ -219,7 +232,7 @@ demand-3 s d j k h xs m = record {
     whole-cut : (accepts (front ++ back) xs ≡ true) ↔ ((e : ℕ) × Divides front back xs e) → (accepts ks xs ≡ true) ↔ ((e : ℕ) × Divides front back xs e)
     whole-cut p = rw (take-append-drop k ks) at p
 
-    whole-text : {t : List ℕ} → textOf (front ++ back) xs ≡ t → textOf ks xs ≡ t
+    whole-text : {t : List ℕ} → textOf n (front ++ back) xs ≡ t → textOf n ks xs ≡ t
     whole-text p = rw (take-append-drop k ks) at p
 
     other : (e : ℕ) → Divides front back xs e → (f : ℕ) → f ≤ length xs → (f ≡ e → ⊥) → (a : Bool) → accepts front (take f xs) ≡ a → (b : Bool) → accepts back (drop f xs) ≡ b
@@ -227,3 +240,35 @@ demand-3 s d j k h xs m = record {
     other e v f w u true p true q = absurd (u (cut-once front back c xs f e (record { within = w; front = p; back = q }) v))
     other e v f w u true p false q = inr q
     other e v f w u false p b q = inl p
+
+-- a bad catalogue, whatever the RDATA and the text
+pub bad-catalogue : BadCatalogue
+unfolding printWith printingWith readWith readingWith
+bad-catalogue es names i n s d j first len r = record {
+  printing-13 = λ xs l out at. rw (le-leb (length xs) maxRdata l, j, r, n);
+  reading-13 = λ o w t l out at. rw (le-leb (length t) maxText l, j, r, w, n);
+}
+
+-- the order before 13
+pub bad-run : BadRun
+unfolding printWith printingWith readWith readingWith
+bad-run es names s d j first len r = record {
+  printing-6 = λ xs l out at. rw (le-leb (length xs) maxRdata l, j, r);
+  reading-6 = λ o t l out at. rw (le-leb (length t) maxText l, j, r);
+}
+
+pub bad-origin : BadOrigin
+unfolding readWith readingWith
+bad-origin es names s d j first len r o w t l out at = rw (le-leb (length t) maxText l, j, r, w)
+
+-- no entry: the old answers
+pub old-answers : OldAnswers
+unfolding printWith printingWith readWith readingWith cataloguedFrom shown readField
+old-answers = record {
+  shown-type = λ p. refl;
+  shown-types = λ p. refl;
+  read-type = λ o ts. refl;
+  read-types = λ o ts. refl;
+  no-entry-prints = λ stanza first len names rdata out at. refl;
+  no-entry-reads = λ stanza first len names origin text out at. refl;
+}

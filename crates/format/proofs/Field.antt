@@ -15,6 +15,7 @@ use Rattle.format.specs.Field.{Kind, int, rrtype, bitmap, a4, aa, aaaa, 
 use Rattle.format.specs.Token.{Token, bare, between, scanned, plain}
 use Rattle.format.specs.Text.{withCount, counted, notEmpty}
 use Rattle.format.specs.Name.{isWireName}
+use Rattle.format.specs.Catalogue.{TypeName}
 use Rattle.format.specs.Run.{shown, Got, got, gotOr, bareOf, oneToken, oneBare, joinedBares, readField}
 use Rattle.format.specs.Entries.{read}
 use Rattle.format.proofs.Lists.{and-left, and-right, not-true, bind-some, provided-some}
@@ -27,10 +28,10 @@ use Rattle.format.proofs.Token.{Parted, at-end-of-text, plainly, Plainl
 abbrev pub BackBy : (Kind → List ℕ → List ℕ) → (Kind → List Token → Got) → Kind → List ℕ → Type 0
 BackBy show read k p = (r : List ℕ) → Parted r → (tail k ≡ true → r ≡ []) → read k (scanned between (show k p ++ r)) ≡ got p (scanned between r)
 
-unfoldable pub Back : Kind → List ℕ → List ℕ → Type 0
-Back k o p = BackBy shown (λ k ts. readField k o ts) k p
+unfoldable pub Back : List TypeName → Kind → List ℕ → List ℕ → Type 0
+Back c k o p = BackBy (shown c) (λ k ts. readField c k o ts) k p
 
--- A field's text is at most four octets for each of its own, and so many more: R[L] has up to 65,536 types.
+-- A field's text is at most four octets for each of its own, and so many more: R[L] has up to 65,536 types, 512 of them with a name.
 abbrev pub isBitmap : Kind → Bool
 isBitmap (int w l) = false
 isBitmap rrtype = false
@@ -50,12 +51,12 @@ isBitmap (eui w) = false
 isBitmap time = false
 
 abbrev pub cap : Kind → ℕ
-cap k = cond (isBitmap k) 655423 63
+cap k = cond (isBitmap k) 687679 63
 
-pub record FieldLaws (k : Kind) : Type 0 where
-  pub back : (o p : List ℕ) → Octets p → taken (start k) p ≡ took (length p) → Back k o p
-  pub bound : (p : List ℕ) → Octets p → taken (start k) p ≡ took (length p) → length (shown k p) ≤ 4 * length p + cap k
-  pub accepted : (o : List ℕ) → isWireName o ≡ true → (ts us : List Token) (p : List ℕ) → readField k o ts ≡ got p us → taken (start k) p ≡ took (length p)
+pub record FieldLaws (c : List TypeName) (k : Kind) : Type 0 where
+  pub back : (o p : List ℕ) → Octets p → taken (start k) p ≡ took (length p) → Back c k o p
+  pub bound : (p : List ℕ) → Octets p → taken (start k) p ≡ took (length p) → length (shown c k p) ≤ 4 * length p + cap k
+  pub accepted : (o : List ℕ) → isWireName o ≡ true → (ts us : List Token) (p : List ℕ) → readField c k o ts ≡ got p us → taken (start k) p ≡ took (length p)
 
 -- one bare token of plain octets
 pub bare-back : (f : List ℕ → Option (List ℕ)) (t p r : List ℕ) → 1 ≤ length t → Plainly t → f t ≡ some p → Parted r

@@ -15,6 +15,7 @@ use Rattle.format.specs.Digits.{digits, number, upperDigit, digitValue}
 use Rattle.format.specs.Token.{between, scanned}
 use Rattle.format.specs.Text.{withCount, counted}
 use Rattle.format.specs.Hex.{hexText, hexPair, fromHex, countedHexText, readCountedHex}
+use Rattle.format.specs.Catalogue.{TypeName}
 use Rattle.format.specs.Run.{shown, got, oneBare, readField}
 use Rattle.format.proofs.Lists.{bind-some, provided-some, longer}
 use Rattle.format.proofs.Digits.{digits-below, number-digits, chars-back}
@@ -37,9 +38,9 @@ pub hex-length : (p : List ℕ) → length (hexText p) ≡ 2 * length p
 hex-length [] = refl
 hex-length (x ∷ p) = omega (arith, hex-length p)
 
-pub hex-laws : FieldLaws hex
+pub hex-laws : (c : List TypeName) → FieldLaws c hex
 unfolding Back shown readField
-hex-laws = record {
+hex-laws c = record {
   back = λ o p b e r q t. let n = end-some p e in all-back fromHex (hexText p) p r (omega (arith, hex-length p)) (hex-plain p) (hex-reads p b) n (t refl);
   bound = λ p b e. omega (arith, hex-length p);
   accepted = λ o n ts us p e. all-accepted fromHex ts us p e;
@@ -72,9 +73,9 @@ counted-value t p e = by (sameOctets t (countedHexText [])) e
         let (c, d) = provided-some (inRange 1 255 (length u)) (withCount u) p b in
         rw (← d) (takes-count 0 u (omega arith))
 
-pub hexc-laws : FieldLaws hexc
+pub hexc-laws : (c : List TypeName) → FieldLaws c hexc
 unfolding Back shown readField
-hexc-laws = record {
+hexc-laws c = record {
   back = λ o p b e r q t. back p r (counted-octets 0 p e) b q;
   bound = λ p b e. omega (arith, counted-length (drop 1 p), length-drop 1 p);
   accepted = λ o n ts us p e. bare-accepted (count 0) readCountedHex counted-value ts us p e;

@@ -8,6 +8,7 @@ pub mod Text
 pub mod Name
 pub mod Number
 pub mod Rrtype
+pub mod Catalogue
 pub mod Base
 pub mod Bitmap
 pub mod Hex
@@ -22,3 +23,4 @@ pub mod Bound
 pub mod Demands
 pub mod Salt
 pub mod Settled
+pub mod Named

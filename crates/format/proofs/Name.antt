@@ -15,6 +15,7 @@ use Rattle.format.specs.Field.{NameMarks, name}
 use Rattle.format.specs.Token.{Token, between, inBare, scanned, Item, plain, octetOf, outside, unescapedFrom, unescaped}
 use Rattle.format.specs.Text.{withCount}
 use Rattle.format.specs.Name.{nameEscape, orRoot, nameText, isDot, labelBefore, wireName, nameOf, readName, isWireName}
+use Rattle.format.specs.Catalogue.{TypeName}
 use Rattle.format.specs.Run.{shown, Got, got, oneBare, readField}
 use Rattle.format.proofs.Lists.{and-left, and-right, not-true, bind-some, provided-some, map-first, below-parts}
 use Rattle.format.proofs.Finite.{at-each}
@@ -250,9 +251,9 @@ field-bound : (b : Bool) (p : List ℕ) → taken (labelLength b 0) p ≡ took (
 field-bound b [] e = omega arith
 field-bound b (x ∷ p) e = let ((ls, f, g), k) = taken-name b (x ∷ p) (omega arith) e in subst (λ w. length (nameText w) ≤ 4 * length w + 1) (sym f) (labels-bound ls)
 
-pub name-laws : (m : NameMarks) → FieldLaws (name m)
+pub name-laws : (c : List TypeName) → (m : NameMarks) → FieldLaws c (name m)
 unfolding Back shown readField
-name-laws m = record {
+name-laws c m = record {
   back = λ o p b e r q t. field-back (m .optional) o p r b e q t;
   bound = λ p b e. omega (arith, field-bound (m .optional) p e);
   accepted = λ o h ts us p e. field-accepted (m .optional) o h ts us p e;

@@ -18,6 +18,7 @@ use Rattle.format.specs.Number.{decimal, decimalOf, below, symbolOrDecim
 use Rattle.format.specs.Token.{plain}
 use Rattle.format.specs.Grammar.{isName}
 use Rattle.format.specs.Types.{sameSymbol}
+use Rattle.format.specs.Catalogue.{TypeName}
 use Rattle.format.specs.Run.{shown, readField}
 use Rattle.format.specs.Demands.{soundSymbol, soundKind, Integers}
 use Rattle.format.proofs.Lists.{and-left, and-right, or-left, or-right, not-true, implied, bind-some}
@@ -89,7 +90,7 @@ pub record Named (t : List ℕ) : Type 0 where
   pub short : length t ≤ 63
   pub no-number : decimalOf t ≡ none
 
-named : (t : List ℕ) → isName t ≡ true → Named t
+pub named : (t : List ℕ) → isName t ≡ true → Named t
 named [] h = let z : _≡_ {A = ℕ} 0 1 = cc in absurd (omega arith)
 named (x ∷ t) h =
     let a = and-left (letter x && allOf nameOctet (x ∷ t)) (leb (suc (length t)) 63) h in
@@ -104,7 +105,7 @@ named (x ∷ t) h =
     either true = refl
     either false = refl
 
-same-word : (t : List ℕ) → sameWord t t ≡ true
+pub same-word : (t : List ℕ) → sameWord t t ≡ true
 same-word [] = refl
 same-word (x ∷ t) = rw (eq-eqb (lowered x) (lowered x) refl, same-word t)
 
@@ -183,9 +184,9 @@ module _ (w : ℕ) (l : List Symbol) (h : soundKind (int w l) ≡ true) where
   reads-octets : (t p : List ℕ) → readInteger w l t ≡ some p → length p ≡ w
   reads-octets t p e = let (v, a, b) = bind-some (orElse (below (256 ^ w) (decimalOf t)) (symbolValue l t)) (λ v. some (digits 256 w v)) p e in let q : digits 256 w v ≡ p = cc in rw (← q) (digits-length 256 w v)
 
-  pub int-laws : FieldLaws (int w l)
+  pub int-laws : (c : List TypeName) → FieldLaws c (int w l)
   unfolding Back shown readField
-  int-laws = record {
+  int-laws c = record {
     back = λ o p b e r q t.
         let x = text p b e in
         bare-back (readInteger w l) (symbolOrDecimal l (number 256 p)) p r (x .some-octet) (x .plain) (x .reads ∙ ap some (integers w .1 p b (octets-taken w p (small .0) e))) q;

@@ -43,9 +43,9 @@ pub no-salt : NoSalt
 unfolding taken shown readField
 no-salt = record {
   accepted = λ xs. refl;
-  prints = refl;
-  reads = λ o ts. refl;
-  beside = λ o ts a b h. rw (not-alone a b h, no-hex a b) refl;
+  prints = λ c. refl;
+  reads = λ c o ts. refl;
+  beside = λ c o ts a b h. rw (not-alone a b h, no-hex a b) refl;
   base32 = λ xs. refl;
-  some-text = λ p. some-digits (drop 1 p);
+  some-text = λ c p. some-digits (drop 1 p);
 }

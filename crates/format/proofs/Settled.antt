@@ -6,10 +6,11 @@ use Rattle.format.specs.Bitmap.{octetsFrom, blocksFrom}
 use Rattle.format.specs.Address.{longestZeros, groupsOf}
 use Rattle.format.specs.Name.{wireName}
 use Rattle.format.specs.Judge.{judgedFrom, judged}
+use Rattle.format.specs.Catalogue.{cataloguedFrom}
 use Rattle.format.specs.Run.{shown, readField, partsOf, textOfParts, readRun}
-use Rattle.format.specs.Entries.{printing, reading}
+use Rattle.format.specs.Entries.{printingWith, readingWith}
 use Rattle.format.specs.Settled.{answered, Settled}
 
 pub settled : Settled
-unfolding answered printing reading judged judgedFrom partsOf taken textOfParts shown readRun readField scanned unescapedFrom wireName octetsFrom blocksFrom longestZeros groupsOf
+unfolding answered printingWith readingWith cataloguedFrom judged judgedFrom partsOf taken textOfParts shown readRun readField scanned unescapedFrom wireName octetsFrom blocksFrom longestZeros groupsOf
 settled = refl

@@ -14,6 +14,7 @@ use Rattle.format.specs.Number.{fixedDecimal}
 use Rattle.format.specs.Token.{Token, quoted, between, scanned, escaped}
 use Rattle.format.specs.Text.{pieces, withCount, counted, stringEscape, stringText, stringValue, readString, notEmpty, readRaw}
 use Rattle.format.specs.Grammar.{after}
+use Rattle.format.specs.Catalogue.{TypeName}
 use Rattle.format.specs.Run.{shown, got, oneToken, readField}
 use Rattle.format.proofs.Lists.{bind-some, provided-some, below-parts}
 use Rattle.format.proofs.Wire.{at-end, takes-end, end-some, one-less}
@@ -63,9 +64,9 @@ string-reads s b h = let (is, g, k) = string-read s b in rw (g, k) (counted-some
 string-back : (f : List ℕ → Option (List ℕ)) (s p r : List ℕ) → Octets s → f s ≡ some p → Parted r → oneToken (λ t. stringValue t >>= f) (scanned between (stringText s ++ r)) ≡ got p (scanned between r)
 string-back f s p r b e q = let (is, g, h) = string-read s b in rw (string-scanned s r b q, g, h, e)
 
-pub str-laws : FieldLaws str
+pub str-laws : (c : List TypeName) → FieldLaws c str
 unfolding Back shown readField
-str-laws = record {
+str-laws c = record {
   back = λ o p b e r q t. back p r (counted-octets 0 p e) b q;
   bound = λ p b e. omega (arith, string-bound (drop 1 p), length-drop 1 p);
   accepted = λ o n ts us p e. token-accepted (count 0) readString (λ t p e. let (u, a, b) = bind-some (stringValue t) (counted 0) p e in counted-accepted 0 u p b) ts us p e;
@@ -76,9 +77,9 @@ str-laws = record {
         let d : Octets (withCount xs) = rw c at b in
         rw c (string-back (counted 0) xs (withCount xs) r (d .1) (counted-some 0 xs l (omega (arith, d .0))) q)
 
-pub raw-laws : FieldLaws raw
+pub raw-laws : (c : List TypeName) → FieldLaws c raw
 unfolding Back shown readField
-raw-laws = record {
+raw-laws c = record {
   back = λ o p b e r q t. back p r (end-some p e) b q;
   bound = λ p b e. omega (arith, string-bound p);
   accepted = λ o n ts us p e. token-accepted (toTheEnd false) readRaw (λ t p e. let (u, a, b) = bind-some (stringValue t) notEmpty p e in takes-end false p (λ z. not-empty u p b)) ts us p e;
@@ -168,30 +169,30 @@ flat-map : {A B : Type 0} (f : A → List B) (xs : List A) → flat (map f xs) �
 flat-map f [] = refl
 flat-map f (x ∷ xs) = rw (flat-map f xs)
 
-pub strs-laws : FieldLaws strs
+pub strs-laws : (c : List TypeName) → FieldLaws c strs
 unfolding Back shown readField
-strs-laws = record {
+strs-laws c = record {
   back = λ o p b e r q t. let (ss, f, g) = strings-taken (length p) false p (omega arith) b e in back o p r ss f g e (t refl);
   bound = λ p b e. let (ss, f, g) = strings-taken (length p) false p (omega arith) b e in omega (arith, bound p ss f);
   accepted = λ o n ts us p e. accepted o ts us p e;
 }
   where
-    reads : (o : List ℕ) (ts : List Token) (s : List ℕ) (ss : List (List ℕ)) → eachOf readString ts ≡ some (map withCount (s ∷ ss)) → readField strs o ts ≡ got (flatMap withCount (s ∷ ss)) []
+    reads : (o : List ℕ) (ts : List Token) (s : List ℕ) (ss : List (List ℕ)) → eachOf readString ts ≡ some (map withCount (s ∷ ss)) → readField c strs o ts ≡ got (flatMap withCount (s ∷ ss)) []
     reads o [] s ss e = cc
     reads o (t ∷ ts) s ss e = rw (e, flat-map withCount ss)
 
     back : (o p r : List ℕ) (ss : List (List ℕ)) → p ≡ flatMap withCount ss → Strings ss → taken (stringCount false) p ≡ took (length p) → r ≡ []
-        → readField strs o (scanned between (shown strs p ++ r)) ≡ got p (scanned between r)
+        → readField c strs o (scanned between (shown c strs p ++ r)) ≡ got p (scanned between r)
     back o p r [] f g e z = let y : _≡_ {A = ℕ} 0 1 = cc (at-end (stringCount false) 0 (rw f at e) .0) in absurd (omega arith)
     back o p r (s ∷ ss) f g e z =
-        rw (z, append-nil (shown strs p), f, all-pieces (s ∷ ss), none-scanned) (reads o (scanned between (parted (32 ∷ []) (map stringText (s ∷ ss)))) s ss (list-read (s ∷ ss) g))
+        rw (z, append-nil (shown c strs p), f, all-pieces (s ∷ ss), none-scanned) (reads o (scanned between (parted (32 ∷ []) (map stringText (s ∷ ss)))) s ss (list-read (s ∷ ss) g))
 
-    bound : (p : List ℕ) (ss : List (List ℕ)) → p ≡ flatMap withCount ss → length (shown strs p) ≤ 4 * length p
+    bound : (p : List ℕ) (ss : List (List ℕ)) → p ≡ flatMap withCount ss → length (shown c strs p) ≤ 4 * length p
     bound p ss f = rw (f, all-pieces ss) (counted-bound 32 stringText string-bound ss)
 
-    accepted : (o : List ℕ) (ts us : List Token) (p : List ℕ) → readField strs o ts ≡ got p us → taken (stringCount false) p ≡ took (length p)
+    accepted : (o : List ℕ) (ts us : List Token) (p : List ℕ) → readField c strs o ts ≡ got p us → taken (stringCount false) p ≡ took (length p)
     accepted o [] us p e = let z : _≡_ {A = ℕ} 0 1 = cc in absurd (omega arith)
     accepted o (t ∷ ts) us p e =
-        let (l, a, c) = bind-some (eachOf readString (t ∷ ts)) (λ l. some (flat l)) p (got-some (eachOf readString (t ∷ ts) >>= λ l. some (flat l)) [] us p e) in
+        let (l, a, d) = bind-some (eachOf readString (t ∷ ts)) (λ l. some (flat l)) p (got-some (eachOf readString (t ∷ ts) >>= λ l. some (flat l)) [] us p e) in
         let w : flat l ≡ p = cc in
         rw w at (strings-accepted false (t ∷ ts) l (λ z. z) a)

@@ -15,6 +15,7 @@ use Rattle.format.specs.Field.{time}
 use Rattle.format.specs.Digits.{digits, number, upperDigit, digitValue}
 use Rattle.format.specs.Number.{decimalOf, below}
 use Rattle.format.specs.Time.{leap, monthLength, daysBefore, Day, dayFrom, dayOf, momentText, timeText, moment, momentOf, readTime}
+use Rattle.format.specs.Catalogue.{TypeName}
 use Rattle.format.specs.Run.{shown, readField}
 use Rattle.format.proofs.Lists.{bind-some}
 use Rattle.format.proofs.Digits.{digits-length, number-digits, chars-back, number-bound}
@@ -106,9 +107,9 @@ four-octets t p e =
     let (v, a, b) = bind-some (below (2 ^ 32) (cond (eqb (length t) 14) (eachOf (digitValue 10) t >>= momentOf) (decimalOf t))) (λ v. some (digits 256 4 v)) p e in
     let q : digits 256 4 v ≡ p = cc in rw (← q) (digits-length 256 4 v)
 
-pub time-laws : FieldLaws time
+pub time-laws : (c : List TypeName) → FieldLaws c time
 unfolding Back shown readField
-time-laws = record {
+time-laws c = record {
   back = λ o p b e r q t.
       let w : length p ≡ 4 = octets-taken 4 p (omega arith) e in
       let v : number 256 p < 256 ^ 4 = rw w at (number-bound 256 p b) in

@@ -5,8 +5,8 @@ use mathlib.Core.Logic.{_↔_, _⊎_}
 use mathlib.Core.Bool.{Bool, true, false, not, _&&_}
 use mathlib.Core.List.{List, [], _∷_}
 use lib.ListN.{length, take, drop}
-use lib.Dec.{ltb}
-use Rattle.format.specs.Lists.{allOf, twice}
+use lib.Dec.{leb, ltb}
+use Rattle.format.specs.Lists.{_>>=_, allOf, twice}
 use Rattle.format.specs.Octets.{Octets, among}
 use Rattle.format.specs.Field.{Symbol, Kind, int, rrtype, bitmap, a4, aa, aaaa, name, str, strs, raw, b32, b64, hex, hexc, eui, time, tail, kinds}
 use Rattle.format.specs.Digits.{digits, number}
@@ -14,8 +14,12 @@ use Rattle.format.specs.Name.{isWireName}
 use Rattle.format.specs.Grammar.{isName}
 use Rattle.format.specs.Types.{sameSymbol}
 use Rattle.format.specs.Judge.{Description, sameName, described, judged}
-use Rattle.format.specs.Run.{maxRdata, accepts, joined, textOf}
-use Rattle.format.specs.Entries.{done, isRun, run, reading, room, stored, print, read}
+use Rattle.format.specs.Token.{Token}
+use Rattle.format.specs.Rrtype.{typeText, typeNumber, readType}
+use Rattle.format.specs.Bitmap.{bitmapText, readBitmap}
+use Rattle.format.specs.Catalogue.{Entry, TypeName, goodAlone, clashes, badEntry, known, catalogued}
+use Rattle.format.specs.Run.{shown, gotOr, bareOf, oneBare, readField, maxRdata, accepts, joined, textOf}
+use Rattle.format.specs.Entries.{done, maxText, isRun, run, readingWith, room, stored, printWith, print, readWith, read}
 
 -- a tail field stands only last
 abbrev pub tailsLast : List Kind → Bool
@@ -58,15 +62,23 @@ pub record Sound (d : Description) : Type 0 where
 abbrev pub Judges : Type 0
 Judges = (stanza : List ℕ) (d : Description) → judged stanza ≡ described d → Sound d
 
+-- What judging guarantees of a catalogue: "up to 512 entries", "strictly rising by number within 0 to 65,535", names, none `TYPE` and digits, distinct.
+abbrev pub soundNames : List TypeName → Bool
+soundNames c = leb (length c) 512 && allOf goodAlone c && not (twice clashes c)
+
+-- of every catalogue that is not refused, entry for entry
+abbrev pub Catalogues : Type 0
+Catalogues = (names : List ℕ) (es : List Entry) (c : List TypeName) → catalogued names es ≡ known c → (soundNames c ≡ true) × (length c ≡ length es)
+
 -- "printing answers 0, or 12 for want of room, exactly where the list accepts; with 0 the octets written are that text, and
--- the count, or 12's place, is its length": of the run ks, first and len in a stanza.
-pub record Prints (stanza : List ℕ) (first len : ℕ) (ks : List Kind) (xs : List ℕ) : Type 0 where
-  pub enough-room : accepts ks xs ≡ true → (out : List ℕ) (at : ℕ) → length (textOf ks xs) ≤ room out at
-      → print stanza first len xs out at ≡ record { number = 0; place = length (textOf ks xs); lent = stored out at (textOf ks xs) }
-  pub no-room : accepts ks xs ≡ true → (out : List ℕ) (at : ℕ) → room out at < length (textOf ks xs)
-      → print stanza first len xs out at ≡ record { number = 12; place = length (textOf ks xs); lent = out }
+-- the count, or 12's place, is its length": of the run ks, first and len in a stanza, with the names c that a catalogue gives.
+pub record Prints (es : List Entry) (names : List ℕ) (c : List TypeName) (stanza : List ℕ) (first len : ℕ) (ks : List Kind) (xs : List ℕ) : Type 0 where
+  pub enough-room : accepts ks xs ≡ true → (out : List ℕ) (at : ℕ) → length (textOf c ks xs) ≤ room out at
+      → printWith stanza first len es names xs out at ≡ record { number = 0; place = length (textOf c ks xs); lent = stored out at (textOf c ks xs) }
+  pub no-room : accepts ks xs ≡ true → (out : List ℕ) (at : ℕ) → room out at < length (textOf c ks xs)
+      → printWith stanza first len es names xs out at ≡ record { number = 12; place = length (textOf c ks xs); lent = out }
   pub refuses : accepts ks xs ≡ false → (out : List ℕ) (at : ℕ)
-      → (among (print stanza first len xs out at .number) (1 ∷ 8 ∷ 9 ∷ 10 ∷ []) ≡ true) × (print stanza first len xs out at .lent ≡ out)
+      → (among (printWith stanza first len es names xs out at .number) (1 ∷ 8 ∷ 9 ∷ 10 ∷ []) ≡ true) × (printWith stanza first len es names xs out at .lent ≡ out)
 
 -- "A division is the number of octets in the front, from none to all": one that both lists accept.
 pub record Divides (first second : List Kind) (xs : List ℕ) (d : ℕ) : Type 0 where
@@ -85,7 +97,7 @@ abbrev pub secondList : List Kind → ℕ → List Kind
 secondList ks k = run (k + 1) (length ks - k) ks
 
 -- Demand 3 at one stanza, cut and RDATA.
-pub record Cuts (stanza : List ℕ) (ks : List Kind) (k : ℕ) (xs : List ℕ) : Type 0 where
+pub record Cuts (es : List Entry) (names : List ℕ) (c : List TypeName) (stanza : List ℕ) (ks : List Kind) (k : ℕ) (xs : List ℕ) : Type 0 where
   -- "The whole list accepts it exactly when it divides into a front the first list accepts and a back the second accepts"
   pub accepted : (accepts (wholeList ks) xs ≡ true) ↔ ((d : ℕ) × Divides (firstList ks k) (secondList ks k) xs d)
   -- "There is then only one such division: under every other, the first list refuses its front or the second its back."
@@ -93,38 +105,74 @@ pub record Cuts (stanza : List ℕ) (ks : List Kind) (k : ℕ) (xs : List ℕ) :
       → (accepts (firstList ks k) (take e xs) ≡ false) ⊎ (accepts (secondList ks k) (drop e xs) ≡ false)
   -- "The whole's text is the front's text under the first list, then the back's under the second", joined
   pub text : (d : ℕ) → Divides (firstList ks k) (secondList ks k) xs d
-      → textOf (wholeList ks) xs ≡ joined (textOf (firstList ks k) (take d xs)) (textOf (secondList ks k) (drop d xs))
+      → textOf c (wholeList ks) xs ≡ joined (textOf c (firstList ks k) (take d xs)) (textOf c (secondList ks k) (drop d xs))
   -- "An empty list accepts the empty RDATA and no other, and its text is empty."
   pub nothing : (accepts [] xs ≡ true) ↔ (xs ≡ [])
-  pub no-text : textOf [] [] ≡ []
+  pub no-text : textOf c [] [] ≡ []
   -- what printing answers on these runs
-  pub whole-prints : Prints stanza 1 (length ks) (wholeList ks) xs
-  pub first-prints : (d : ℕ) → Prints stanza 1 k (firstList ks k) (take d xs)
-  pub second-prints : (d : ℕ) → Prints stanza (k + 1) (length ks - k) (secondList ks k) (drop d xs)
+  pub whole-prints : Prints es names c stanza 1 (length ks) (wholeList ks) xs
+  pub first-prints : (d : ℕ) → Prints es names c stanza 1 k (firstList ks k) (take d xs)
+  pub second-prints : (d : ℕ) → Prints es names c stanza (k + 1) (length ks - k) (secondList ks k) (drop d xs)
 
 -- "Take any accepted description, cut its field list anywhere .. and take any RDATA of at most 65,535 octets."
+-- "with the same catalogue on both sides" (document 02, 3): on the whole and on both lists
 abbrev pub Demand3 : Type 0
-Demand3 = (stanza : List ℕ) (d : Description) → judged stanza ≡ described d → (k : ℕ) → k ≤ length (d .fields) → (xs : List ℕ) → length xs ≤ maxRdata
-    → Cuts stanza (kinds (d .fields)) k xs
+Demand3 = (es : List Entry) (names : List ℕ) (c : List TypeName) → catalogued names es ≡ known c → (stanza : List ℕ) (d : Description) → judged stanza ≡ described d → (k : ℕ) → k ≤ length (d .fields) → (xs : List ℕ) → length xs ≤ maxRdata
+    → Cuts es names c stanza (kinds (d .fields)) k xs
 
 -- Demand 2 at one run and RDATA: "Accepted RDATA prints as the one text fixed there; reading that text under any valid
 -- origin, given room, returns the same octets."
-pub record RoundTrip (stanza : List ℕ) (first len : ℕ) (ks : List Kind) (xs : List ℕ) : Type 0 where
-  pub prints : Prints stanza first len ks xs
+pub record RoundTrip (es : List Entry) (names : List ℕ) (c : List TypeName) (stanza : List ℕ) (first len : ℕ) (ks : List Kind) (xs : List ℕ) : Type 0 where
+  pub prints : Prints es names c stanza first len ks xs
   pub reads : accepts ks xs ≡ true → (origin : List ℕ) → isWireName origin ≡ true → (out : List ℕ) (at : ℕ) → length xs ≤ room out at
-      → read stanza first len origin (textOf ks xs) out at ≡ record { number = 0; place = length xs; lent = stored out at xs }
+      → readWith stanza first len es names origin (textOf c ks xs) out at ≡ record { number = 0; place = length xs; lent = stored out at xs }
   pub reads-no-room : accepts ks xs ≡ true → (origin : List ℕ) → isWireName origin ≡ true → (out : List ℕ) (at : ℕ) → room out at < length xs
-      → read stanza first len origin (textOf ks xs) out at ≡ record { number = 12; place = length xs; lent = out }
+      → readWith stanza first len es names origin (textOf c ks xs) out at ≡ record { number = 12; place = length xs; lent = out }
 
 -- demand 2, for every accepted stanza, run and RDATA
 abbrev pub Demand2 : Type 0
-Demand2 = (stanza : List ℕ) (d : Description) → judged stanza ≡ described d → (first len : ℕ) → isRun first len (kinds (d .fields)) ≡ true → (xs : List ℕ) → Octets xs
-    → RoundTrip stanza first len (run first len (kinds (d .fields))) xs
+Demand2 = (es : List Entry) (names : List ℕ) (c : List TypeName) → catalogued names es ≡ known c → (stanza : List ℕ) (d : Description) → judged stanza ≡ described d → (first len : ℕ) → isRun first len (kinds (d .fields)) ≡ true → (xs : List ℕ) → Octets xs
+    → RoundTrip es names c stanza first len (run first len (kinds (d .fields))) xs
 
 -- What reading answers with 0 is accepted on the wire.
 abbrev pub ReadAccepted : Type 0
-ReadAccepted = (stanza : List ℕ) (d : Description) → judged stanza ≡ described d → (first len : ℕ) (origin text xs : List ℕ) → reading stanza first len origin text ≡ done xs
+ReadAccepted = (es : List Entry) (names : List ℕ) (stanza : List ℕ) (d : Description) → judged stanza ≡ described d → (first len : ℕ) (origin text xs : List ℕ) → readingWith stanza first len es names origin text ≡ done xs
     → accepts (run first len (kinds (d .fields))) xs ≡ true
+
+-- "a 13, like want of room, stands apart from acceptance": a bad catalogue is refused whatever the RDATA or the text, once the run is good
+pub record Thirteen (es : List Entry) (names : List ℕ) (i : ℕ) (stanza : List ℕ) (first len : ℕ) : Type 0 where
+  pub printing-13 : (xs : List ℕ) → length xs ≤ maxRdata → (out : List ℕ) (at : ℕ) → printWith stanza first len es names xs out at ≡ record { number = 13; place = i; lent = out }
+  pub reading-13 : (origin : List ℕ) → isWireName origin ≡ true → (text : List ℕ) → length text ≤ maxText → (out : List ℕ) (at : ℕ)
+      → readWith stanza first len es names origin text out at ≡ record { number = 13; place = i; lent = out }
+
+-- for every bad catalogue, accepted stanza and run
+abbrev pub BadCatalogue : Type 0
+BadCatalogue = (es : List Entry) (names : List ℕ) (i : ℕ) → catalogued names es ≡ badEntry i → (stanza : List ℕ) (d : Description) → judged stanza ≡ described d
+    → (first len : ℕ) → isRun first len (kinds (d .fields)) ≡ true → Thirteen es names i stanza first len
+
+-- 6 before 13: "after 7 (after 6 when printing)"; so before 7 when reading
+pub record Six (es : List Entry) (names stanza : List ℕ) (first len : ℕ) : Type 0 where
+  pub printing-6 : (xs : List ℕ) → length xs ≤ maxRdata → (out : List ℕ) (at : ℕ) → printWith stanza first len es names xs out at ≡ record { number = 6; place = 0; lent = out }
+  pub reading-6 : (origin text : List ℕ) → length text ≤ maxText → (out : List ℕ) (at : ℕ) → readWith stanza first len es names origin text out at ≡ record { number = 6; place = 0; lent = out }
+
+-- for every catalogue, accepted stanza and what is no run of it
+abbrev pub BadRun : Type 0
+BadRun = (es : List Entry) (names stanza : List ℕ) (d : Description) → judged stanza ≡ described d → (first len : ℕ) → isRun first len (kinds (d .fields)) ≡ false → Six es names stanza first len
+
+-- and 7 before 13
+abbrev pub BadOrigin : Type 0
+BadOrigin = (es : List Entry) (names stanza : List ℕ) (d : Description) → judged stanza ≡ described d → (first len : ℕ) → isRun first len (kinds (d .fields)) ≡ true
+    → (origin : List ℕ) → isWireName origin ≡ false → (text : List ℕ) → length text ≤ maxText → (out : List ℕ) (at : ℕ)
+    → readWith stanza first len es names origin text out at ≡ record { number = 7; place = 0; lent = out }
+
+-- "an empty catalogue gives the old answers": R and R[L] as document 01 has them, whatever text is lent beside it
+pub record OldAnswers : Type 0 where
+  pub shown-type : (p : List ℕ) → shown [] rrtype p ≡ typeText (number 256 p)
+  pub shown-types : (p : List ℕ) → shown [] bitmap p ≡ bitmapText typeText p
+  pub read-type : (o : List ℕ) (ts : List Token) → readField [] rrtype o ts ≡ oneBare readType ts
+  pub read-types : (o : List ℕ) (ts : List Token) → readField [] bitmap o ts ≡ gotOr (readBitmap (λ t. bareOf t >>= typeNumber) ts) []
+  pub no-entry-prints : (stanza : List ℕ) (first len : ℕ) (names rdata out : List ℕ) (at : ℕ) → printWith stanza first len [] names rdata out at ≡ print stanza first len rdata out at
+  pub no-entry-reads : (stanza : List ℕ) (first len : ℕ) (names origin text out : List ℕ) (at : ℕ) → readWith stanza first len [] names origin text out at ≡ read stanza first len origin text out at
 
 -- Integers of every width: a number below 256 to the w is its w octets, and w octets are their number.
 abbrev pub Integers : Type 0

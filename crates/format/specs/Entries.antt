@@ -9,6 +9,7 @@ use Rattle.format.specs.Field.{Kind, kinds}
 use Rattle.format.specs.Digits.{number}
 use Rattle.format.specs.Token.{tokens}
 use Rattle.format.specs.Name.{isWireName}
+use Rattle.format.specs.Catalogue.{Entry, TypeName, Catalogued, badEntry, known, catalogued}
 use Rattle.format.specs.Judge.{Judged, rejected, described, judged}
 use Rattle.format.specs.Run.{shown, readField, Parts, refused, parts, partsOf, maxRdata, textOfParts, readRun}
 
@@ -44,25 +45,40 @@ isRun first len ks = leb 1 first && leb (first - 1 + len) (length ks)
 abbrev pub run : ℕ → ℕ → List Kind → List Kind
 run first len ks = take len (drop (first - 1) ks)
 
--- Printing, want of room apart. Order: 1; the stanza's; 6; 8 and 9; 10.
-unfoldable pub printing : List ℕ → ℕ → ℕ → List ℕ → Answer
-printing stanza first len rdata =
+-- 13, or what follows with the names of types: "13, place the first entry (from 1) bad" (document 02, 3)
+abbrev pub ofCatalogue : Catalogued → (List TypeName → Answer) → Answer
+ofCatalogue (badEntry i) f = refusal 13 i
+ofCatalogue (known c) f = f c
+
+-- Printing, want of room apart. Order: 1; the stanza's; 6; 13, "after 6 when printing"; 8 and 9; 10.
+unfoldable pub printingWith : List ℕ → ℕ → ℕ → List Entry → List ℕ → List ℕ → Answer
+printingWith stanza first len entries names rdata =
     orRefusal 1 (leb (length rdata) maxRdata) (
     ofStanza (judged stanza) (λ ks.
     orRefusal 6 (isRun first len ks) (
+    ofCatalogue (catalogued names entries) (λ c.
     ofParts (partsOf (run first len ks) rdata) (λ ps.
-    done (textOfParts shown (run first len ks) ps)))))
+    done (textOfParts (shown c) (run first len ks) ps))))))
 
--- Reading, want of room apart. Order: 1; the stanza's; 6; 7; 8 and 9; 10; 11.
-unfoldable pub reading : List ℕ → ℕ → ℕ → List ℕ → List ℕ → Answer
-reading stanza first len origin text =
+-- "an empty catalogue .. stands wherever none is named, now and later"
+abbrev pub printing : List ℕ → ℕ → ℕ → List ℕ → Answer
+printing stanza first len rdata = printingWith stanza first len [] [] rdata
+
+-- Reading, want of room apart. Order: 1; the stanza's; 6; 7; 13, "after 7"; 8 and 9; 10; 11.
+unfoldable pub readingWith : List ℕ → ℕ → ℕ → List Entry → List ℕ → List ℕ → List ℕ → Answer
+readingWith stanza first len entries names origin text =
     orRefusal 1 (leb (length text) maxText) (
     ofStanza (judged stanza) (λ ks.
     orRefusal 6 (isRun first len ks) (
     orRefusal 7 (isWireName origin) (
-    ofParts (readRun (λ k ts. readField k origin ts) (run first len ks) (tokens text)) (λ ps.
+    ofCatalogue (catalogued names entries) (λ c.
+    ofParts (readRun (λ k ts. readField c k origin ts) (run first len ks) (tokens text)) (λ ps.
     orRefusal 11 (leb (length (flat ps)) maxRdata) (
-    done (flat ps)))))))
+    done (flat ps))))))))
+
+-- with no catalogue
+abbrev pub reading : List ℕ → ℕ → ℕ → List ℕ → List ℕ → Answer
+reading stanza first len origin text = readingWith stanza first len [] [] origin text
 
 -- 12: "the result is longer than the room"; place: "octets needed"
 abbrev pub ifRoom : ℕ → Answer → Answer
@@ -89,12 +105,20 @@ outcome out at (done t) = record { number = 0; place = length t; lent = stored o
 outcome out at (refusal n i) = record { number = n; place = i; lent = out }
 
 -- printing, with 12, into the lent buffer
-unfoldable pub print : List ℕ → ℕ → ℕ → List ℕ → List ℕ → ℕ → Outcome
-print stanza first len rdata out at = outcome out at (ifRoom (room out at) (printing stanza first len rdata))
+unfoldable pub printWith : List ℕ → ℕ → ℕ → List Entry → List ℕ → List ℕ → List ℕ → ℕ → Outcome
+printWith stanza first len entries names rdata out at = outcome out at (ifRoom (room out at) (printingWith stanza first len entries names rdata))
+
+-- with no catalogue
+abbrev pub print : List ℕ → ℕ → ℕ → List ℕ → List ℕ → ℕ → Outcome
+print stanza first len rdata out at = printWith stanza first len [] [] rdata out at
 
 -- reading, with 12, into the lent buffer
-unfoldable pub read : List ℕ → ℕ → ℕ → List ℕ → List ℕ → List ℕ → ℕ → Outcome
-read stanza first len origin text out at = outcome out at (ifRoom (room out at) (reading stanza first len origin text))
+unfoldable pub readWith : List ℕ → ℕ → ℕ → List Entry → List ℕ → List ℕ → List ℕ → List ℕ → ℕ → Outcome
+readWith stanza first len entries names origin text out at = outcome out at (ifRoom (room out at) (readingWith stanza first len entries names origin text))
+
+-- with no catalogue
+abbrev pub read : List ℕ → ℕ → ℕ → List ℕ → List ℕ → List ℕ → ℕ → Outcome
+read stanza first len origin text out at = readWith stanza first len [] [] origin text out at
 
 -- "for judging alone, the field count"; nothing is lent
 abbrev pub judgeOutcome : Judged → Outcome

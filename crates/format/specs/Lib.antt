@@ -18,9 +18,11 @@ pub mod Lines
 pub mod Grammar
 pub mod Types
 pub mod Judge
+pub mod Catalogue
 pub mod Run
 pub mod Entries
 pub mod Job
 pub mod Demands
 pub mod Salt
 pub mod Settled
+pub mod Named

@@ -12,7 +12,6 @@ use Rattle.format.specs.Field.{Kind, int, rrtype, bitmap, a4, aa, aaaa, 
 use Rattle.format.specs.Digits.{number}
 use Rattle.format.specs.Number.{symbolOrDecimal, readInteger}
 use Rattle.format.specs.Token.{Token, bare, quoted, broken}
-use Rattle.format.specs.Rrtype.{typeText, typeNumber, readType}
 use Rattle.format.specs.Bitmap.{bitmapText, readBitmap}
 use Rattle.format.specs.Address.{dottedText, readA, groups, colons, readAA, aaaaText, readAAAA}
 use Rattle.format.specs.Text.{pieces, stringText, readString, notEmpty, readRaw}
@@ -21,25 +20,26 @@ use Rattle.format.specs.Base.{base32Text, readBase32, base64Text, readBa
 use Rattle.format.specs.Hex.{hexText, fromHex, countedHexText, readCountedHex}
 use Rattle.format.specs.Eui.{euiText, readEui}
 use Rattle.format.specs.Time.{timeText, readTime}
+use Rattle.format.specs.Catalogue.{TypeName, typeTextIn, typeNumberIn, readTypeIn}
 
--- the text of a field, from the octets that it takes
-unfoldable pub shown : Kind → List ℕ → List ℕ
-shown (int w l) p = symbolOrDecimal l (number 256 p)
-shown rrtype p = typeText (number 256 p)
-shown bitmap p = bitmapText typeText p
-shown a4 p = dottedText p
-shown aa p = colons (groups p)
-shown aaaa p = aaaaText (groups p)
-shown (name m) p = nameText p
-shown str p = stringText (drop 1 p)
-shown strs p = parted (ascii " ") (map stringText (pieces p))
-shown raw p = stringText p
-shown b32 p = base32Text (drop 1 p)
-shown b64 p = base64Text p
-shown hex p = hexText p
-shown hexc p = countedHexText (drop 1 p)
-shown (eui w) p = euiText p
-shown time p = timeText (number 256 p)
+-- the text of a field, from the octets that it takes, with the names of types that are known
+unfoldable pub shown : List TypeName → Kind → List ℕ → List ℕ
+shown c (int w l) p = symbolOrDecimal l (number 256 p)
+shown c rrtype p = typeTextIn c (number 256 p)
+shown c bitmap p = bitmapText (typeTextIn c) p
+shown c a4 p = dottedText p
+shown c aa p = colons (groups p)
+shown c aaaa p = aaaaText (groups p)
+shown c (name m) p = nameText p
+shown c str p = stringText (drop 1 p)
+shown c strs p = parted (ascii " ") (map stringText (pieces p))
+shown c raw p = stringText p
+shown c b32 p = base32Text (drop 1 p)
+shown c b64 p = base64Text p
+shown c hex p = hexText p
+shown c hexc p = countedHexText (drop 1 p)
+shown c (eui w) p = euiText p
+shown c time p = timeText (number 256 p)
 
 -- What a field makes of the tokens that are left: none is there (8), a rule is broken (9), or its octets and the tokens after it.
 pub data Got : Type 0 where
@@ -73,23 +73,23 @@ joinedBares f [] = noToken
 joinedBares f (t ∷ ts) = gotOr (eachOf bareOf (t ∷ ts) >>= λ l. f (flat l) >>= notEmpty) []
 
 -- "A field that isn't a tail takes one token, S[X] one, N[O] at most one, other tails all that are left."
-unfoldable pub readField : Kind → List ℕ → List Token → Got
-readField (int w l) o ts = oneBare (readInteger w l) ts
-readField rrtype o ts = oneBare readType ts
-readField bitmap o ts = gotOr (readBitmap (λ t. bareOf t >>= typeNumber) ts) []
-readField a4 o ts = oneBare readA ts
-readField aa o ts = oneBare readAA ts
-readField aaaa o ts = oneBare readAAAA ts
-readField (name m) o ts = cond (m .optional && null ts) (got [] []) (oneBare (readName o) ts)
-readField str o ts = oneToken readString ts
-readField strs o ts = cond (null ts) noToken (gotOr (eachOf readString ts >>= λ l. some (flat l)) [])
-readField raw o ts = oneToken readRaw ts
-readField b32 o ts = oneBare readBase32 ts
-readField b64 o ts = joinedBares readBase64 ts
-readField hex o ts = joinedBares fromHex ts
-readField hexc o ts = oneBare readCountedHex ts
-readField (eui w) o ts = oneBare (readEui w) ts
-readField time o ts = oneBare readTime ts
+unfoldable pub readField : List TypeName → Kind → List ℕ → List Token → Got
+readField c (int w l) o ts = oneBare (readInteger w l) ts
+readField c rrtype o ts = oneBare (readTypeIn c) ts
+readField c bitmap o ts = gotOr (readBitmap (λ t. bareOf t >>= typeNumberIn c) ts) []
+readField c a4 o ts = oneBare readA ts
+readField c aa o ts = oneBare readAA ts
+readField c aaaa o ts = oneBare readAAAA ts
+readField c (name m) o ts = cond (m .optional && null ts) (got [] []) (oneBare (readName o) ts)
+readField c str o ts = oneToken readString ts
+readField c strs o ts = cond (null ts) noToken (gotOr (eachOf readString ts >>= λ l. some (flat l)) [])
+readField c raw o ts = oneToken readRaw ts
+readField c b32 o ts = oneBare readBase32 ts
+readField c b64 o ts = joinedBares readBase64 ts
+readField c hex o ts = joinedBares fromHex ts
+readField c hexc o ts = oneBare readCountedHex ts
+readField c (eui w) o ts = oneBare (readEui w) ts
+readField c time o ts = oneBare readTime ts
 
 -- What a run makes of its input: a refusal's number and place; or the octets of each field.
 pub data Parts : Type 0 where
@@ -146,8 +146,8 @@ module _ (show : Kind → List ℕ → List ℕ) where
   textIn ks (parts ps) = textOfParts ks ps
 
 -- "Its text for octets it accepts is the printing fixed above."
-unfoldable pub textOf : List Kind → List ℕ → List ℕ
-textOf ks xs = textIn shown ks (partsOf ks xs)
+unfoldable pub textOf : List TypeName → List Kind → List ℕ → List ℕ
+textOf c ks xs = textIn (shown c) ks (partsOf ks xs)
 
 -- Reading a run is the same for any way to read a field.
 module _ (read : Kind → List Token → Got) where

@@ -1,0 +1,15 @@
+-- The lines of request 3, computed.
+use mathlib.Core.Path.{refl}
+use Rattle.format.specs.Wire.{taken}
+use Rattle.format.specs.Token.{scanned, unescapedFrom}
+use Rattle.format.specs.Bitmap.{octetsFrom, blocksFrom}
+use Rattle.format.specs.Name.{wireName}
+use Rattle.format.specs.Judge.{judgedFrom, judged}
+use Rattle.format.specs.Catalogue.{cataloguedFrom}
+use Rattle.format.specs.Run.{shown, readField, partsOf, textOfParts, readRun}
+use Rattle.format.specs.Entries.{printingWith, readingWith}
+use Rattle.format.specs.Named.{NamedLines}
+
+pub named-lines : NamedLines
+unfolding printingWith readingWith cataloguedFrom judged judgedFrom partsOf taken textOfParts shown readRun readField scanned unescapedFrom wireName octetsFrom blocksFrom
+named-lines = refl
