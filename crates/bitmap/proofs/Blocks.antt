@@ -18,7 +18,7 @@ use Rattle.format.proofs.Bitmap.{set-short}
 use Rattle.octets.proofs.Slices.{next, none, rest}
 use Rattle.octets.proofs.Integers.{next-two}
 use Rattle.bitmap.specs.Types.{typesText}
-use Rattle.bitmap.proofs.Texts.{types-length}
+use Rattle.bitmap.proofs.Texts.{Short, types-length}
 
 -- A part that is whole blocks: the first fits in it, and the rest is whole blocks.
 abbrev pub Whole : List ℕ → Type 0
@@ -98,5 +98,5 @@ types-short (atCount w) (c ∷ xs) = omega (arith, types-short (atOctets (w * 25
 types-short (atOctet v m) (x ∷ xs) =
     omega (arith, types-short (atOctets (v + 8) m) xs, length-append (setBits v (digits 2 8 x)) (typesFrom (atOctets (v + 8) m) xs), set-short v (digits 2 8 x), digits-length 2 8 x)
 
-pub block-length : (b : Bool) (s : BlockPlace) (p : List ℕ) (i e : ℕ) → e ≤ length p → length (typesText b (typesFrom s (slice i e p))) ≤ 120 * (e - i)
-block-length b s p i e l = omega (arith, types-length b (typesFrom s (slice i e p)), types-short s (slice i e p), length-slice i e p l)
+pub block-length : (text : ℕ → List ℕ) → Short text → (b : Bool) (s : BlockPlace) (p : List ℕ) (i e : ℕ) → e ≤ length p → length (typesText text b (typesFrom s (slice i e p))) ≤ 512 * (e - i)
+block-length text short b s p i e l = omega (arith, types-length text short b (typesFrom s (slice i e p)), types-short s (slice i e p), length-slice i e p l)

@@ -9,11 +9,14 @@ use lib.ListN.{length, take, drop, getD}
 use lib.Seq.{slice, length-slice}
 use lib.Dec.{eqb, ltb, leb}
 use borrow.Author.Tests.{eqb-true, leb-true, ltb-true, le-ltb}
-use Rattle.format.specs.Lists.{_>>=_, provided, consBoth, eachOf, span}
+use Rattle.format.specs.Lists.{_>>=_, provided, allOf, twice, consBoth, eachOf, span}
 use Rattle.format.specs.Octets.{inRange, blank, digit, letter, lowered, sameWord, ascii}
 use Rattle.format.specs.Digits.{number, digitValue}
 use Rattle.format.specs.Number.{decimalOf, below}
 use Rattle.format.specs.Rrtype.{typeNumber}
+use Rattle.format.specs.Catalogue.{TypeName, isTypeNumber, goodAlone, clashes, typeNumberIn}
+use Rattle.format.specs.Demands.{soundNames}
+use Rattle.format.specs.Grammar.{isName}
 use Rattle.format.specs.Bitmap.{blocks}
 use Rattle.format.specs.Token.{quoteMark, bare, inBare, scanned, tokens}
 use Rattle.format.proofs.Lists.{and-left, and-right, not-true, implied, bind-some, provided-some}
@@ -24,6 +27,7 @@ use Rattle.octets.specs.Octets.{numberOf}
 use Rattle.octets.specs.declared.Number.the-variants.{Value, Fault as NoValue}
 use Rattle.octets.proofs.Slices.{next, rest-parts}
 use Rattle.tokens.proofs.Scans.{bare-first}
+use Rattle.catalogue.proofs.Laws.{number-first}
 use Rattle.buffer.specs.Writing.{after}
 use Rattle.bitmap.specs.declared.read.NextType.the-variants.{Found, Fault}
 use Rattle.bitmap.specs.Reading.{typesRead, foundAt, typesBy, TypeWithin, PlainAt}
@@ -128,7 +132,7 @@ plain-then [] (x ∷ r) h e = rw e
 plain-then (x ∷ s) r h e = rw (in-bare x (h .0), plain-then s r (h .1) e)
 
 -- such a type after blanks
-module _ (t : List ℕ) (i a e v : ℕ) (h : i ≤ length t) (p : a ≡ i + length (span blank (slice i (length t) t) .front)) (q : typeNumber (slice a e t) ≡ some v)
+module _ (n : List TypeName) (g : soundNames n ≡ true) (t : List ℕ) (i a e v : ℕ) (h : i ≤ length t) (p : a ≡ i + length (span blank (slice i (length t) t) .front)) (q : typeNumber (slice a e t) ≡ some v)
     (l : a ≤ e) (m : e ≤ length t) (r : partedOff (drop e t) ≡ true) where
   y : Typed (slice a e t) v
   y = typed (slice a e t) v q
@@ -143,8 +147,8 @@ module _ (t : List ℕ) (i a e v : ℕ) (h : i ≤ length t) (p : a ≡ i + leng
   plain-token =
       sym (bare-first t i a h p (omega (arith, later)) (rw first at (y .no-quote))) ∙ ap (scanned (inBare false)) (rest-parts t a e l m) ∙ plain-then (slice a e t) (drop e t) (y .plain) r
 
-  pub plain-types : typesBy t (Found v e) ≡ typesRead (drop i t)
-  plain-types = rw (plain-token, q)
+  pub plain-types : typesBy n t (Found v e) ≡ typesRead n (drop i t)
+  plain-types = rw (plain-token, number-first n g (slice a e t) v q)
 
   pub plain-within : TypeWithin t i (Found v e)
   plain-within = (y .small, omega (arith, later, p), m)
@@ -158,13 +162,29 @@ pub found-fault : (e : ℕ) (o : Option ℕ) → NoValue ≡ numberOf o → Faul
 found-fault e none q = refl
 found-fault e (some x) q = let z : _≡_ {A = ℕ} 0 1 = cc in absurd (omega arith)
 
-pub found-types : (t : List ℕ) (e : ℕ) (o : Option ℕ) → typesBy t (foundAt e o) ≡ consBoth o (typesRead (drop e t))
-found-types t e none = refl
-found-types t e (some v) = refl
+pub found-types : (n : List TypeName) (t : List ℕ) (e : ℕ) (o : Option ℕ) → typesBy n t (foundAt e o) ≡ consBoth o (typesRead n (drop e t))
+found-types n t e none = refl
+found-types n t e (some v) = refl
 
-pub found-within : (t : List ℕ) (i a e : ℕ) → i ≤ a → a < e → e ≤ length t → (o : Option ℕ) → typeNumber (slice a e t) ≡ o → TypeWithin t i (foundAt e o)
-found-within t i a e h k l none q = tt
-found-within t i a e h k l (some v) q = (typed (slice a e t) v q .small, omega arith, l)
+-- its number is a type's
+good-low : (n : List TypeName) → allOf goodAlone n ≡ true → (s : List ℕ) (v : ℕ) → typeNumberIn n s ≡ some v → v < 65536
+good-low [] g s v q = typed s v q .small
+good-low (m ∷ ms) g s v q = by (sameWord (m .spelled) s) (good-low ms (and-right (goodAlone m) (allOf goodAlone ms) g) s v) q
+  where
+    by : (b : Bool) → (typeNumberIn ms s ≡ some v → v < 65536) → cond b (some (m .typeNo)) (typeNumberIn ms s) ≡ some v → v < 65536
+    by true k e =
+        let a = and-left (leb (m .typeNo) 65535 && isName (m .spelled)) (not (isTypeNumber (m .spelled))) (and-left (goodAlone m) (allOf goodAlone ms) g) in
+        let l = leb-true (m .typeNo) 65535 (and-left (leb (m .typeNo) 65535) (isName (m .spelled)) a) in
+        let z : m .typeNo ≡ v = cc in
+        omega arith
+    by false k e = k e
+
+number-low : (n : List TypeName) → soundNames n ≡ true → (s : List ℕ) (v : ℕ) → typeNumberIn n s ≡ some v → v < 65536
+number-low n g s v q = good-low n (and-right (leb (length n) 512) (allOf goodAlone n) (and-left (leb (length n) 512 && allOf goodAlone n) (not (twice clashes n)) g)) s v q
+
+pub found-within : (n : List TypeName) → soundNames n ≡ true → (t : List ℕ) (i a e : ℕ) → i ≤ a → a < e → e ≤ length t → (o : Option ℕ) → typeNumberIn n (slice a e t) ≡ o → TypeWithin t i (foundAt e o)
+found-within n g t i a e h k l none q = tt
+found-within n g t i a e h k l (some v) q = (number-low n g (slice a e t) v q, omega arith, l)
 
 pub found-plain : (t : List ℕ) (a e : ℕ) → a ≤ e → e ≤ length t → partedOff (drop e t) ≡ true → (o : Option ℕ) → typeNumber (slice a e t) ≡ o → PlainAt t a (foundAt e o)
 found-plain t a e h l r none q = tt

@@ -1,80 +1,118 @@
 -- Laws of a text of types that is written in pieces, and of the types of an octet's bits.
 use Prim.Native.Nat.{ℕ, zero, suc, _+_, _-_, _*_, _/_, _%_, _≤_, _<_}
 use mathlib.Core.Path.{_≡_, refl, sym, ap, subst, _∙_}
-use mathlib.Core.Bool.{Bool, true, false}
+use mathlib.Core.Bool.{Bool, true, false, not, cond, _&&_}
 use mathlib.Core.List.{List, [], _∷_, _++_, append-assoc, append-nil}
 use native.Mathlib.Omega.{arith}
 use native.Mathlib.Numerals.{add-one}
 use lib.ListN.{length, length-append}
-use lib.Dec.{ltb}
+use lib.Dec.{ltb, leb, eqb}
 use borrow.Author.Tests.{lt-ltb}
+use Rattle.format.specs.Lists.{allOf, twice}
 use Rattle.format.specs.Octets.{ascii, sameOctets}
 use Rattle.format.specs.Digits.{digits}
 use Rattle.format.specs.Number.{decimal}
-use Rattle.format.specs.Rrtype.{typeText}
+use Rattle.format.specs.Grammar.{isName}
+use Rattle.format.specs.Catalogue.{TypeName, isTypeNumber, goodAlone, clashes, typeTextIn}
+use Rattle.format.specs.Demands.{soundNames}
 use Rattle.format.specs.Bitmap.{setBits}
-use Rattle.format.proofs.Lists.{octets-same}
+use Rattle.format.proofs.Lists.{octets-same, and-left, and-right}
 use Rattle.format.proofs.Finite.{at-each}
 use Rattle.format.proofs.Digits.{digits-length}
-use Rattle.format.proofs.Number.{decimal-10}
+use Rattle.format.proofs.Number.{decimal-10, Named, named}
 use Rattle.format.proofs.Bitmap.{set-short}
 use Rattle.buffer.specs.Writing.{Wrote}
 use Rattle.buffer.proofs.Laws.{Left, left-all, left-piece, left-none}
 use Rattle.buffer.proofs.Parted.{first-later}
+use Rattle.catalogue.specs.Entries.{namesOf, Listed}
+use Rattle.catalogue.proofs.Laws.{listed-sound}
 use Rattle.bitmap.specs.Types.{typesText}
 
--- no types have an empty text, and one type has a text
-pub no-types : (b : Bool) → typesText b [] ≡ []
-no-types true = refl
-no-types false = refl
+-- Texts of types that have 1 to 63 octets each, as all have with the names of a catalogue that is not refused.
+pub record Short (text : ℕ → List ℕ) : Type 0 where
+  pub some-octet : (v : ℕ) → 1 ≤ length (text v)
+  pub at-most : (v : ℕ) → length (text v) ≤ 63
 
--- a loop that has no types left has written the whole text
-pub types-done : {o₀ text o ts : List ℕ} {start m : ℕ} (b : Bool) → Left o₀ start text o m (typesText b ts) → ts ≡ [] → Wrote o₀ o start m text
-types-done b l e = left-none l (ap (typesText b) e ∙ no-types b)
+text-sized : (c : List TypeName) → allOf goodAlone c ≡ true → (v : ℕ) → (1 ≤ length (typeTextIn c v)) × (length (typeTextIn c v) ≤ 63)
+text-sized [] h v = (omega arith, omega (arith, decimal-10 v))
+text-sized (m ∷ ms) h v = by (eqb (m .typeNo) v) (text-sized ms (and-right (goodAlone m) (allOf goodAlone ms) h) v)
+  where
+    word : Named (m .spelled)
+    word =
+        let a = and-left (leb (m .typeNo) 65535 && isName (m .spelled)) (not (isTypeNumber (m .spelled))) (and-left (goodAlone m) (allOf goodAlone ms) h) in
+        named (m .spelled) (and-right (leb (m .typeNo) 65535) (isName (m .spelled)) a)
 
-first-text : (t : ℕ) (ts : List ℕ) → typesText false (t ∷ ts) ≡ typeText t ++ typesText true ts
-first-text t ts = first-later (ascii " ") typeText t ts
+    by : (b : Bool) → (1 ≤ length (typeTextIn ms v)) × (length (typeTextIn ms v) ≤ 63)
+        → (1 ≤ length (cond b (m .spelled) (typeTextIn ms v))) × (length (cond b (m .spelled) (typeTextIn ms v)) ≤ 63)
+    by true r = (word .some-octet, word .short)
+    by false r = r
 
-pub later-one : (t : ℕ) → (32 ∷ []) ++ typeText t ≡ typesText true (t ∷ [])
-later-one t = sym (append-nil (32 ∷ typeText t))
+all-short : (c : List TypeName) → soundNames c ≡ true → Short (typeTextIn c)
+all-short c h =
+    let g = and-right (leb (length c) 512) (allOf goodAlone c) (and-left (leb (length c) 512 && allOf goodAlone c) (not (twice clashes c)) h) in
+    record { some-octet = λ v. text-sized c g v .0; at-most = λ v. text-sized c g v .1 }
 
-some-types : (b : Bool) (t : ℕ) (ts : List ℕ) → 1 ≤ length (typesText b (t ∷ ts))
-some-types true t ts = omega arith
-some-types false t ts = rw (first-text t ts) (omega arith)
+pub listed-short : (names ws : List ℕ) → Listed names ws → Short (typeTextIn (namesOf names ws))
+listed-short names ws h = all-short (namesOf names ws) (listed-sound names ws h)
 
--- types and more types
-later-more : (ts us : List ℕ) → typesText true (ts ++ us) ≡ typesText true ts ++ typesText true us
-later-more [] us = refl
-later-more (t ∷ ts) us = rw (later-more ts us) (sym (append-assoc (ascii " " ++ typeText t) (typesText true ts) (typesText true us)))
+module _ (text : ℕ → List ℕ) where
+  -- no types have an empty text, and one type has a text
+  pub no-types : (b : Bool) → typesText text b [] ≡ []
+  no-types true = refl
+  no-types false = refl
 
-types-more : (b : Bool) (t : ℕ) (ts us : List ℕ) → typesText b (t ∷ ts ++ us) ≡ typesText b (t ∷ ts) ++ typesText true us
-types-more true t ts us = later-more (t ∷ ts) us
-types-more false t ts us =
-    first-text t (ts ++ us) ∙ ap (λ (l : List ℕ). typeText t ++ l) (later-more ts us) ∙ sym (append-assoc (typeText t) (typesText true ts) (typesText true us))
-    ∙ ap (λ (l : List ℕ). l ++ typesText true us) (sym (first-text t ts))
+  -- a loop that has no types left has written the whole text
+  pub types-done : {o₀ whole o ts : List ℕ} {start m : ℕ} (b : Bool) → Left o₀ start whole o m (typesText text b ts) → ts ≡ [] → Wrote o₀ o start m whole
+  types-done b l e = left-none l (ap (typesText text b) e ∙ no-types b)
 
--- the same from m on, in a text that begins at n
-text-on : (n m r : ℕ) (ts us : List ℕ) → n ≤ m → r ≡ m + length (typesText (ltb n m) ts) → typesText (ltb n m) (ts ++ us) ≡ typesText (ltb n m) ts ++ typesText (ltb n r) us
-text-on n m r [] us h q =
-    let e : r ≡ m = omega (arith, ap length (no-types (ltb n m))) in
-    rw (no-types (ltb n m), e)
-text-on n m r (t ∷ ts) us h q = rw (lt-ltb n r (omega (arith, some-types (ltb n m) t ts))) (types-more (ltb n m) t ts us)
+  first-text : (t : ℕ) (ts : List ℕ) → typesText text false (t ∷ ts) ≡ text t ++ typesText text true ts
+  first-text t ts = first-later (ascii " ") text t ts
 
--- some of the types that are left are written
-pub types-left : {o₀ text o ys : List ℕ} {start m : ℕ} (n : ℕ) (o′ : List ℕ) (r : ℕ) (ts us : List ℕ) → Left o₀ start text o m (typesText (ltb n m) ys) → ys ≡ ts ++ us → n ≤ m
-    → Wrote o o′ m r (typesText (ltb n m) ts) → Left o₀ start text o′ r (typesText (ltb n r) us)
-types-left {m = m} n o′ r ts us l e h w =
-    left-piece o′ r (typesText (ltb n m) ts) (typesText (ltb n r) us) l (ap (typesText (ltb n m)) e ∙ text-on n m r ts us h (w .count)) w
+  pub later-one : (t : ℕ) → (32 ∷ []) ++ text t ≡ typesText text true (t ∷ [])
+  later-one t = sym (append-nil (32 ∷ text t))
 
--- at most fifteen octets for each type
-later-length : (ts : List ℕ) → length (typesText true ts) ≤ 15 * length ts
-later-length [] = omega arith
-later-length (t ∷ ts) = omega (arith, later-length ts, decimal-10 t, length-append (decimal t) (typesText true ts))
+  -- types and more types
+  later-more : (ts us : List ℕ) → typesText text true (ts ++ us) ≡ typesText text true ts ++ typesText text true us
+  later-more [] us = refl
+  later-more (t ∷ ts) us = rw (later-more ts us) (sym (append-assoc (ascii " " ++ text t) (typesText text true ts) (typesText text true us)))
 
-pub types-length : (b : Bool) (ts : List ℕ) → length (typesText b ts) ≤ 15 * length ts
-types-length true ts = later-length ts
-types-length false [] = omega arith
-types-length false (t ∷ ts) = rw (first-text t ts) (omega (arith, later-length ts, decimal-10 t, length-append (decimal t) (typesText true ts)))
+  types-more : (b : Bool) (t : ℕ) (ts us : List ℕ) → typesText text b (t ∷ ts ++ us) ≡ typesText text b (t ∷ ts) ++ typesText text true us
+  types-more true t ts us = later-more (t ∷ ts) us
+  types-more false t ts us =
+      first-text t (ts ++ us) ∙ ap (λ (l : List ℕ). text t ++ l) (later-more ts us) ∙ sym (append-assoc (text t) (typesText text true ts) (typesText text true us))
+      ∙ ap (λ (l : List ℕ). l ++ typesText text true us) (sym (first-text t ts))
+
+module _ (text : ℕ → List ℕ) (short : Short text) where
+  some-types : (b : Bool) (t : ℕ) (ts : List ℕ) → 1 ≤ length (typesText text b (t ∷ ts))
+  some-types true t ts = omega arith
+  some-types false t ts = rw (first-text text t ts) (omega (arith, short .some-octet t, length-append (text t) (typesText text true ts)))
+
+  -- the same from m on, in a text that begins at n
+  text-on : (n m r : ℕ) (ts us : List ℕ) → n ≤ m → r ≡ m + length (typesText text (ltb n m) ts)
+      → typesText text (ltb n m) (ts ++ us) ≡ typesText text (ltb n m) ts ++ typesText text (ltb n r) us
+  text-on n m r [] us h q =
+      let e : r ≡ m = omega (arith, ap length (no-types text (ltb n m))) in
+      rw (no-types text (ltb n m), e)
+  text-on n m r (t ∷ ts) us h q = rw (lt-ltb n r (omega (arith, some-types (ltb n m) t ts))) (types-more text (ltb n m) t ts us)
+
+  -- some of the types that are left are written
+  pub types-left : {o₀ whole o ys : List ℕ} {start m : ℕ} (n : ℕ) (o′ : List ℕ) (r : ℕ) (ts us : List ℕ) → Left o₀ start whole o m (typesText text (ltb n m) ys)
+      → ys ≡ ts ++ us → n ≤ m → Wrote o o′ m r (typesText text (ltb n m) ts) → Left o₀ start whole o′ r (typesText text (ltb n r) us)
+  types-left {m = m} n o′ r ts us l e h w =
+      left-piece o′ r (typesText text (ltb n m) ts) (typesText text (ltb n r) us) l (ap (typesText text (ltb n m)) e ∙ text-on n m r ts us h (w .count)) w
+
+  -- at most 64 octets for each type
+  later-length : (ts : List ℕ) → length (typesText text true ts) ≤ 64 * length ts
+  later-length [] = omega arith
+  later-length (t ∷ ts) = omega (arith, later-length ts, short .at-most t, length-append (text t) (typesText text true ts))
+
+  pub types-length : (b : Bool) (ts : List ℕ) → length (typesText text b ts) ≤ 64 * length ts
+  types-length true ts = later-length ts
+  types-length false [] = omega arith
+  types-length false (t ∷ ts) = rw (first-text text t ts) (omega (arith, later-length ts, short .at-most t, length-append (text t) (typesText text true ts)))
+
+  pub octet-length : (b : Bool) (v x : ℕ) → length (typesText text b (setBits v (digits 2 8 x))) ≤ 512
+  octet-length b v x = omega (arith, types-length b (setBits v (digits 2 8 x)), set-short v (digits 2 8 x), digits-length 2 8 x)
 
 -- one bit, and those after it
 pub bit-set : (v b : ℕ) → (b ≡ 0 → ⊥) → setBits v (b ∷ []) ≡ v ∷ []
@@ -84,9 +122,6 @@ bit-set v (suc b) h = refl
 bit-first : (v b : ℕ) (bs : List ℕ) → setBits v (b ∷ bs) ≡ setBits v (b ∷ []) ++ setBits (v + 1) bs
 bit-first v zero bs = rw (add-one v)
 bit-first v (suc b) bs = rw (add-one v)
-
-pub octet-length : (b : Bool) (v x : ℕ) → length (typesText b (setBits v (digits 2 8 x))) ≤ 120
-octet-length b v x = omega (arith, types-length b (setBits v (digits 2 8 x)), set-short v (digits 2 8 x), digits-length 2 8 x)
 
 -- the w highest bits of an octet
 abbrev pub highBits : ℕ → ℕ → List ℕ
@@ -112,9 +147,9 @@ module _ (v x : ℕ) where
   pub octet-within : Within (v + 8 - v) x
   octet-within = rw eight (omega arith)
 
-  pub octet-left : (o : List ℕ) (n : ℕ) (b : Bool) → x < 256 → Left o n (typesText b (setBits v (digits 2 8 x))) o n (typesText b (typesLeft v v x))
-  octet-left o n b h =
-      subst (λ (ts : List ℕ). Left o n (typesText b (setBits v (digits 2 8 x))) o n (typesText b ts))
+  pub octet-left : (text : ℕ → List ℕ) (o : List ℕ) (n : ℕ) (b : Bool) → x < 256 → Left o n (typesText text b (setBits v (digits 2 8 x))) o n (typesText text b (typesLeft v v x))
+  octet-left text o n b h =
+      subst (λ (ts : List ℕ). Left o n (typesText text b (setBits v (digits 2 8 x))) o n (typesText text b ts))
       (ap (setBits v) (octet-bits x h) ∙ ap (λ (w : ℕ). setBits v (highBits w x)) (sym eight)) (left-all o n _)
 
 -- the next bit

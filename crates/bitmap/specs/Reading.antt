@@ -9,6 +9,7 @@ use lib.Seq.{slice}
 use Rattle.format.specs.Lists.{_>>=_, consBoth, eachOf}
 use Rattle.format.specs.Token.{Token, tokens}
 use Rattle.format.specs.Rrtype.{typeNumber}
+use Rattle.format.specs.Catalogue.{TypeName, typeNumberIn}
 use Rattle.format.specs.Bitmap.{readBitmap}
 use Rattle.format.specs.Run.{bareOf}
 use Rattle.tokens.specs.Tokens.{partedOff}
@@ -18,17 +19,17 @@ use Rattle.bitmap.specs.declared.read.NextType.the-variants.{End, Found,
 use Rattle.bitmap.specs.declared.read.Filled.{Filled}
 use Rattle.bitmap.specs.declared.read.Filled.the-variants.{Fault as NotFilled, Top}
 
--- the type of a bare token
-abbrev pub typeOf : Token → Option ℕ
-typeOf k = bareOf k >>= typeNumber
+-- the type of a bare token, with the names of types that are known
+abbrev pub typeOf : List TypeName → Token → Option ℕ
+typeOf c k = bareOf k >>= typeNumberIn c
 
 -- the types that a text lists
-abbrev pub typesRead : List ℕ → Option (List ℕ)
-typesRead t = eachOf typeOf (tokens t)
+abbrev pub typesRead : List TypeName → List ℕ → Option (List ℕ)
+typesRead c t = eachOf (typeOf c) (tokens t)
 
 -- the blocks of these types
-abbrev pub bitmapRead : List ℕ → Option (List ℕ)
-bitmapRead t = readBitmap typeOf (tokens t)
+abbrev pub bitmapRead : List TypeName → List ℕ → Option (List ℕ)
+bitmapRead c t = readBitmap (typeOf c) (tokens t)
 
 -- the type of a token that ends at e
 abbrev pub foundAt : ℕ → Option ℕ → NextType
@@ -36,10 +37,10 @@ foundAt e none = Fault
 foundAt e (some v) = Found v e
 
 -- the types that are left, given the next one
-abbrev pub typesBy : List ℕ → NextType → Option (List ℕ)
-typesBy t End = some []
-typesBy t (Found v e) = consBoth (some v) (typesRead (drop e t))
-typesBy t Fault = none
+abbrev pub typesBy : List TypeName → List ℕ → NextType → Option (List ℕ)
+typesBy c t End = some []
+typesBy c t (Found v e) = consBoth (some v) (typesRead c (drop e t))
+typesBy c t Fault = none
 
 -- its number is a type's, and its token ends after i
 abbrev pub TypeWithin : List ℕ → ℕ → NextType → Type 0
@@ -47,7 +48,7 @@ TypeWithin t i End = Unit {0}
 TypeWithin t i (Found v e) = (v < 65536) × (i < e) × (e ≤ length t)
 TypeWithin t i Fault = Unit {0}
 
--- a type that stands at a, up to a blank or the end
+-- `TYPE` and digits that stand at a, up to a blank or the end
 abbrev pub PlainAt : List ℕ → ℕ → NextType → Type 0
 PlainAt t a End = Unit {0}
 PlainAt t a (Found v e) = (typeNumber (slice a e t) ≡ some v) × (a ≤ e) × (e ≤ length t) × (partedOff (drop e t) ≡ true)

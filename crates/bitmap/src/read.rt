@@ -1,12 +1,13 @@
 // Reads bitmaps: the types in all tokens that are left, in any order, go into a picture, and from there into blocks.
-ghost use Prim.Native.Nat.{_^_, _<_, _≤_};
+ghost use Prim.Native.Nat.{ℕ, _^_, _<_, _≤_};
 ghost use mathlib.Core.Path.{_≡_};
 ghost use mathlib.Core.List.{[]};
+ghost use mathlib.Core.Option.{Option};
 ghost use lib.ListN.{length, drop};
-ghost use lib.Seq.{slice};
-ghost use Rattle.format.specs.Rrtype.{typeNumber};
+ghost use Rattle.octets.specs.Octets.{numberOf};
 ghost use Rattle.buffer.specs.Writing.{Values};
 ghost use Rattle.bitmap_picture.specs.Windows.{Holds};
+ghost use Rattle.catalogue.specs.Entries.{Listed, namesOf};
 ghost use Rattle.bitmap.specs.Reading.{typesRead, bitmapRead, foundAt, typesBy, TypeWithin, PlainAt, Marks};
 use bitmap_picture::mark;
 use bitmap_picture::put_blocks;
@@ -23,12 +24,10 @@ enum NextType {
     Fault,
 }
 
-// The type of the bare token from i to e.
-fn type_of(t: &[u8], i: usize, e: usize) -> NextType
-    requires { ⌜ (i ≤ e) × (e ≤ length (now t)) ⌝ }
-    ensures { λ r. ⌜ r ≡ foundAt e (typeNumber (slice i e (now (t .entry)))) ⌝ }
+// The answer for a token that ends at e, given its number.
+fn found(q: Number, e: usize) -> NextType
+    ensures { λ r. ⌜ ((o : Option ℕ) → q ≡ numberOf o → r ≡ foundAt e o) ⌝ }
 {
-    let q = rrtype::read::number(t, i, e);
     match q {
         Number::Value(v) => NextType::Found(v, e),
         Number::Fault => NextType::Fault,
@@ -36,21 +35,21 @@ fn type_of(t: &[u8], i: usize, e: usize) -> NextType
 }
 
 // The type of the next token from i on.
-fn token_type(t: &[u8], i: usize) -> NextType
-    requires { ⌜ (i ≤ length (now t)) × (length (now t) ≤ 1048576) ⌝ }
-    ensures { λ r. ⌜ (typesBy (now (t .entry)) r ≡ typesRead (drop i (now (t .entry)))) × TypeWithin (now (t .entry)) i r ⌝ }
+fn token_type(types: &[u64], names: &[u8], t: &[u8], i: usize) -> NextType
+    requires { ⌜ (i ≤ length (now t)) × (length (now t) ≤ 1048576) × Listed (now names) (now types) ⌝ }
+    ensures { λ r. ⌜ (typesBy (namesOf (now (names .entry)) (now (types .entry))) (now (t .entry)) r ≡ typesRead (namesOf (now (names .entry)) (now (types .entry))) (drop i (now (t .entry)))) × TypeWithin (now (t .entry)) i r ⌝ }
 {
     let k = tokens::next_token(t, i);
     match k {
         Next::End => NextType::End,
-        Next::Bare(a, e) => type_of(t, a, e),
+        Next::Bare(a, e) => found(rrtype::read::number(types, names, t, a, e), e),
         Next::Quoted(a, e) => NextType::Fault,
         Next::Broken => NextType::Fault,
     }
 }
 
-// The type at i, if four octets and digits stand there before a blank or the end: then no token need be scanned. It may deny
-// a type that is there.
+// The type at i, if `TYPE` and digits stand there before a blank or the end: then no token need be scanned. It may deny a type
+// that is there.
 fn last_type(t: &[u8], i: usize) -> NextType
     requires { ⌜ i ≤ length (now t) ⌝ }
     ensures { λ r. ⌜ PlainAt (now (t .entry)) i r ⌝ }
@@ -60,7 +59,7 @@ fn last_type(t: &[u8], i: usize) -> NextType
     }
     let e = octets::skip(t, i + 4, t.len(), Class::Digit);
     if tokens::parted_at(t, e) {
-        return type_of(t, i, e);
+        return found(rrtype::read::plain(t, i, e), e);
     }
     NextType::Fault
 }
@@ -86,16 +85,16 @@ fn plain_type(t: &[u8], i: usize) -> NextType
 }
 
 // The next type from i on; the quick way is tried first.
-fn next_type(t: &[u8], i: usize) -> NextType
-    requires { ⌜ (i ≤ length (now t)) × (length (now t) ≤ 1048576) ⌝ }
-    ensures { λ r. ⌜ (typesBy (now (t .entry)) r ≡ typesRead (drop i (now (t .entry)))) × TypeWithin (now (t .entry)) i r ⌝ }
+fn next_type(types: &[u64], names: &[u8], t: &[u8], i: usize) -> NextType
+    requires { ⌜ (i ≤ length (now t)) × (length (now t) ≤ 1048576) × Listed (now names) (now types) ⌝ }
+    ensures { λ r. ⌜ (typesBy (namesOf (now (names .entry)) (now (types .entry))) (now (t .entry)) r ≡ typesRead (namesOf (now (names .entry)) (now (types .entry))) (drop i (now (t .entry)))) × TypeWithin (now (t .entry)) i r ⌝ }
 {
     let a = octets::skip(t, i, t.len(), Class::Blank);
     let r = plain_type(t, a);
     match r {
         NextType::Found(v, e) => NextType::Found(v, e),
-        NextType::End => token_type(t, i),
-        NextType::Fault => token_type(t, i),
+        NextType::End => token_type(types, names, t, i),
+        NextType::Fault => token_type(types, names, t, i),
     }
 }
 
@@ -106,14 +105,14 @@ enum Filled {
 }
 
 // Fills an empty picture with the types of all tokens from i on.
-fn fill(m: &mut [[u8; 32]; 256], t: &[u8], i: usize) -> Filled
-    requires { ⌜ (i ≤ length (now t)) × (length (now t) ≤ 1048576) × Holds (now m) 0 [] ⌝ }
-    ensures { λ r. ⌜ Marks (now (m .exit)) r (typesRead (drop i (now (t .entry)))) ⌝ }
+fn fill(m: &mut [[u8; 32]; 256], types: &[u64], names: &[u8], t: &[u8], i: usize) -> Filled
+    requires { ⌜ (i ≤ length (now t)) × (length (now t) ≤ 1048576) × Holds (now m) 0 [] × Listed (now names) (now types) ⌝ }
+    ensures { λ r. ⌜ Marks (now (m .exit)) r (typesRead (namesOf (now (names .entry)) (now (types .entry))) (drop i (now (t .entry)))) ⌝ }
 {
     let mut top = 0;
     let mut j = i;
     loop {
-        let k = next_type(t, j);
+        let k = next_type(types, names, t, j);
         match k {
             NextType::End => {
                 return Filled::Top(top);
@@ -130,12 +129,12 @@ fn fill(m: &mut [[u8; 32]; 256], t: &[u8], i: usize) -> Filled
 }
 
 // Reads the types of all tokens from i on into blocks.
-pub fn read(out: &mut [u8], at: usize, t: &[u8], i: usize) -> Value
-    requires { ⌜ (at < 2 ^ 30) × (i ≤ length (now t)) × (length (now t) ≤ 1048576) ⌝ }
-    ensures { λ r. ⌜ Values (now (out .entry)) (now (out .exit)) at r (bitmapRead (drop i (now (t .entry)))) ⌝ }
+pub fn read(out: &mut [u8], at: usize, types: &[u64], names: &[u8], t: &[u8], i: usize) -> Value
+    requires { ⌜ (at < 2 ^ 30) × (i ≤ length (now t)) × (length (now t) ≤ 1048576) × Listed (now names) (now types) ⌝ }
+    ensures { λ r. ⌜ Values (now (out .entry)) (now (out .exit)) at r (bitmapRead (namesOf (now (names .entry)) (now (types .entry))) (drop i (now (t .entry)))) ⌝ }
 {
     let mut m = [[0u8; 32]; 256];
-    let f = fill(&mut m, t, i);
+    let f = fill(&mut m, types, names, t, i);
     match f {
         Filled::Fault => Value::Fault,
         Filled::Top(top) => {

@@ -10,14 +10,24 @@ ghost use Rattle.format.specs.Run.{shown};
 ghost use Rattle.buffer.specs.Writing.{Wrote};
 ghost use Rattle.stanza_form.specs.Forms.{kindOf};
 ghost use Rattle.stanza_form.specs.Fields.{kindFor, Usable};
+ghost use Rattle.catalogue.specs.Entries.{Listed, namesOf};
 use field_wire::Take;
 use stanza_form::FieldDesc;
 use stanza_form::Form;
 
 // Writes the text of the field in p from i to e, at the start of the buffer.
-pub fn put_field(out: &mut [u8], d: FieldDesc, s: &[u8], p: &[u8], i: usize, e: usize) -> usize
-    requires { ⌜ Usable (now s) d × (length (now s) ≤ 8192) × (i ≤ e) × (e ≤ length (now p)) × (length (now p) ≤ 65535) × (taken (start (kindFor (now s) d)) (slice i e (now p)) ≡ took (e - i)) ⌝ }
-    ensures { λ r. ⌜ Wrote (now (out .entry)) (now (out .exit)) 0 r (shown (kindFor (now (s .entry)) d) (slice i e (now (p .entry)))) ⌝ }
+pub fn put_field(
+    out: &mut [u8],
+    d: FieldDesc,
+    s: &[u8],
+    types: &[u64],
+    names: &[u8],
+    p: &[u8],
+    i: usize,
+    e: usize,
+) -> usize
+    requires { ⌜ Usable (now s) d × (length (now s) ≤ 8192) × (i ≤ e) × (e ≤ length (now p)) × (length (now p) ≤ 65535) × (taken (start (kindFor (now s) d)) (slice i e (now p)) ≡ took (e - i)) × Listed (now names) (now types) ⌝ }
+    ensures { λ r. ⌜ Wrote (now (out .entry)) (now (out .exit)) 0 r (shown (namesOf (now (names .entry)) (now (types .entry))) (kindFor (now (s .entry)) d) (slice i e (now (p .entry)))) ⌝ }
 {
     let f = d.form;
     let a = d.qualifiers_at as usize;
@@ -27,8 +37,8 @@ pub fn put_field(out: &mut [u8], d: FieldDesc, s: &[u8], p: &[u8], i: usize, e: 
             let v = octets::integer::number(p, i, e);
             number::print::put_number(out, 0, s, a, b, v)
         }
-        Form::Rrtype => rrtype::print::field(out, 0, p, i, e),
-        Form::Bitmap => bitmap::print::field(out, 0, p, i, e),
+        Form::Rrtype => rrtype::print::field(out, 0, types, names, p, i, e),
+        Form::Bitmap => bitmap::print::field(out, 0, types, names, p, i, e),
         Form::Dotted => address::print::dotted(out, 0, p, i, e),
         Form::Aa => address::print::groups(out, 0, p, i, e),
         Form::Aaaa => address::print::aaaa(out, 0, p, i, e),

@@ -8,6 +8,7 @@ use native.Mathlib.Omega.{arith}
 use lib.ListN.{length, drop, drop-of-length-le}
 use Rattle.format.specs.Field.{Symbol, Kind}
 use Rattle.format.specs.Token.{Token, broken, scanned, tokens}
+use Rattle.format.specs.Catalogue.{TypeName}
 use Rattle.format.specs.Run.{Got, noToken, badToken, got, gotOr, oneToken, readField}
 use Rattle.format.specs.Text.{readString}
 use Rattle.buffer.specs.Writing.{Values}
@@ -23,25 +24,25 @@ use Rattle.stanza_form.proofs.Forms.{reads-one, none-missing, none-of-broken, N
 use Rattle.field_read.specs.Fields.{placedAt, gotAt, Gives, Onward}
 
 -- no token is left: for a name, and for any other field that takes one
-pub none-name : (f : Form) (m : ℕ) → f ≡ Name m → (l : List Symbol) → takesOne (ruleOf (kindOf l f)) ≡ true → (o : List ℕ) {b : Bool} → b ≡ optionalIn m
-    → readField (kindOf l f) o [] ≡ cond b (got [] []) noToken
-none-name f m e l g o h = reads-one (kindOf l f) g o [] ∙ rw (e, h)
+pub none-name : (ns : List TypeName) (f : Form) (m : ℕ) → f ≡ Name m → (l : List Symbol) → takesOne (ruleOf ns (kindOf l f)) ≡ true → (o : List ℕ) {b : Bool} → b ≡ optionalIn m
+    → readField ns (kindOf l f) o [] ≡ cond b (got [] []) noToken
+none-name ns f m e l g o h = reads-one ns (kindOf l f) g o [] ∙ rw (e, h)
 
-pub none-else : (f : Form) → Not 2 f → (l : List Symbol) → takesOne (ruleOf (kindOf l f)) ≡ true → (o : List ℕ) → readField (kindOf l f) o [] ≡ noToken
-none-else f n l g o = reads-one (kindOf l f) g o [] ∙ none-missing f n l
+pub none-else : (ns : List TypeName) (f : Form) → Not 2 f → (l : List Symbol) → takesOne (ruleOf ns (kindOf l f)) ≡ true → (o : List ℕ) → readField ns (kindOf l f) o [] ≡ noToken
+none-else ns f n l g o = reads-one ns (kindOf l f) g o [] ∙ none-missing ns f n l
 
 -- the octets of a token, with the tokens from j on left
 pub gives : (before after t : List ℕ) (n : ℕ) (v : Value) (p : Option (List ℕ)) (j : ℕ) → Values before after n v p → j ≤ length t → Gives before after n t (placedAt v j) (gotOr p (tokens (drop j t)))
 gives before after t n NoValue p j e h = ap (λ q. gotOr q (tokens (drop j t))) e
 gives before after t n (ValueUpto m) p j (xs, e, w) h = (xs, ap (λ q. gotOr q (tokens (drop j t))) e, w, h)
 
-pub gives-token : (before after t : List ℕ) (n : ℕ) (k : Kind) → takesOne (ruleOf k) ≡ true → (o : List ℕ) (x : Token) (us : List Token) (v : Value) (j : ℕ) → x ∷ tokens (drop j t) ≡ us
-    → Values before after n v (valueBy (ruleOf k) o x) → j ≤ length t → Gives before after n t (placedAt v j) (readField k o us)
-gives-token before after t n k g o x us v j e w h =
-    subst (λ r. Gives before after n t (placedAt v j) r) (sym (reads-one k g o (x ∷ tokens (drop j t))) ∙ ap (readField k o) e) (gives before after t n v (valueBy (ruleOf k) o x) j w h)
+pub gives-token : (ns : List TypeName) (before after t : List ℕ) (n : ℕ) (k : Kind) → takesOne (ruleOf ns k) ≡ true → (o : List ℕ) (x : Token) (us : List Token) (v : Value) (j : ℕ) → x ∷ tokens (drop j t) ≡ us
+    → Values before after n v (valueBy (ruleOf ns k) o x) → j ≤ length t → Gives before after n t (placedAt v j) (readField ns k o us)
+gives-token ns before after t n k g o x us v j e w h =
+    subst (λ r. Gives before after n t (placedAt v j) r) (sym (reads-one ns k g o (x ∷ tokens (drop j t))) ∙ ap (readField ns k o) e) (gives before after t n v (valueBy (ruleOf ns k) o x) j w h)
 
-pub bad-token : (k : Kind) → takesOne (ruleOf k) ≡ true → (o : List ℕ) (us : List Token) → broken ∷ [] ≡ us → readField k o us ≡ badToken
-bad-token k g o us e = ap (readField k o) (sym e) ∙ reads-one k g o (broken ∷ []) ∙ ap (λ p. gotOr p []) (none-of-broken (ruleOf k) o)
+pub bad-token : (ns : List TypeName) (k : Kind) → takesOne (ruleOf ns k) ≡ true → (o : List ℕ) (us : List Token) → broken ∷ [] ≡ us → readField ns k o us ≡ badToken
+bad-token ns k g o us e = ap (readField ns k o) (sym e) ∙ reads-one ns k g o (broken ∷ []) ∙ ap (λ p. gotOr p []) (none-of-broken (ruleOf ns k) o)
 
 -- a string
 pub gives-string : (before after t : List ℕ) (n : ℕ) (x : Token) (us : List Token) (v : Value) (j : ℕ) → x ∷ tokens (drop j t) ≡ us

@@ -14,6 +14,7 @@ use Rattle.format.specs.Octets.{inRange}
 use Rattle.format.specs.Field.{strs}
 use Rattle.format.specs.Token.{Token}
 use Rattle.format.specs.Text.{withCount, counted, stringValue, readString}
+use Rattle.format.specs.Catalogue.{TypeName}
 use Rattle.format.specs.Run.{noToken, badToken, got, gotOr, oneToken, readField}
 use Rattle.format.proofs.Lists.{bind-some, provided-some, and-right}
 use Rattle.buffer.specs.Writing.{Wrote}
@@ -98,20 +99,20 @@ module _ {o₀ o : List ℕ} {n m : ℕ} {ts us : List Token} (b : Before o₀ o
       let l = s .least in
       record { begun = begun-piece xs (allStrings vs) (b .begun) w (s .first); none-yet = λ k. absurd (omega arith); there = λ k. there-is (s .there) }
 
-  module _ (q : List ℕ) where
-    pub strings-missing : oneToken readString us ≡ noToken → m ≤ n → readField strs q ts ≡ noToken
+  module _ (ns : List TypeName) (q : List ℕ) where
+    pub strings-missing : oneToken readString us ≡ noToken → m ≤ n → readField ns strs q ts ≡ noToken
     unfolding readField
     strings-missing e l = let z : ts ≡ [] = sym (b .none-yet l) ∙ no-string us e in rw z
 
-    pub strings-bad : oneToken readString us ≡ badToken → readField strs q ts ≡ badToken
+    pub strings-bad : oneToken readString us ≡ badToken → readField ns strs q ts ≡ badToken
     unfolding readField
     strings-bad e = let (t, v) = bad-string us e in rw (there-is t, begun-fault (b .begun) v)
 
-    strings-got : (xs : List ℕ) → null ts ≡ false → allStrings ts ≡ some xs → readField strs q ts ≡ got xs []
+    strings-got : (xs : List ℕ) → null ts ≡ false → allStrings ts ≡ some xs → readField ns strs q ts ≡ got xs []
     unfolding readField
     strings-got xs t v = ap (λ x. cond x noToken (gotOr (allStrings ts) [])) t ∙ ap (λ o. gotOr o []) v
 
-    pub strings-all : oneToken readString us ≡ noToken → n < m → (o′ : List ℕ) → o′ ≡ o → (xs : List ℕ) × (readField strs q ts ≡ got xs us) × Wrote o₀ o′ n m xs
+    pub strings-all : oneToken readString us ≡ noToken → n < m → (o′ : List ℕ) → o′ ≡ o → (xs : List ℕ) × (readField ns strs q ts ≡ got xs us) × Wrote o₀ o′ n m xs
     strings-all e l o′ p =
         let z = no-string us e in
         let (xs, v, w) = begun-all (b .begun) (ap allStrings z) in

@@ -9,10 +9,12 @@ ghost use lib.ListN.{length, drop};
 ghost use Rattle.format.specs.Field.{Symbol, strs};
 ghost use Rattle.format.specs.Token.{tokens};
 ghost use Rattle.format.specs.Name.{isWireName};
+ghost use Rattle.format.specs.Catalogue.{TypeName};
 ghost use Rattle.format.specs.Run.{readField, oneToken};
 ghost use Rattle.format.specs.Text.{readString};
 ghost use Rattle.stanza_form.specs.Forms.{kindOf, ruleOf, takesOne};
 ghost use Rattle.stanza_form.specs.Fields.{kindFor, Usable};
+ghost use Rattle.catalogue.specs.Entries.{Listed, namesOf};
 ghost use Rattle.field_read.specs.Fields.{placedAt, gotAt, Gives, Onward};
 use base::read::Got;
 use base::read::base64_rest;
@@ -43,7 +45,7 @@ fn before(v: Value, j: usize) -> FieldRead
 
 // The answer if no token is left: only N[O] may take none.
 fn none_left(f: Form, n: usize, i: usize) -> FieldRead
-    ensures { λ r. ⌜ ((b t : List ℕ) (l : List Symbol) (o : List ℕ) → i ≤ length t → tokens (drop i t) ≡ [] → takesOne (ruleOf (kindOf l f)) ≡ true → Gives b b n t r (readField (kindOf l f) o [])) ⌝ }
+    ensures { λ r. ⌜ ((c : List TypeName) (b t : List ℕ) (l : List Symbol) (o : List ℕ) → i ≤ length t → tokens (drop i t) ≡ [] → takesOne (ruleOf c (kindOf l f)) ≡ true → Gives b b n t r (readField c (kindOf l f) o [])) ⌝ }
 {
     if let Form::Name(m) = f {
         if stanza_form::is_optional(m) {
@@ -59,18 +61,23 @@ fn one_token(
     at: usize,
     d: FieldDesc,
     s: &[u8],
+    types: &[u64],
+    names: &[u8],
     origin: &[u8],
     t: &[u8],
     i: usize,
 ) -> FieldRead
-    requires { ⌜ (at < 2 ^ 30) × Usable (now s) d × (length (now s) ≤ 8192) × (isWireName (now origin) ≡ true) × (i ≤ length (now t)) × (length (now t) ≤ 1048576) × (takesOne (ruleOf (kindFor (now s) d)) ≡ true) ⌝ }
-    ensures { λ r. ⌜ Gives (now (out .entry)) (now (out .exit)) at (now (t .entry)) r (readField (kindFor (now (s .entry)) d) (now (origin .entry)) (tokens (drop i (now (t .entry))))) ⌝ }
+    requires { ⌜ (at < 2 ^ 30) × Usable (now s) d × (length (now s) ≤ 8192) × (isWireName (now origin) ≡ true) × (i ≤ length (now t)) × (length (now t) ≤ 1048576) × (takesOne (ruleOf (namesOf (now names) (now types)) (kindFor (now s) d)) ≡ true) × Listed (now names) (now types) ⌝ }
+    ensures { λ r. ⌜ Gives (now (out .entry)) (now (out .exit)) at (now (t .entry)) r (readField (namesOf (now (names .entry)) (now (types .entry))) (kindFor (now (s .entry)) d) (now (origin .entry)) (tokens (drop i (now (t .entry))))) ⌝ }
 {
     let f = d.form;
     let k = next_token(t, i);
     match k {
         Next::End => none_left(f, at, i),
-        Next::Bare(a, e) => before(crate::value::of_bare(out, at, d, s, origin, t, a, e), e),
+        Next::Bare(a, e) => before(
+            crate::value::of_bare(out, at, d, s, types, names, origin, t, a, e),
+            e,
+        ),
         Next::Quoted(a, e) => before(crate::value::of_quoted(out, at, f, t, a, e), e + 1),
         Next::Broken => FieldRead::Fault,
     }
@@ -93,7 +100,7 @@ fn string(out: &mut [u8], at: usize, t: &[u8], i: usize) -> FieldRead
 // Reads the strings of all tokens that are left, at least one.
 fn strings(out: &mut [u8], at: usize, t: &[u8], i: usize) -> FieldRead
     requires { ⌜ (at < 2 ^ 29) × (i ≤ length (now t)) × (length (now t) ≤ 1048576) ⌝ }
-    ensures { λ r. ⌜ ((o : List ℕ) → Gives (now (out .entry)) (now (out .exit)) at (now (t .entry)) r (readField strs o (tokens (drop i (now (t .entry)))))) ⌝ }
+    ensures { λ r. ⌜ ((c : List TypeName) (o : List ℕ) → Gives (now (out .entry)) (now (out .exit)) at (now (t .entry)) r (readField c strs o (tokens (drop i (now (t .entry)))))) ⌝ }
 {
     let mut m = at;
     let mut j = i;
@@ -134,16 +141,18 @@ pub fn read_field(
     at: usize,
     d: FieldDesc,
     s: &[u8],
+    types: &[u64],
+    names: &[u8],
     origin: &[u8],
     t: &[u8],
     i: usize,
 ) -> FieldRead
-    requires { ⌜ (at < 2 ^ 29) × Usable (now s) d × (length (now s) ≤ 8192) × (isWireName (now origin) ≡ true) × (i ≤ length (now t)) × (length (now t) ≤ 1048576) ⌝ }
-    ensures { λ r. ⌜ Gives (now (out .entry)) (now (out .exit)) at (now (t .entry)) r (readField (kindFor (now (s .entry)) d) (now (origin .entry)) (tokens (drop i (now (t .entry))))) ⌝ }
+    requires { ⌜ (at < 2 ^ 29) × Usable (now s) d × (length (now s) ≤ 8192) × (isWireName (now origin) ≡ true) × (i ≤ length (now t)) × (length (now t) ≤ 1048576) × Listed (now names) (now types) ⌝ }
+    ensures { λ r. ⌜ Gives (now (out .entry)) (now (out .exit)) at (now (t .entry)) r (readField (namesOf (now (names .entry)) (now (types .entry))) (kindFor (now (s .entry)) d) (now (origin .entry)) (tokens (drop i (now (t .entry))))) ⌝ }
 {
     let f = d.form;
     if let Form::Bitmap = f {
-        return before(bitmap::read::read(out, at, t, i), t.len());
+        return before(bitmap::read::read(out, at, types, names, t, i), t.len());
     }
     if let Form::Strs = f {
         return strings(out, at, t, i);
@@ -154,5 +163,5 @@ pub fn read_field(
     if let Form::Hex = f {
         return all(hex_rest(out, at, t, i), t.len());
     }
-    one_token(out, at, d, s, origin, t, i)
+    one_token(out, at, d, s, types, names, origin, t, i)
 }

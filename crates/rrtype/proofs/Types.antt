@@ -3,7 +3,7 @@ use Prim.Native.Nat.{ℕ, _+_, _-_, _≤_, _<_}
 use mathlib.Core.Path.{_≡_, refl, sym, ap, _∙_}
 use mathlib.Core.Bool.{Bool, true, false, _&&_, and-true}
 use mathlib.Core.List.{List, [], _∷_}
-use mathlib.Core.Option.{none, some}
+use mathlib.Core.Option.{Option, none, some}
 use native.Mathlib.Omega.{arith}
 use lib.ListN.{length, take, getD, length-take}
 use lib.Seq.{slice, length-slice}
@@ -11,18 +11,43 @@ use lib.Dec.{eqb, leb}
 use borrow.Author.Tests.{ne-eqb, lt-ltb, le-leb, leb-true}
 use Rattle.format.specs.Octets.{lowered, sameWord, ascii}
 use Rattle.format.specs.Number.{decimalOf, below}
-use Rattle.format.specs.Rrtype.{typeNumber, readType}
+use Rattle.format.specs.Lists.{orElse}
+use Rattle.format.specs.Rrtype.{typeNumber}
+use Rattle.format.specs.Catalogue.{TypeName, typeNumberIn, readTypeIn}
+use Rattle.format.specs.Demands.{soundNames}
 use Rattle.octets.specs.declared.Number.{Number}
+use Rattle.octets.specs.declared.Number.the-variants.{Value, Fault}
 use Rattle.octets.specs.Octets.{numberOf}
 use Rattle.octets.proofs.Slices.{next, none as nothing, rest, part}
 use Rattle.octets.proofs.Numbers.{valueFrom, decimal-value, nothing-left}
 use Rattle.stanza_words.proofs.Laws.{same-length as word-length}
+use Rattle.catalogue.specs.Entries.{nameNumber}
+use Rattle.catalogue.proofs.Laws.{number-first, number-else}
 use Rattle.number.specs.Numbers.{octetsOf}
 use Rattle.number.proofs.Numbers.{octets-of}
 
 -- the octets of a type
-pub type-octets : (t : List ℕ) (v : Number) → v ≡ numberOf (typeNumber t) → octetsOf 2 v ≡ readType t
-type-octets t v q = rw q (octets-of 2 (typeNumber t))
+pub type-octets : (c : List TypeName) (t : List ℕ) (v : Number) → v ≡ numberOf (typeNumberIn c t) → octetsOf 2 v ≡ readTypeIn c t
+type-octets c t v q = rw q (octets-of 2 (typeNumberIn c t))
+
+-- `TYPE` and digits is no name; what is not `TYPE` and digits may be one
+pub plain-number : (c : List TypeName) → soundNames c ≡ true → (t : List ℕ) (v : ℕ) → Value v ≡ numberOf (typeNumber t) → Value v ≡ numberOf (typeNumberIn c t)
+plain-number c g t v q = by (typeNumber t) refl q
+  where
+    by : (o : Option ℕ) → typeNumber t ≡ o → Value v ≡ numberOf o → Value v ≡ numberOf (typeNumberIn c t)
+    by none e r = let z : _≡_ {A = ℕ} 0 1 = cc in absurd (omega arith)
+    by (some x) e r = let z : v ≡ x = cc in rw (number-first c g t x e, z)
+
+pub other-number : (c : List TypeName) (t : List ℕ) → Fault ≡ numberOf (typeNumber t) → numberOf (nameNumber c t) ≡ numberOf (typeNumberIn c t)
+other-number c t q = by (typeNumber t) refl q
+  where
+    alone : (o : Option ℕ) → o ≡ orElse o none
+    alone none = refl
+    alone (some x) = refl
+
+    by : (o : Option ℕ) → typeNumber t ≡ o → Fault ≡ numberOf o → numberOf (nameNumber c t) ≡ numberOf (typeNumberIn c t)
+    by none e r = ap numberOf (alone (nameNumber c t) ∙ sym (number-else c t ∙ ap (orElse (nameNumber c t)) e))
+    by (some x) e r = let z : _≡_ {A = ℕ} 0 1 = cc in absurd (omega arith)
 
 -- a letter in either case
 pub other-case : (b c : ℕ) → 65 ≤ c → c ≤ 90 → (b ≡ c → ⊥) → eqb b (c + 32) ≡ eqb (lowered b) (lowered c)

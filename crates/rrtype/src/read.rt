@@ -1,4 +1,4 @@
-// Reads RR types: `TYPE` and a number.
+// Reads RR types: `TYPE` and a number, or a name that a catalogue has.
 ghost use Prim.Native.Nat.{_+_, _^_, _<_, _≤_};
 ghost use mathlib.Core.Path.{_≡_};
 ghost use lib.Dec.{eqb};
@@ -6,11 +6,13 @@ ghost use lib.ListN.{length};
 ghost use lib.Seq.{slice};
 ghost use Rattle.format.specs.Octets.{ascii, lowered, sameWord};
 ghost use Rattle.format.specs.Number.{decimalOf};
-ghost use Rattle.format.specs.Rrtype.{typeNumber, readType};
+ghost use Rattle.format.specs.Rrtype.{typeNumber};
+ghost use Rattle.format.specs.Catalogue.{typeNumberIn, readTypeIn};
 ghost use mathlib.Core.Option.{some};
 ghost use Rattle.octets.specs.Octets.{numberOf};
 ghost use Rattle.rrtype.specs.Front.{FrontAt};
 ghost use Rattle.buffer.specs.Writing.{Values};
+ghost use Rattle.catalogue.specs.Entries.{Listed, namesOf};
 use buffer::Value;
 use number::read::decimal_below;
 use number::read::value;
@@ -97,8 +99,8 @@ pub fn plain_front(t: &[u8], i: usize) -> Front
     Front::Other
 }
 
-// The number of the type from i to e.
-pub fn number(t: &[u8], i: usize, e: usize) -> Number
+// The number of the type from i to e, `TYPE` and digits.
+pub fn plain(t: &[u8], i: usize, e: usize) -> Number
     requires { ⌜ (i ≤ e) × (e ≤ length (now t)) ⌝ }
     ensures { λ r. ⌜ r ≡ numberOf (typeNumber (slice i e (now (t .entry)))) ⌝ }
 {
@@ -111,11 +113,31 @@ pub fn number(t: &[u8], i: usize, e: usize) -> Number
     Number::Fault
 }
 
-// Reads a type into two octets.
-pub fn field(out: &mut [u8], at: usize, t: &[u8], i: usize, e: usize) -> Value
-    requires { ⌜ (at < 2 ^ 30) × (i ≤ e) × (e ≤ length (now t)) ⌝ }
-    ensures { λ r. ⌜ Values (now (out .entry)) (now (out .exit)) at r (readType (slice i e (now (t .entry)))) ⌝ }
+// The number of the type from i to e, in either form. No name is `TYPE` and digits, so that form is tried first.
+pub fn number(types: &[u64], names: &[u8], t: &[u8], i: usize, e: usize) -> Number
+    requires { ⌜ Listed (now names) (now types) × (i ≤ e) × (e ≤ length (now t)) ⌝ }
+    ensures { λ r. ⌜ r ≡ numberOf (typeNumberIn (namesOf (now (names .entry)) (now (types .entry))) (slice i e (now (t .entry)))) ⌝ }
 {
-    let v = number(t, i, e);
+    let q = plain(t, i, e);
+    match q {
+        Number::Value(v) => Number::Value(v),
+        Number::Fault => catalogue::named(types, names, t, i, e),
+    }
+}
+
+// Reads a type into two octets.
+pub fn field(
+    out: &mut [u8],
+    at: usize,
+    types: &[u64],
+    names: &[u8],
+    t: &[u8],
+    i: usize,
+    e: usize,
+) -> Value
+    requires { ⌜ (at < 2 ^ 30) × Listed (now names) (now types) × (i ≤ e) × (e ≤ length (now t)) ⌝ }
+    ensures { λ r. ⌜ Values (now (out .entry)) (now (out .exit)) at r (readTypeIn (namesOf (now (names .entry)) (now (types .entry))) (slice i e (now (t .entry)))) ⌝ }
+{
+    let v = number(types, names, t, i, e);
     value(out, at, 2, v)
 }

@@ -5,14 +5,19 @@ use mathlib.Core.Bool.{true, false, true≢false}
 use mathlib.Core.List.{List, [], _∷_, _++_, append-assoc, append-nil}
 use native.Mathlib.Omega.{arith}
 use native.Mathlib.Decide.{decLe}
-use lib.ListN.{length, length-append}
+use lib.ListN.{length, drop, length-append, drop-of-length-le}
 use Rattle.format.specs.Lists.{null, flat}
 use Rattle.format.specs.Field.{Kind}
-use Rattle.format.specs.Token.{Token}
+use Rattle.format.specs.Token.{Token, scanned, tokens}
 use Rattle.format.specs.Run.{Got, noToken, badToken, got, refused, parts, withFirst, maxRdata, readRun}
 use Rattle.buffer.specs.Writing.{Wrote}
 use Rattle.buffer.proofs.Laws.{wrote-none, wrote-append}
 use Rattle.run_read.specs.Reading.{Stands}
+
+-- no token is left at the end of a text
+pub none-left : (t : List ℕ) (i : ℕ) → i ≡ length t → tokens (drop i t) ≡ []
+unfolding scanned
+none-left t i e = let h : length t ≤ i = omega arith in ap tokens (drop-of-length-le t h)
 
 module _ (read : Kind → List Token → Got) where
   -- After k fields of a run ks on tokens ts, with the octets xs: what the other fields, ls, make of the tokens left, us, tells what the run makes of ts.

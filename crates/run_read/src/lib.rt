@@ -9,6 +9,7 @@ ghost use Rattle.format.specs.Name.{isWireName};
 ghost use Rattle.format.specs.Run.{readField, readRun};
 ghost use Rattle.stanza_form.specs.Code.{fieldsOf};
 ghost use Rattle.run_wire.specs.Run.{kindsFrom, UsableRun};
+ghost use Rattle.catalogue.specs.Entries.{Listed, namesOf};
 ghost use Rattle.run_read.specs.Reading.{Reads};
 use field_read::FieldRead;
 use tokens::Next;
@@ -25,6 +26,9 @@ fn none_from(t: &[u8], i: usize) -> bool
     requires { ⌜ (i ≤ length (now t)) × (length (now t) ≤ 1048576) ⌝ }
     ensures { λ r. ⌜ r ≡ null (tokens (drop i (now (t .entry)))) ⌝ }
 {
+    if i == t.len() {
+        return true;
+    }
     let k = next_token(t, i);
     match k {
         Next::End => true,
@@ -41,18 +45,20 @@ pub fn read_run(
     first: usize,
     many: usize,
     s: &[u8],
+    types: &[u64],
+    names: &[u8],
     origin: &[u8],
     t: &[u8],
 ) -> RunRead
-    requires { ⌜ UsableRun (now s) (fieldsOf (now codes)) first many × (isWireName (now origin) ≡ true) × (length (now t) ≤ 1048576) ⌝ }
-    ensures { λ r. ⌜ Reads (now (out .entry)) (now (out .exit)) r (readRun (λ k ts. readField k (now (origin .entry)) ts) (kindsFrom (now (s .entry)) (fieldsOf (now (codes .entry))) first many) (tokens (now (t .entry)))) ⌝ }
+    requires { ⌜ UsableRun (now s) (fieldsOf (now codes)) first many × (isWireName (now origin) ≡ true) × (length (now t) ≤ 1048576) × Listed (now names) (now types) ⌝ }
+    ensures { λ r. ⌜ Reads (now (out .entry)) (now (out .exit)) r (readRun (λ k ts. readField (namesOf (now (names .entry)) (now (types .entry))) k (now (origin .entry)) ts) (kindsFrom (now (s .entry)) (fieldsOf (now (codes .entry))) first many) (tokens (now (t .entry)))) ⌝ }
 {
     let mut n = 0;
     let mut i = 0;
     let mut k = 0;
     while k < many {
         let d = stanza_form::field(codes[first + k]);
-        let r = field_read::read_field(out, n, d, s, origin, t, i);
+        let r = field_read::read_field(out, n, d, s, types, names, origin, t, i);
         match r {
             FieldRead::Missing => {
                 return RunRead::Refused(8, k as u32 + 1);

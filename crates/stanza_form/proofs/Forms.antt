@@ -12,6 +12,7 @@ use Rattle.format.specs.Lists.{provided, null}
 use Rattle.format.specs.Octets.{ascii, sameOctets}
 use Rattle.format.specs.Field.{Symbol, Kind, int, rrtype, bitmap, a4, aa, aaaa, name, str, strs, raw, b32, b64, hex, hexc, eui, time, start, tail}
 use Rattle.format.specs.Token.{Token, broken, quoted}
+use Rattle.format.specs.Catalogue.{TypeName}
 use Rattle.format.specs.Run.{got, noToken, readField, oneBare, oneToken}
 use Rattle.format.specs.Text.{readString, readRaw}
 use Rattle.format.specs.Name.{readName}
@@ -107,24 +108,24 @@ one-raw o [] = refl
 one-raw o (t ∷ ts) = refl
 
 -- a kind that takes one token reads it by its rule
-pub reads-one : (k : Kind) → takesOne (ruleOf k) ≡ true → (o : List ℕ) (ts : List Token) → readField k o ts ≡ readBy (ruleOf k) o ts
+pub reads-one : (c : List TypeName) (k : Kind) → takesOne (ruleOf c k) ≡ true → (o : List ℕ) (ts : List Token) → readField c k o ts ≡ readBy (ruleOf c k) o ts
 unfolding readField
-reads-one (int w l) h o ts = one-bare _ o ts
-reads-one rrtype h o ts = one-bare _ o ts
-reads-one bitmap h o ts = absurd (true≢false (sym h))
-reads-one a4 h o ts = one-bare _ o ts
-reads-one aa h o ts = one-bare _ o ts
-reads-one aaaa h o ts = one-bare _ o ts
-reads-one (name m) h o ts = one-name (m .optional) o ts
-reads-one str h o ts = one-string o ts
-reads-one strs h o ts = absurd (true≢false (sym h))
-reads-one raw h o ts = one-raw o ts
-reads-one b32 h o ts = one-bare _ o ts
-reads-one b64 h o ts = absurd (true≢false (sym h))
-reads-one hex h o ts = absurd (true≢false (sym h))
-reads-one hexc h o ts = one-bare _ o ts
-reads-one (eui w) h o ts = one-bare _ o ts
-reads-one time h o ts = one-bare _ o ts
+reads-one c (int w l) h o ts = one-bare _ o ts
+reads-one c rrtype h o ts = one-bare _ o ts
+reads-one c bitmap h o ts = absurd (true≢false (sym h))
+reads-one c a4 h o ts = one-bare _ o ts
+reads-one c aa h o ts = one-bare _ o ts
+reads-one c aaaa h o ts = one-bare _ o ts
+reads-one c (name m) h o ts = one-name (m .optional) o ts
+reads-one c str h o ts = one-string o ts
+reads-one c strs h o ts = absurd (true≢false (sym h))
+reads-one c raw h o ts = one-raw o ts
+reads-one c b32 h o ts = one-bare _ o ts
+reads-one c b64 h o ts = absurd (true≢false (sym h))
+reads-one c hex h o ts = absurd (true≢false (sym h))
+reads-one c hexc h o ts = one-bare _ o ts
+reads-one c (eui w) h o ts = one-bare _ o ts
+reads-one c time h o ts = one-bare _ o ts
 
 -- the tags of the forms, but one
 abbrev skipping : ℕ → List ℕ → List ℕ
@@ -137,61 +138,61 @@ except n = skipping n (0 ∷ 1 ∷ 2 ∷ 3 ∷ 4 ∷ 5 ∷ 6 ∷ 7 ∷ 8 ∷ 9 �
 abbrev pub Not : ℕ → Form → Type 0
 Not n f = OneOf (except n) (tagOf Rattle.stanza_form.proofs.Form.the-type f)
 
-pub one-form : (f : Form) → Not 11 f → Not 12 f → Not 14 f → Not 15 f → (l : List Symbol) → takesOne (ruleOf (kindOf l f)) ≡ true
-one-form (Int w) p q r s l = refl
-one-form (Eui w) p q r s l = refl
-one-form (Name m) p q r s l = refl
-one-form Rrtype p q r s l = refl
-one-form Dotted p q r s l = refl
-one-form Aa p q r s l = refl
-one-form Aaaa p q r s l = refl
-one-form Time p q r s l = refl
-one-form Str p q r s l = refl
-one-form Base32 p q r s l = refl
-one-form Hexc p q r s l = refl
-one-form Bitmap p q r s l = absurd (miss (except 11) 11 tt p)
-one-form Strs p q r s l = absurd (miss (except 12) 12 tt q)
-one-form Raw p q r s l = refl
-one-form Base64 p q r s l = absurd (miss (except 14) 14 tt r)
-one-form Hex p q r s l = absurd (miss (except 15) 15 tt s)
+pub one-form : (c : List TypeName) (f : Form) → Not 11 f → Not 12 f → Not 14 f → Not 15 f → (l : List Symbol) → takesOne (ruleOf c (kindOf l f)) ≡ true
+one-form c (Int w) p q r s l = refl
+one-form c (Eui w) p q r s l = refl
+one-form c (Name m) p q r s l = refl
+one-form c Rrtype p q r s l = refl
+one-form c Dotted p q r s l = refl
+one-form c Aa p q r s l = refl
+one-form c Aaaa p q r s l = refl
+one-form c Time p q r s l = refl
+one-form c Str p q r s l = refl
+one-form c Base32 p q r s l = refl
+one-form c Hexc p q r s l = refl
+one-form c Bitmap p q r s l = absurd (miss (except 11) 11 tt p)
+one-form c Strs p q r s l = absurd (miss (except 12) 12 tt q)
+one-form c Raw p q r s l = refl
+one-form c Base64 p q r s l = absurd (miss (except 14) 14 tt r)
+one-form c Hex p q r s l = absurd (miss (except 15) 15 tt s)
 
 -- "Only S fields take quoted tokens."
-pub only-strings : (f : Form) → Not 8 f → Not 13 f → (l : List Symbol) (o x : List ℕ) → valueBy (ruleOf (kindOf l f)) o (quoted x) ≡ none
-only-strings (Int w) g h l o x = refl
-only-strings (Eui w) g h l o x = refl
-only-strings (Name m) g h l o x = refl
-only-strings Rrtype g h l o x = refl
-only-strings Dotted g h l o x = refl
-only-strings Aa g h l o x = refl
-only-strings Aaaa g h l o x = refl
-only-strings Time g h l o x = refl
-only-strings Str g h l o x = absurd (miss (except 8) 8 tt g)
-only-strings Base32 g h l o x = refl
-only-strings Hexc g h l o x = refl
-only-strings Bitmap g h l o x = refl
-only-strings Strs g h l o x = refl
-only-strings Raw g h l o x = absurd (miss (except 13) 13 tt h)
-only-strings Base64 g h l o x = refl
-only-strings Hex g h l o x = refl
+pub only-strings : (c : List TypeName) (f : Form) → Not 8 f → Not 13 f → (l : List Symbol) (o x : List ℕ) → valueBy (ruleOf c (kindOf l f)) o (quoted x) ≡ none
+only-strings c (Int w) g h l o x = refl
+only-strings c (Eui w) g h l o x = refl
+only-strings c (Name m) g h l o x = refl
+only-strings c Rrtype g h l o x = refl
+only-strings c Dotted g h l o x = refl
+only-strings c Aa g h l o x = refl
+only-strings c Aaaa g h l o x = refl
+only-strings c Time g h l o x = refl
+only-strings c Str g h l o x = absurd (miss (except 8) 8 tt g)
+only-strings c Base32 g h l o x = refl
+only-strings c Hexc g h l o x = refl
+only-strings c Bitmap g h l o x = refl
+only-strings c Strs g h l o x = refl
+only-strings c Raw g h l o x = absurd (miss (except 13) 13 tt h)
+only-strings c Base64 g h l o x = refl
+only-strings c Hex g h l o x = refl
 
 -- only a name may be missing
-pub none-missing : (f : Form) → Not 2 f → (l : List Symbol) → missingBy (ruleOf (kindOf l f)) ≡ noToken
-none-missing (Int w) g l = refl
-none-missing (Eui w) g l = refl
-none-missing (Name m) g l = absurd (miss (except 2) 2 tt g)
-none-missing Rrtype g l = refl
-none-missing Dotted g l = refl
-none-missing Aa g l = refl
-none-missing Aaaa g l = refl
-none-missing Time g l = refl
-none-missing Str g l = refl
-none-missing Base32 g l = refl
-none-missing Hexc g l = refl
-none-missing Bitmap g l = refl
-none-missing Strs g l = refl
-none-missing Raw g l = refl
-none-missing Base64 g l = refl
-none-missing Hex g l = refl
+pub none-missing : (c : List TypeName) (f : Form) → Not 2 f → (l : List Symbol) → missingBy (ruleOf c (kindOf l f)) ≡ noToken
+none-missing c (Int w) g l = refl
+none-missing c (Eui w) g l = refl
+none-missing c (Name m) g l = absurd (miss (except 2) 2 tt g)
+none-missing c Rrtype g l = refl
+none-missing c Dotted g l = refl
+none-missing c Aa g l = refl
+none-missing c Aaaa g l = refl
+none-missing c Time g l = refl
+none-missing c Str g l = refl
+none-missing c Base32 g l = refl
+none-missing c Hexc g l = refl
+none-missing c Bitmap g l = refl
+none-missing c Strs g l = refl
+none-missing c Raw g l = refl
+none-missing c Base64 g l = refl
+none-missing c Hex g l = refl
 
 -- no rule has a value of a token with a fault
 pub none-of-broken : (r : Rule) (o : List ℕ) → valueBy r o broken ≡ none

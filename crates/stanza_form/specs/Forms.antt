@@ -12,7 +12,7 @@ use Rattle.format.specs.Wire.{Stage, count, labelLength, toTheEnd, stringCount,
 use Rattle.format.specs.Field.{Symbol, Kind, int, rrtype, bitmap, a4, aa, aaaa, name, str, strs, raw, b32, b64, hex, hexc, eui, time, anyOctets}
 use Rattle.format.specs.Number.{readInteger}
 use Rattle.format.specs.Token.{Token}
-use Rattle.format.specs.Rrtype.{readType}
+use Rattle.format.specs.Catalogue.{TypeName, readTypeIn}
 use Rattle.format.specs.Address.{readA, readAA, readAAAA}
 use Rattle.format.specs.Text.{readString, readRaw}
 use Rattle.format.specs.Name.{readName}
@@ -152,24 +152,24 @@ pub data Rule : Type 0 where
   rawBy : Rule
   allTokens : Rule
 
--- the rule of each kind: "other tails all that are left"
-abbrev pub ruleOf : Kind → Rule
-ruleOf (int w l) = bareBy (λ o. readInteger w l)
-ruleOf rrtype = bareBy (λ o. readType)
-ruleOf bitmap = allTokens
-ruleOf a4 = bareBy (λ o. readA)
-ruleOf aa = bareBy (λ o. readAA)
-ruleOf aaaa = bareBy (λ o. readAAAA)
-ruleOf (name m) = nameBy (m .optional)
-ruleOf str = stringBy
-ruleOf strs = allTokens
-ruleOf raw = rawBy
-ruleOf b32 = bareBy (λ o. readBase32)
-ruleOf b64 = allTokens
-ruleOf hex = allTokens
-ruleOf hexc = bareBy (λ o. readCountedHex)
-ruleOf (eui w) = bareBy (λ o. readEui w)
-ruleOf time = bareBy (λ o. readTime)
+-- the rule of each kind, with the names of types that are known: "other tails all that are left"
+abbrev pub ruleOf : List TypeName → Kind → Rule
+ruleOf c (int w l) = bareBy (λ o. readInteger w l)
+ruleOf c rrtype = bareBy (λ o. readTypeIn c)
+ruleOf c bitmap = allTokens
+ruleOf c a4 = bareBy (λ o. readA)
+ruleOf c aa = bareBy (λ o. readAA)
+ruleOf c aaaa = bareBy (λ o. readAAAA)
+ruleOf c (name m) = nameBy (m .optional)
+ruleOf c str = stringBy
+ruleOf c strs = allTokens
+ruleOf c raw = rawBy
+ruleOf c b32 = bareBy (λ o. readBase32)
+ruleOf c b64 = allTokens
+ruleOf c hex = allTokens
+ruleOf c hexc = bareBy (λ o. readCountedHex)
+ruleOf c (eui w) = bareBy (λ o. readEui w)
+ruleOf c time = bareBy (λ o. readTime)
 
 -- whether a rule takes one token
 abbrev pub takesOne : Rule → Bool

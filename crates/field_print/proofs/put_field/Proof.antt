@@ -32,88 +32,89 @@ use Rattle.base.proofs.print.put_hex_upper.Reads as put-hex-upper-reads
 
 number-requires : tie.Need-number-requires
 number-requires c κs =
-    let c7 = c .before .before .before .before .before .before .before in
-    let v = int-four (c7 .args .s .now) (c7 .args .d) (c7 .pre .0) (c .enum-told .given .0 .0) (c .enum-told .given .1) in
-    let q = int-wide (c7 .args .s .now) (c7 .args .d) (c7 .pre .0) (c .enum-told .given .0 .0) (c .enum-told .given .1) (c7 .args .p .now)
-    (c7 .args .i) (c7 .args .e) (c7 .pre .2) (c7 .pre .3) (c7 .pre .5) in
-    (c7 .pre .2, omega arith, c7 .pre .3)
+    let c9 = c .before .before .before .before .before .before .before .before .before in
+    let v = int-four (c9 .args .s .now) (c9 .args .d) (c9 .pre .0) (c .enum-told .given .0 .0) (c .enum-told .given .1) in
+    let q = int-wide (c9 .args .s .now) (c9 .args .d) (c9 .pre .0) (c .enum-told .given .0 .0) (c .enum-told .given .1) (c9 .args .p .now)
+    (c9 .args .i) (c9 .args .e) (c9 .pre .2) (c9 .pre .3) (c9 .pre .5) in
+    (c9 .pre .2, omega arith, c9 .pre .3)
 
 put-number-requires : tie.Need-put-number-requires
 put-number-requires c κs =
-    let c9 = c .before .before .before .before .before .before .before .before .before in
-    (search needs, c9 .pre .0 .placed .from, c9 .pre .0 .placed .to, c9 .pre .1, c .before .number .ensures .1)
+    let c11 = c .before .before .before .before .before .before .before .before .before .before .before in
+    (search needs, c11 .pre .0 .placed .from, c11 .pre .0 .placed .to, c11 .pre .1, c .before .number .ensures .1)
 
 field-requires : tie.Need-field-requires
 field-requires c κs =
-    let c8 = c .before .before .before .before .before .before .before .before in (
+    let c10 = c .before .before .before .before .before .before .before .before .before .before in (
       search needs,
-      octets-wide (c8 .args .p .now) (c8 .args .i) (c8 .args .e) 2 (c8 .pre .2) (c8 .pre .3) (omega arith)
-          (rw (c .before .enum-told2 .given .1) at (c8 .pre .5)),
-      c8 .pre .3,
+      c10 .pre .6,
+      octets-wide (c10 .args .p .now) (c10 .args .i) (c10 .args .e) 2 (c10 .pre .2) (c10 .pre .3) (omega arith)
+          (rw (c .before .enum-told2 .given .1) at (c10 .pre .5)),
+      c10 .pre .3,
     )
 
 field-requires-2 : tie.Need-field-requires-2
 field-requires-2 c κs =
-    let c8 = c .before .before .before .before .before .before .before .before in
-    (search needs, c8 .pre .2, c8 .pre .3, c8 .pre .4, (rw (c .before .enum-told3 .given .1) at (c8 .pre .5)))
+    let c10 = c .before .before .before .before .before .before .before .before .before .before in
+    (search needs, c10 .pre .2, c10 .pre .3, c10 .pre .4, (rw (c .before .enum-told3 .given .1) at (c10 .pre .5)), c10 .pre .6)
 
 groups-requires : tie.Need-groups-requires
 groups-requires c κs =
-    let c8 = c .before .before .before .before .before .before .before .before in
-    let q = octets-wide (c8 .args .p .now) (c8 .args .i) (c8 .args .e) 8 (c8 .pre .2) (c8 .pre .3) (omega arith)
-    (rw (c .before .enum-told5 .given .1) at (c8 .pre .5)) in
-    (search needs, c8 .pre .2, c8 .pre .3, c8 .pre .4, omega arith)
+    let c10 = c .before .before .before .before .before .before .before .before .before .before in
+    let q = octets-wide (c10 .args .p .now) (c10 .args .i) (c10 .args .e) 8 (c10 .pre .2) (c10 .pre .3) (omega arith)
+    (rw (c .before .enum-told5 .given .1) at (c10 .pre .5)) in
+    (search needs, c10 .pre .2, c10 .pre .3, c10 .pre .4, omega arith)
 
 aaaa-requires : tie.Need-aaaa-requires
 aaaa-requires c κs =
-    let c8 = c .before .before .before .before .before .before .before .before in (
+    let c10 = c .before .before .before .before .before .before .before .before .before .before in (
       search needs,
-      octets-wide (c8 .args .p .now) (c8 .args .i) (c8 .args .e) 16 (c8 .pre .2) (c8 .pre .3) (omega arith)
-          (rw (c .before .enum-told6 .given .1) at (c8 .pre .5)),
-      c8 .pre .3,
-      c8 .pre .4,
+      octets-wide (c10 .args .p .now) (c10 .args .i) (c10 .args .e) 16 (c10 .pre .2) (c10 .pre .3) (omega arith)
+          (rw (c .before .enum-told6 .given .1) at (c10 .pre .5)),
+      c10 .pre .3,
+      c10 .pre .4,
     )
 
 name-requires : tie.Need-name-requires
 name-requires c κs =
-    let c8 = c .before .before .before .before .before .before .before .before in
-    (search needs, c8 .pre .2, c8 .pre .3, c8 .pre .4, name-anyhow _ _ _ (rw (c .before .enum-told7 .given .1) at (c8 .pre .5)))
+    let c10 = c .before .before .before .before .before .before .before .before .before .before in
+    (search needs, c10 .pre .2, c10 .pre .3, c10 .pre .4, name-anyhow _ _ _ (rw (c .before .enum-told7 .given .1) at (c10 .pre .5)))
 
 string-requires : tie.Need-string-requires
 string-requires c κs =
-    let c8 = c .before .before .before .before .before .before .before .before in
-    let q = counted-some (c8 .args .p .now) (c8 .args .i) (c8 .args .e) 0 (rw (c .before .enum-told8 .given .1) at (c8 .pre .5)) in
-    (search needs, omega arith, c8 .pre .3, c8 .pre .4)
+    let c10 = c .before .before .before .before .before .before .before .before .before .before in
+    let q = counted-some (c10 .args .p .now) (c10 .args .i) (c10 .args .e) 0 (rw (c .before .enum-told8 .given .1) at (c10 .pre .5)) in
+    (search needs, omega arith, c10 .pre .3, c10 .pre .4)
 
 strings-requires : tie.Need-strings-requires
 strings-requires c κs =
-    let c8 = c .before .before .before .before .before .before .before .before in
-    (search needs, c8 .pre .2, c8 .pre .3, c8 .pre .4, (rw (c .before .enum-told9 .given .1) at (c8 .pre .5)))
+    let c10 = c .before .before .before .before .before .before .before .before .before .before in
+    (search needs, c10 .pre .2, c10 .pre .3, c10 .pre .4, (rw (c .before .enum-told9 .given .1) at (c10 .pre .5)))
 
 base32-requires : tie.Need-base32-requires
 base32-requires c κs =
-    let c8 = c .before .before .before .before .before .before .before .before in
-    let q = counted-some (c8 .args .p .now) (c8 .args .i) (c8 .args .e) 1 (rw (c .before .enum-told11 .given .1) at (c8 .pre .5)) in
-    (search needs, omega arith, c8 .pre .3, c8 .pre .4)
+    let c10 = c .before .before .before .before .before .before .before .before .before .before in
+    let q = counted-some (c10 .args .p .now) (c10 .args .i) (c10 .args .e) 1 (rw (c .before .enum-told11 .given .1) at (c10 .pre .5)) in
+    (search needs, omega arith, c10 .pre .3, c10 .pre .4)
 
 base64-requires : tie.Need-base64-requires
 base64-requires c κs =
-    let c8 = c .before .before .before .before .before .before .before .before in
-    (search needs, c8 .pre .2, c8 .pre .3, c8 .pre .4)
+    let c10 = c .before .before .before .before .before .before .before .before .before .before in
+    (search needs, c10 .pre .2, c10 .pre .3, c10 .pre .4)
 
 counted-hex-requires : tie.Need-counted-hex-requires
 counted-hex-requires c κs =
-    let c8 = c .before .before .before .before .before .before .before .before in
-    let q = counted-some (c8 .args .p .now) (c8 .args .i) (c8 .args .e) 0 (rw (c .before .enum-told14 .given .1) at (c8 .pre .5)) in
-    (search needs, omega arith, c8 .pre .3, c8 .pre .4)
+    let c10 = c .before .before .before .before .before .before .before .before .before .before in
+    let q = counted-some (c10 .args .p .now) (c10 .args .i) (c10 .args .e) 0 (rw (c .before .enum-told14 .given .1) at (c10 .pre .5)) in
+    (search needs, omega arith, c10 .pre .3, c10 .pre .4)
 
 field-requires-4 : tie.Need-field-requires-4
 field-requires-4 c κs =
-    let c8 = c .before .before .before .before .before .before .before .before in (
+    let c10 = c .before .before .before .before .before .before .before .before .before .before in (
       search needs,
-      octets-wide (c8 .args .p .now) (c8 .args .i) (c8 .args .e) 4 (c8 .pre .2) (c8 .pre .3) (omega arith)
-          (rw (c .before .enum-told16 .given .1) at (c8 .pre .5)),
-      c8 .pre .3,
+      octets-wide (c10 .args .p .now) (c10 .args .i) (c10 .args .e) 4 (c10 .pre .2) (c10 .pre .3) (omega arith)
+          (rw (c .before .enum-told16 .given .1) at (c10 .pre .5)),
+      c10 .pre .3,
     )
 
 returns : tie.Need-returns
@@ -122,11 +123,11 @@ returns c =
     let c2 = c .before .before in
     let c4 = c2 .before .before in
     let c5 = c4 .before in
-    let c12 = c5 .before .before .before .before .before .before .before in
+    let c14 = c5 .before .before .before .before .before .before .before .before .before in
     rw (c5 .enum-told .given .1, ← c4 .number .ensures .0)
     (c2 .put-number .ensures (c5 .enum-told .given .0 .0)
-    (symbolsOf (c12 .args .s .now) (c12 .args .d) (c12 .pre .0) (c5 .enum-told .given .0 .0) (c5 .enum-told .given .1))
-    (symbols-of (c12 .args .s .now) (c12 .args .d) (c12 .pre .0) (c5 .enum-told .given .0 .0) (c5 .enum-told .given .1)))
+    (symbolsOf (c14 .args .s .now) (c14 .args .d) (c14 .pre .0) (c5 .enum-told .given .0 .0) (c5 .enum-told .given .1))
+    (symbols-of (c14 .args .s .now) (c14 .args .d) (c14 .pre .0) (c5 .enum-told .given .0 .0) (c5 .enum-told .given .1)))
 
 returns-2 : tie.Need-returns-2
 unfolding shown
@@ -175,9 +176,9 @@ unfolding shown
 returns-8 c =
     let c2 = c .before .before in
     let c4 = c2 .before .before in
-    let c11 = c4 .before .before .before .before .before .before .before in
+    let c13 = c4 .before .before .before .before .before .before .before .before .before in
     rw (c4 .enum-told8 .given .1)
-    (wrote-text _ _ (ap stringText (sym (rest (c11 .args .p .now) (c11 .args .i) 1 (c11 .args .e)))) (c2 .string .ensures))
+    (wrote-text _ _ (ap stringText (sym (rest (c13 .args .p .now) (c13 .args .i) 1 (c13 .args .e)))) (c2 .string .ensures))
 
 returns-9 : tie.Need-returns-9
 unfolding shown
@@ -198,9 +199,9 @@ unfolding shown
 returns-11 c =
     let c2 = c .before .before in
     let c4 = c2 .before .before in
-    let c11 = c4 .before .before .before .before .before .before .before in
+    let c13 = c4 .before .before .before .before .before .before .before .before .before in
     rw (c4 .enum-told11 .given .1)
-    (wrote-text _ _ (ap base32Text (sym (rest (c11 .args .p .now) (c11 .args .i) 1 (c11 .args .e)))) (c2 .base32 .ensures))
+    (wrote-text _ _ (ap base32Text (sym (rest (c13 .args .p .now) (c13 .args .i) 1 (c13 .args .e)))) (c2 .base32 .ensures))
 
 returns-12 : tie.Need-returns-12
 unfolding shown
@@ -214,18 +215,18 @@ unfolding shown
 returns-13 c =
     let c2 = c .before .before in
     let c5 = c2 .before .before .before in
-    let c12 = c5 .before .before .before .before .before .before .before in
+    let c14 = c5 .before .before .before .before .before .before .before .before .before in
     rw (c5 .enum-told13 .given .1)
-    (wrote-text _ _ (ap hexText (lent (c12 .args .p .now) (c12 .args .i) (c12 .args .e) (c12 .pre .2))) (c2 .put-hex-upper .ensures))
+    (wrote-text _ _ (ap hexText (lent (c14 .args .p .now) (c14 .args .i) (c14 .args .e) (c14 .pre .2))) (c2 .put-hex-upper .ensures))
 
 returns-14 : tie.Need-returns-14
 unfolding shown
 returns-14 c =
     let c2 = c .before .before in
     let c4 = c2 .before .before in
-    let c11 = c4 .before .before .before .before .before .before .before in
+    let c13 = c4 .before .before .before .before .before .before .before .before .before in
     rw (c4 .enum-told14 .given .1)
-    (wrote-text _ _ (ap countedHexText (sym (rest (c11 .args .p .now) (c11 .args .i) 1 (c11 .args .e)))) (c2 .counted-hex .ensures))
+    (wrote-text _ _ (ap countedHexText (sym (rest (c13 .args .p .now) (c13 .args .i) 1 (c13 .args .e)))) (c2 .counted-hex .ensures))
 
 returns-15 : tie.Need-returns-15
 unfolding shown

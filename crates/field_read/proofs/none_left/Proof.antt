@@ -13,9 +13,9 @@ use Rattle.stanza_form.proofs.is_optional.Reads as is-optional-reads
 returns : tie.Need-returns
 returns c =
     let c3 = c .before .before .before in
-    λ b t l o h e g. (
+    λ ns b t l o h e g. (
       [],
-      none-name _ (c3 .f .given .0 .0) (c3 .f .given .1) l g o (sym (c .if1 .taken) ∙ c .before .is-optional .ensures) ∙ ap (got []) (sym e),
+      none-name ns _ (c3 .f .given .0 .0) (c3 .f .given .1) l g o (sym (c .if1 .taken) ∙ c .before .is-optional .ensures) ∙ ap (got []) (sym e),
       wrote-none b _,
       h,
     )
@@ -23,10 +23,10 @@ returns c =
 returns-2 : tie.Need-returns-2
 returns-2 c =
     let c3 = c .before .before .before in
-    λ b t l o h e g. none-name _ (c3 .f .given .0 .0) (c3 .f .given .1) l g o (sym (c .if1 .left) ∙ c .before .is-optional .ensures)
+    λ ns b t l o h e g. none-name ns _ (c3 .f .given .0 .0) (c3 .f .given .1) l g o (sym (c .if1 .left) ∙ c .before .is-optional .ensures)
 
 returns-3 : tie.Need-returns-3
-returns-3 c = λ b t l o h e g. none-else (c .before .args .f) (c .match .keys2) l g o
+returns-3 c = λ ns b t l o h e g. none-else ns (c .before .args .f) (c .match .keys2) l g o
 
 pub none-left-spec : {M : Type 1} → statement M
 none-left-spec = tie.close (tie.spec (λ c. search needs) (λ c κs. search needs) returns returns-2 returns-3)

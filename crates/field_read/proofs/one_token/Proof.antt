@@ -1,3 +1,4 @@
+use Rattle.catalogue.specs.Entries.{namesOf}
 use mathlib.Core.Path.{sym, subst}
 use Rattle.format.specs.Run.{readField}
 use Rattle.field_read.specs.Fields.{Gives}
@@ -19,43 +20,43 @@ of-bare-requires : tie.Need-of-bare-requires
 of-bare-requires c κs =
     let c2 = c .before .before in
     let c4 = c2 .before .before in
-    let c9 = c4 .before .before .before .before .before in
+    let c11 = c4 .before .before .before .before .before .before .before in
     let w = rw (c2 .k .given .1) at (c4 .next-token .ensures .1) in
-    (c9 .pre .0, c9 .pre .1, c9 .pre .2, c9 .pre .3, omega (arith, w .1), w .2, c9 .pre .5)
+    (c11 .pre .0, c11 .pre .1, c11 .pre .2, c11 .pre .3, omega (arith, w .1), w .2, c11 .pre .5, c11 .pre .7)
 
 of-quoted-requires : tie.Need-of-quoted-requires
 of-quoted-requires c κs =
     let c2 = c .before .before in
     let c4 = c2 .before .before in
-    let c9 = c4 .before .before .before .before .before in
-    let w = rw (c2 .k2 .given .1) at (c4 .next-token .ensures .1) in (c9 .pre .0, w .1, omega (arith, w .2), c9 .pre .5)
+    let c11 = c4 .before .before .before .before .before .before .before in
+    let w = rw (c2 .k2 .given .1) at (c4 .next-token .ensures .1) in (c11 .pre .0, w .1, omega (arith, w .2), c11 .pre .5)
 
 add-before : tie.Need-add-before
 add-before c =
     let c5 = c .before .before .before .before .before in
     let c7 = c5 .before .before in
-    let c12 = c7 .before .before .before .before .before in
-    let w = rw (c5 .k2 .given .1) at (c7 .next-token .ensures .1) in omega (arith, w .2, c12 .pre .5)
+    let c14 = c7 .before .before .before .before .before .before .before in
+    let w = rw (c5 .k2 .given .1) at (c7 .next-token .ensures .1) in omega (arith, w .2, c14 .pre .5)
 
 returns : tie.Need-returns
 returns c =
     let c3 = c .before .before .before in
-    let c8 = c3 .before .before .before .before .before in
+    let c10 = c3 .before .before .before .before .before .before .before in
     let q = rw (c .before .enum-told .given .1) at (c3 .next-token .ensures .0) in
     subst
-    (λ ts. Gives (c8 .args .out .now) (c8 .args .out .now) (c8 .args .at) (c8 .args .t .now) (c .none-left .result)
-    (readField (kindFor (c8 .args .s .now) (c8 .args .d)) (c8 .args .origin .now) ts)) q
-    (c .none-left .ensures (c8 .args .out .now) (c8 .args .t .now) _ (c8 .args .origin .now) (c8 .pre .4) (sym q) (c8 .pre .6))
+    (λ ts. Gives (c10 .args .out .now) (c10 .args .out .now) (c10 .args .at) (c10 .args .t .now) (c .none-left .result)
+    (readField (namesOf (c10 .args .names .now) (c10 .args .types .now)) (kindFor (c10 .args .s .now) (c10 .args .d)) (c10 .args .origin .now) ts)) q
+    (c .none-left .ensures (namesOf (c10 .args .names .now) (c10 .args .types .now)) (c10 .args .out .now) (c10 .args .t .now) _ (c10 .args .origin .now) (c10 .pre .4) (sym q) (c10 .pre .6))
 
 returns-2 : tie.Need-returns-2
 returns-2 c =
     let c3 = c .before .before .before in
     let c6 = c3 .before .before .before in
     let c8 = c6 .before .before in
-    let c13 = c8 .before .before .before .before .before in
+    let c15 = c8 .before .before .before .before .before .before .before in
     let w = rw (c6 .k .given .1) at (c8 .next-token .ensures .1) in
     rw (c .before2 .ensures)
-    (gives-token _ _ _ _ _ (c13 .pre .6) (c13 .args .origin .now) _ _ (c3 .of-bare .result) _
+    (gives-token (namesOf (c15 .args .names .now) (c15 .args .types .now)) _ _ _ _ _ (c15 .pre .6) (c15 .args .origin .now) _ _ (c3 .of-bare .result) _
     (rw (c6 .k .given .1) at (c8 .next-token .ensures .0)) (c3 .of-bare .ensures) (w .2))
 
 returns-3 : tie.Need-returns-3
@@ -63,18 +64,18 @@ returns-3 c =
     let c3 = c .before .before .before in
     let c6 = c3 .before .before .before in
     let c8 = c6 .before .before in
-    let c13 = c8 .before .before .before .before .before in
+    let c15 = c8 .before .before .before .before .before .before .before in
     let w = rw (c6 .k2 .given .1) at (c8 .next-token .ensures .1) in
     rw (c .before3 .ensures)
-    (gives-token _ _ _ _ _ (c13 .pre .6) (c13 .args .origin .now) _ _ (c3 .of-quoted .result) _
-    (rw (c6 .k2 .given .1) at (c8 .next-token .ensures .0)) (c3 .of-quoted .ensures _ (c13 .args .origin .now))
+    (gives-token (namesOf (c15 .args .names .now) (c15 .args .types .now)) _ _ _ _ _ (c15 .pre .6) (c15 .args .origin .now) _ _ (c3 .of-quoted .result) _
+    (rw (c6 .k2 .given .1) at (c8 .next-token .ensures .0)) (c3 .of-quoted .ensures (namesOf (c15 .args .names .now) (c15 .args .types .now)) _ (c15 .args .origin .now))
     (omega (arith, w .2)))
 
 returns-4 : tie.Need-returns-4
 returns-4 c =
     let c2 = c .before .before in
-    let c7 = c2 .before .before .before .before .before in
-    bad-token _ (c7 .pre .6) (c7 .args .origin .now) _ (rw (c .enum-told2 .given .1) at (c2 .next-token .ensures .0))
+    let c9 = c2 .before .before .before .before .before .before .before in
+    bad-token (namesOf (c9 .args .names .now) (c9 .args .types .now)) _ (c9 .pre .6) (c9 .args .origin .now) _ (rw (c .enum-told2 .given .1) at (c2 .next-token .ensures .0))
 
 pub one-token-spec : {M : Type 1} → statement M
 one-token-spec =

@@ -40,7 +40,7 @@ returns : tie.Need-returns Inv-loop μ-loop
 returns c =
     let c5 = c .before .before .before .before .before in
     let c7 = c5 .before .before in
-    λ o. strings-missing (c7 .loop .inv .4) (c7 .loop .inv .0) o (rw (c .before .enum-told .given .1) at (c5 .string .ensures .0))
+    λ ns o. strings-missing (c7 .loop .inv .4) (c7 .loop .inv .0) ns o (rw (c .before .enum-told .given .1) at (c5 .string .ensures .0))
     (c .if1 .taken)
 
 same-length-2 : tie.Need-same-length-2 Inv-loop μ-loop
@@ -50,8 +50,8 @@ returns-2 : tie.Need-returns-2 Inv-loop μ-loop
 returns-2 c =
     let c5 = c .before .before .before .before .before in
     let c7 = c5 .before .before in
-    λ o. let g = rw (c .before .enum-told .given .1) at (c5 .string .ensures) in let (xs, e, w) = strings-all (c7 .loop .inv .4)
-    (c7 .loop .inv .0) o (g .0) (omega (arith, c .if1 .left)) _ (g .1) in (xs, e, w, c7 .loop .inv .2)
+    λ ns o. let g = rw (c .before .enum-told .given .1) at (c5 .string .ensures) in let (xs, e, w) = strings-all (c7 .loop .inv .4)
+    (c7 .loop .inv .0) ns o (g .0) (omega (arith, c .if1 .left)) _ (g .1) in (xs, e, w, c7 .loop .inv .2)
 
 enum-told-2 : tie.Need-enum-told-2 Inv-loop μ-loop
 enum-told-2 c = search needs
@@ -63,7 +63,7 @@ returns-3 : tie.Need-returns-3 Inv-loop μ-loop
 returns-3 c =
     let c4 = c .before .before .before .before in
     let c6 = c4 .before .before in
-    λ o. strings-bad (c6 .loop .inv .4) (c6 .loop .inv .0) o (rw (c .enum-told2 .given .1) at (c4 .string .ensures .0))
+    λ ns o. strings-bad (c6 .loop .inv .4) (c6 .loop .inv .0) ns o (rw (c .enum-told2 .given .1) at (c4 .string .ensures .0))
 
 enum-known-r : tie.Need-enum-known-r Inv-loop μ-loop
 enum-known-r c = search needs

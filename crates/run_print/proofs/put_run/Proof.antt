@@ -1,3 +1,6 @@
+use borrow.Author.Tests.{eqb-true}
+use Rattle.catalogue.specs.Entries.{namesOf}
+use Rattle.catalogue.proofs.Laws.{listed-sound}
 use Rattle.run_print.proofs.Runs.{turn, field-short, text-went, went-bound, run-done}
 use Rattle.run_print.specs.Printing.{lead}
 use Rattle.run_wire.proofs.Laws.{all-kinds}
@@ -19,65 +22,68 @@ use Rattle.run_print.proofs.put_run.Tie as tie
 use Rattle.run_print.proofs.put_run.Reads as reads
 use Rattle.run_print.proofs.put_run.Lts as lts
 use Rattle.stanza_form.proofs.field.Reads as field-reads
-use Rattle.field_print.proofs.width.Reads as width-reads
+use Rattle.run_print.proofs.field_width.Reads as field-width-reads
 use Rattle.run_print.proofs.put_next.Reads as put-next-reads
 
 -- The first k fields, from the octets before i, are written; writing the text of the others from `at` on, after a space
 -- if neither text is empty, would give the text of the whole run.
 abbrev Inv-loop : tie.InvT-loop
-Inv-loop out₀ codes first many s p at₀ i₀ k₀ out at i k =
-    (k ≤ many) × (i ≤ length p) × (at ≤ 4 * i + 655424 * k) ×
+Inv-loop out₀ codes first many s types names p at₀ i₀ k₀ out at i k =
+    (k ≤ many) × (i ≤ length p) × (at ≤ 4 * i + 687680 * k) ×
     ((ps : List (List ℕ)) × (partsOf (kindsFrom s (fieldsOf codes) (first + k) (many - k)) (drop i p) ≡ parts ps)) × Left out₀ 0
-    (textOf (kindsFrom s (fieldsOf codes) first many) p) out at
-    (lead at (textOf (kindsFrom s (fieldsOf codes) (first + k) (many - k)) (drop i p)))
+    (textOf (namesOf names types) (kindsFrom s (fieldsOf codes) first many) p) out at
+    (lead at (textOf (namesOf names types) (kindsFrom s (fieldsOf codes) (first + k) (many - k)) (drop i p)))
 
 abbrev μ-loop : tie.MeasureT-loop
-μ-loop out₀ codes first many s p at₀ i₀ k₀ out at i k = many - k
+μ-loop out₀ codes first many s types names p at₀ i₀ k₀ out at i k = many - k
 
 loop-holds : tie.Need-loop-holds Inv-loop μ-loop
 loop-holds c =
-    let c3 = c .before .before .before in (
+    let c5 = c .before .before .before .before .before in (
       search needs,
       search needs,
       omega arith,
-      subst (λ ks. (ps : List (List ℕ)) × (partsOf ks (c3 .args .p .now) ≡ parts ps))
-          (sym (all-kinds (c3 .args .s .now) (fieldsOf (c3 .args .codes .now)) (c3 .args .first) (c3 .args .many))) (c3 .pre .taken-all),
+      subst (λ ks. (ps : List (List ℕ)) × (partsOf ks (c5 .args .p .now) ≡ parts ps))
+          (sym (all-kinds (c5 .args .s .now) (fieldsOf (c5 .args .codes .now)) (c5 .args .first) (c5 .args .many))) (c5 .pre .0 .taken-all),
       subst
-          (λ ks. Left (c3 .args .out .now) 0
-          (textOf (kindsFrom (c3 .args .s .now) (fieldsOf (c3 .args .codes .now)) (c3 .args .first) (c3 .args .many)) (c3 .args .p .now))
-          (c3 .args .out .now) 0 (textOf ks (c3 .args .p .now)))
-          (sym (all-kinds (c3 .args .s .now) (fieldsOf (c3 .args .codes .now)) (c3 .args .first) (c3 .args .many))) (left-all _ _ _),
+          (λ ks. Left (c5 .args .out .now) 0
+          (textOf (namesOf (c5 .args .names .now) (c5 .args .types .now)) (kindsFrom (c5 .args .s .now) (fieldsOf (c5 .args .codes .now)) (c5 .args .first) (c5 .args .many)) (c5 .args .p .now))
+          (c5 .args .out .now) 0 (textOf (namesOf (c5 .args .names .now) (c5 .args .types .now)) ks (c5 .args .p .now)))
+          (sym (all-kinds (c5 .args .s .now) (fieldsOf (c5 .args .codes .now)) (c5 .args .first) (c5 .args .many))) (left-all _ _ _),
     )
 
 add-field : tie.Need-add-field Inv-loop μ-loop
 add-field c =
-    let c5 = c .before .before .before .before .before in
-    omega (arith, c5 .pre .usable .within)
+    let c7 = c .before .before .before .before .before .before .before in
+    omega (arith, c7 .pre .0 .usable .within)
 
 mul-field : tie.Need-mul-field Inv-loop μ-loop
 mul-field c = search needs
 
 element-copy-out-field : tie.Need-element-copy-out-field Inv-loop μ-loop
 element-copy-out-field c =
-    let c5 = c .before .before .before .before .before in
-    omega (arith, c5 .pre .usable .within)
+    let c7 = c .before .before .before .before .before .before .before in
+    omega (arith, c7 .pre .0 .usable .within)
 
 field-requires : tie.Need-field-requires Inv-loop μ-loop
 field-requires c κs = search needs
 
-width-requires : tie.Need-width-requires Inv-loop μ-loop
-width-requires c κs = search needs
+add-field-width : tie.Need-add-field-width Inv-loop μ-loop
+add-field-width c = search needs
+
+field-width-requires : tie.Need-field-width-requires Inv-loop μ-loop
+field-width-requires c κs = search needs
 
 add-e : tie.Need-add-e Inv-loop μ-loop
 add-e c =
     let c3 = c .before .before .before in
     let c4 = c3 .before in
-    let c8 = c4 .before .before .before .before in
+    let c10 = c4 .before .before .before .before .before .before in
     omega (
       arith,
-      turn (c8 .args .s .now) (fieldsOf (c8 .args .codes .now)) (c8 .args .first) (c8 .args .many) (c8 .args .p .now) (c4 .loop .k)
+      turn (namesOf (c10 .args .names .now) (c10 .args .types .now)) (c10 .args .s .now) (fieldsOf (c10 .args .codes .now)) (c10 .args .first) (c10 .args .many) (c10 .args .p .now) (c4 .loop .k)
           (c4 .loop .i) (c3 .loop-test .taken) (c4 .loop .inv .1) (c4 .loop .inv .3) (c .before .field .result)
-          (read-at (c8 .args .codes .now) _ (c .before .field .ensures)) (c .width .result) (c .width .ensures) .within,
+          (read-at (c10 .args .codes .now) _ (c .before .field .ensures)) _ (λ x. eqb-true _ _ x) (c .field-width .result) (c .field-width .ensures) .within,
     )
 
 put-next-requires : tie.Need-put-next-requires Inv-loop μ-loop
@@ -85,18 +91,19 @@ put-next-requires c κs =
     let c2 = c .before .before in
     let c4 = c2 .before .before in
     let c5 = c4 .before in
-    let c9 = c5 .before .before .before .before in
-    let z = turn (c9 .args .s .now) (fieldsOf (c9 .args .codes .now)) (c9 .args .first) (c9 .args .many) (c9 .args .p .now) (c5 .loop .k)
+    let c11 = c5 .before .before .before .before .before .before in
+    let z = turn (namesOf (c11 .args .names .now) (c11 .args .types .now)) (c11 .args .s .now) (fieldsOf (c11 .args .codes .now)) (c11 .args .first) (c11 .args .many) (c11 .args .p .now) (c5 .loop .k)
     (c5 .loop .i) (c4 .loop-test .taken) (c5 .loop .inv .1) (c5 .loop .inv .3) (c2 .field .result)
-    (read-at (c9 .args .codes .now) _ (c2 .field .ensures)) (c .before .width .result) (c .before .width .ensures) in (
-      omega (arith, c5 .loop .inv .2, c5 .loop .inv .1, c9 .pre .short, c9 .pre .usable .within),
-      subst (Usable (c9 .args .s .now)) (sym (read-at (c9 .args .codes .now) _ (c2 .field .ensures)))
-          (c9 .pre .usable .fields (c5 .loop .k) (c4 .loop-test .taken)),
-      c9 .pre .usable .short,
+    (read-at (c11 .args .codes .now) _ (c2 .field .ensures)) _ (λ x. eqb-true _ _ x) (c .before .field-width .result) (c .before .field-width .ensures) in (
+      omega (arith, c5 .loop .inv .2, c5 .loop .inv .1, c11 .pre .0 .short, c11 .pre .0 .usable .within),
+      subst (Usable (c11 .args .s .now)) (sym (read-at (c11 .args .codes .now) _ (c2 .field .ensures)))
+          (c11 .pre .0 .usable .fields (c5 .loop .k) (c4 .loop-test .taken)),
+      c11 .pre .0 .usable .short,
       omega arith,
       z .within,
-      c9 .pre .short,
+      c11 .pre .0 .short,
       z .takes,
+      c11 .pre .1,
     )
 
 add-k : tie.Need-add-k Inv-loop μ-loop
@@ -113,22 +120,22 @@ loop-again c =
     let c7 = c5 .before .before in
     let c8 = c7 .before in
     let c9 = c8 .before in
-    let c12 = c9 .before .before .before in
-    let z = turn (c12 .args .s .now) (fieldsOf (c12 .args .codes .now)) (c12 .args .first) (c12 .args .many) (c12 .args .p .now)
+    let c14 = c9 .before .before .before .before .before in
+    let z = turn (namesOf (c14 .args .names .now) (c14 .args .types .now)) (c14 .args .s .now) (fieldsOf (c14 .args .codes .now)) (c14 .args .first) (c14 .args .many) (c14 .args .p .now)
     (c8 .loop .k) (c8 .loop .i) (c7 .loop-test .taken) (c8 .loop .inv .1) (c8 .loop .inv .3) (c5 .field .result)
-    (read-at (c12 .args .codes .now) _ (c5 .field .ensures)) (c4 .width .result) (c4 .width .ensures) in (
+    (read-at (c14 .args .codes .now) _ (c5 .field .ensures)) _ (λ x. eqb-true _ _ x) (c4 .field-width .result) (c4 .field-width .ensures) in (
       search needs,
       z .within,
       omega (
         arith,
         c8 .loop .inv .2,
         went-bound
-            (shown (kindFor (c12 .args .s .now) (c5 .field .result))
-            (slice (c8 .loop .i) (c8 .loop .i + c4 .width .result) (c12 .args .p .now))) _
-            (field-short (c12 .args .s .now) (c5 .field .result)
-            (subst (Usable (c12 .args .s .now)) (sym (read-at (c12 .args .codes .now) _ (c5 .field .ensures)))
-            (c12 .pre .usable .fields (c8 .loop .k) (c7 .loop-test .taken))) (c12 .args .p .now) (c8 .loop .i)
-            (c8 .loop .i + c4 .width .result) (λ j. omega (arith, c9 .shared-slice-known2 .given j)) (z .within) (z .takes))
+            (shown (namesOf (c14 .args .names .now) (c14 .args .types .now)) (kindFor (c14 .args .s .now) (c5 .field .result))
+            (slice (c8 .loop .i) (c8 .loop .i + c4 .field-width .result) (c14 .args .p .now))) _
+            (field-short (namesOf (c14 .args .names .now) (c14 .args .types .now)) (listed-sound (c14 .args .names .now) (c14 .args .types .now) (c14 .pre .1)) (c14 .args .s .now) (c5 .field .result)
+            (subst (Usable (c14 .args .s .now)) (sym (read-at (c14 .args .codes .now) _ (c5 .field .ensures)))
+            (c14 .pre .0 .usable .fields (c8 .loop .k) (c7 .loop-test .taken))) (c14 .args .p .now) (c8 .loop .i)
+            (c8 .loop .i + c4 .field-width .result) (λ j. omega (arith, c9 .shared-slice-known4 .given j)) (z .within) (z .takes))
             (c2 .put-next .ensures),
       ),
       z .others,
@@ -140,10 +147,10 @@ same-length c = search needs
 
 returns : tie.Need-returns Inv-loop μ-loop
 returns c =
-    let c5 = c .before .before .before .before .before in
+    let c7 = c .before .before .before .before .before .before .before in
     left-none (c .before .loop .inv .4)
-    (run-done (c5 .args .s .now) (fieldsOf (c5 .args .codes .now)) (c5 .args .first) (c5 .args .many) (c .before .loop .k)
-    (drop (c .before .loop .i) (c5 .args .p .now)) (c .before .loop .at) (c .loop-test .left) (c .before .loop .inv .3))
+    (run-done (namesOf (c7 .args .names .now) (c7 .args .types .now)) (c7 .args .s .now) (fieldsOf (c7 .args .codes .now)) (c7 .args .first) (c7 .args .many) (c .before .loop .k)
+    (drop (c .before .loop .i) (c7 .args .p .now)) (c .before .loop .at) (c .loop-test .left) (c .before .loop .inv .3))
 
 pub put-run-spec : {M : Type 1} → statement M
 put-run-spec =
@@ -156,7 +163,8 @@ put-run-spec =
     mul-field
     element-copy-out-field
     field-requires
-    width-requires
+    add-field-width
+    field-width-requires
     add-e
     put-next-requires
     add-k

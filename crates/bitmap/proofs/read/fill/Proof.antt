@@ -1,5 +1,6 @@
 use Rattle.bitmap.proofs.Plain.{after-one, after-all}
 use Rattle.bitmap.specs.Reading.{typesRead}
+use Rattle.catalogue.specs.Entries.{namesOf}
 use Rattle.bitmap_picture.specs.Windows.{Holds}
 use lib.ListN.{length, drop}
 use mathlib.Core.List.{List, [], _∷_, _++_}
@@ -14,18 +15,14 @@ use Rattle.bitmap.proofs.read.fill.Tie as tie
 
 -- The picture holds the types of the tokens before j; they, and the types read from j on, are all the types.
 abbrev Inv-loop : tie.InvT-loop
-Inv-loop m₀ t i top₀ j₀ m top j =
-    (j ≤ length t) × (top ≤ 256) × ((ts : List ℕ) × Holds m top ts × (typesRead (drop i t) ≡ after ts (typesRead (drop j t))))
+Inv-loop m₀ types names t i top₀ j₀ m top j =
+    (j ≤ length t) × (top ≤ 256) × ((ts : List ℕ) × Holds m top ts × (typesRead (namesOf names types) (drop i t) ≡ after ts (typesRead (namesOf names types) (drop j t))))
 
 abbrev μ-loop : tie.MeasureT-loop
-μ-loop m₀ t i top₀ j₀ m top j = length t - j
+μ-loop m₀ types names t i top₀ j₀ m top j = length t - j
 
 loop-holds : tie.Need-loop-holds Inv-loop μ-loop
-loop-holds c = (
-  search needs,
-  search needs,
-  ([], c .before .pre .2, sym (after-none (typesRead (drop (c .before .args .i) (c .before .args .t .now))))),
-)
+loop-holds c = (search needs, search needs, ([], c .before .before .before .pre .2, sym (after-none _)))
 
 next-type-requires : tie.Need-next-type-requires Inv-loop μ-loop
 next-type-requires c κs = search needs
@@ -61,7 +58,7 @@ loop-again c =
     let c3 = c .before .before .before in
     let c5 = c3 .before .before in
     let c6 = c5 .before in
-    let c8 = c6 .before .before in
+    let c10 = c6 .before .before .before .before in
     let (ts, h, q) = c6 .loop .inv .2 in
     let v = c3 .k .given .0 .0 in
     let e = c3 .k .given .0 .1 .0 in
@@ -72,7 +69,7 @@ loop-again c =
         ts ++ v ∷ [],
         c .mark .ensures .1 ts h,
         q ∙ ap (after ts) (sym (rw (c3 .k .given .1) at (c5 .next-type .ensures .0)))
-            ∙ after-one ts v (typesRead (drop e (c8 .args .t .now))),
+            ∙ after-one ts v (typesRead (namesOf (c10 .args .names .now) (c10 .args .types .now)) (drop e (c10 .args .t .now))),
       ),
     )
 

@@ -11,8 +11,8 @@ use borrow.Author.Needs.{needs}
 use Rattle.bitmap.proofs.read.last_type.Statement.{statement}
 use Rattle.bitmap.proofs.read.last_type.Tie as tie
 
-type-of-requires : tie.Need-type-of-requires
-type-of-requires c κs =
+plain-requires : tie.Need-plain-requires
+plain-requires c κs =
     let c2 = c .before .before in
     let c5 = c2 .before .before .before in (
       omega (arith, c2 .skip .ensures),
@@ -27,13 +27,15 @@ returns-2 : tie.Need-returns-2
 returns-2 c =
     let c2 = c .before .before in
     let c3 = c2 .before in
-    let c6 = c3 .before .before .before in
-    let t = c6 .args .t .now in
-    let e = c3 .skip .result in
-    rw (c .type-of .ensures)
-    (found-plain t (c6 .args .i) e (omega (arith, c3 .skip .ensures))
-    (omega (arith, c3 .skip .ensures, front-within digit t (c6 .args .i + 4) (length t) (omega arith) (omega arith)))
-    (sym (c2 .parted-at .ensures) ∙ c .before .if2 .taken) (typeNumber (slice (c6 .args .i) e t)) refl)
+    let c4 = c3 .before in
+    let c7 = c4 .before .before .before in
+    let t = c7 .args .t .now in
+    let e = c4 .skip .result in
+    let o = typeNumber (slice (c7 .args .i) e t) in
+    rw (c .found .ensures o (c .before .plain .ensures))
+    (found-plain t (c7 .args .i) e (omega (arith, c4 .skip .ensures))
+    (omega (arith, c4 .skip .ensures, front-within digit t (c7 .args .i + 4) (length t) (omega arith) (omega arith)))
+    (sym (c3 .parted-at .ensures) ∙ c2 .if2 .taken) o refl)
 
 pub last-type-spec : {M : Type 1} → statement M
 last-type-spec =
@@ -44,6 +46,7 @@ last-type-spec =
     (λ c. search needs)
     (λ c κs. search needs)
     (λ c κs. search needs)
-    type-of-requires
+    plain-requires
+    (λ c κs. search needs)
     returns-2
     (λ c. search needs))

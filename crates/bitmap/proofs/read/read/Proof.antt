@@ -7,7 +7,7 @@ use Rattle.bitmap.proofs.read.read.Statement.{statement}
 use Rattle.bitmap.proofs.read.read.Tie as tie
 
 fill-requires : tie.Need-fill-requires
-fill-requires c κs = (search needs, search needs, blank)
+fill-requires c κs = (search needs, search needs, blank, search needs)
 
 put-blocks-requires : tie.Need-put-blocks-requires
 put-blocks-requires c κs =

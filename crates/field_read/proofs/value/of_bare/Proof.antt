@@ -21,30 +21,30 @@ use Rattle.time.proofs.read.field.Reads as read-field-reads
 field-requires : tie.Need-field-requires
 field-requires c κs =
     let c2 = c .before .before in
-    let c10 = c2 .before .before .before .before .before .before .before .before in (
-      c10 .pre .0,
-      int-four (c10 .args .s .now) (c10 .args .d) (c10 .pre .1) (c2 .f .given .0 .0) (c2 .f .given .1),
-      c10 .pre .1 .placed .from,
-      c10 .pre .1 .placed .to,
-      c10 .pre .2,
-      c10 .pre .4,
-      c10 .pre .5,
+    let c12 = c2 .before .before .before .before .before .before .before .before .before .before in (
+      c12 .pre .0,
+      int-four (c12 .args .s .now) (c12 .args .d) (c12 .pre .1) (c2 .f .given .0 .0) (c2 .f .given .1),
+      c12 .pre .1 .placed .from,
+      c12 .pre .1 .placed .to,
+      c12 .pre .2,
+      c12 .pre .4,
+      c12 .pre .5,
     )
 
 field-requires-3 : tie.Need-field-requires-3
 field-requires-3 c κs =
     let c2 = c .before .before in
-    let c10 = c2 .before .before .before .before .before .before .before .before in
-    (c10 .pre .0, eui-eight (c2 .f2 .given .0 .0) (rw (c2 .f2 .given .1) at (c10 .pre .1 .sound)), c10 .pre .4, c10 .pre .5, c10 .pre .6)
+    let c12 = c2 .before .before .before .before .before .before .before .before .before .before in
+    (c12 .pre .0, eui-eight (c2 .f2 .given .0 .0) (rw (c2 .f2 .given .1) at (c12 .pre .1 .sound)), c12 .pre .4, c12 .pre .5, c12 .pre .6)
 
 returns : tie.Need-returns
 returns c =
     let c2 = c .before .before in
     let c5 = c2 .before .before .before in
-    let c13 = c5 .before .before .before .before .before .before .before .before in
+    let c15 = c5 .before .before .before .before .before .before .before .before .before .before in
     rw (c5 .f .given .1)
-    (c2 .field .ensures (symbolsOf (c13 .args .s .now) (c13 .args .d) (c13 .pre .1) (c5 .f .given .0 .0) (c5 .f .given .1))
-    (symbols-of (c13 .args .s .now) (c13 .args .d) (c13 .pre .1) (c5 .f .given .0 .0) (c5 .f .given .1)))
+    (c2 .field .ensures (symbolsOf (c15 .args .s .now) (c15 .args .d) (c15 .pre .1) (c5 .f .given .0 .0) (c5 .f .given .1))
+    (symbols-of (c15 .args .s .now) (c15 .args .d) (c15 .pre .1) (c5 .f .given .0 .0) (c5 .f .given .1)))
 
 returns-2 : tie.Need-returns-2
 returns-2 c =

@@ -11,18 +11,18 @@ returns : tie.Need-returns
 returns c =
     let c2 = c .before .before in
     let c4 = c2 .before .before in
-    λ l o. rw (c4 .enum-told .given .1) (c2 .string .ensures)
+    λ ns l o. rw (c4 .enum-told .given .1) (c2 .string .ensures)
 
 returns-2 : tie.Need-returns-2
 returns-2 c =
     let c2 = c .before .before in
     let c4 = c2 .before .before in
-    λ l o. rw (c4 .enum-told2 .given .1) (c2 .raw .ensures)
+    λ ns l o. rw (c4 .enum-told2 .given .1) (c2 .raw .ensures)
 
 returns-3 : tie.Need-returns-3
 returns-3 c =
     let c4 = c .before .before .before .before in
-    λ l o. only-strings (c4 .args .f) (c .before .match .keys2) (c .match2 .keys2) l o _
+    λ ns l o. only-strings ns (c4 .args .f) (c .before .match .keys2) (c .match2 .keys2) l o _
 
 pub of-quoted-spec : {M : Type 1} → statement M
 of-quoted-spec =
