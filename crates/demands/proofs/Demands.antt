@@ -17,19 +17,20 @@ use Rattle.format.specs.Field.{Kind, kinds}
 use Rattle.format.specs.Wire.{taken as wireTaken}
 use Rattle.format.specs.Name.{isWireName}
 use Rattle.format.specs.Judge.{Description, Judged, rejected, described, judged}
+use Rattle.format.specs.Catalogue.{Entry, TypeName, known, catalogued}
 use Rattle.format.specs.Run.{partsOf, isParts, maxRdata, accepts, joined, textOf}
-use Rattle.format.specs.Entries.{Answer, done, refusal, maxText, room, stored, isRun, run, ifRoom, outcome, printing, print, reading, read, judgeOutcome, judge}
+use Rattle.format.specs.Entries.{Answer, done, refusal, maxText, room, stored, isRun, run, ifRoom, Outcome, outcome, printingWith, printWith, readingWith, readWith, judgeOutcome, judge}
 use Rattle.format.specs.Demands.{Prints, RoundTrip, Divides, wholeList, firstList, secondList, Cuts}
 use Rattle.format.proofs.Lists.{and-left}
 use Rattle.format.proofs.Judge.{judges}
-use Rattle.format.proofs.Demands.{demand-2, demand-3, prints, read-accepted, kinds-length}
+use Rattle.format.proofs.Demands.{demand-2, demand-3, prints, read-accepted, bad-catalogue, kinds-length}
 use Rattle.demands.proofs.ReadOctets.{read-octets}
-use Rattle.demands.specs.Demands.{JudgeCall, PrintCall, ReadCall, Answered, Keeps, FirstDemand, taken, accepted, written, rdataOf, Answers, Returns, RunOf, SecondDemand, CutCalls, EmptyCall, ThirdDemand}
+use Rattle.demands.specs.Demands.{JudgeCall, PrintCall, ReadCall, Answered, Keeps, FirstDemand, taken, accepted, written, rdataOf, Answers, Returns, BadNames, RunOf, SecondDemand, CutCalls, EmptyCall, ThirdDemand}
 use Rattle.entry.specs.declared.Reply.{Reply}
 use Rattle.entry.specs.Entries.{Replies, Leaves}
-use Rattle.entry.specs.Refusals.{no-room, judgeNumbers, printNumbers, readNumbers}
-use Rattle.entry.proofs.Refusals.{apart, Row, row-wider, stanza-rejected, printRefusals, readRefusals, Rows, print-rows, read-rows, not-zero}
-use Rattle.entry.proofs.Numbers.{print-told, read-told, zero-done, HasRun, print-run, read-short, read-run}
+use Rattle.entry.specs.Refusals.{no-room, judgeNumbers}
+use Rattle.entry.proofs.Refusals.{apart, Row, row-wider, stanza-rejected, printRefusals, readRefusals, Rows, print-rows, read-rows, print-rows-old, read-rows-old, not-zero}
+use Rattle.entry.proofs.Numbers.{print-with-told, read-with-told, zero-done, HasRun, print-run, read-short, read-run}
 
 -- the octets of a stored text
 stored-text : (out : List ℕ) (at : ℕ) (t : List ℕ) → length t ≤ room out at → take (length t) (drop at (stored out at t)) ≡ t
@@ -46,34 +47,35 @@ nothing-stored out at = ap (λ i. take at out ++ [] ++ drop i out) (add-zero at)
 no-answer : (n : ℕ) → among n (1 ∷ 8 ∷ 9 ∷ 10 ∷ []) ≡ true → among n (0 ∷ 12 ∷ []) ≡ false
 no-answer n h = apart n (1 ∷ 8 ∷ 9 ∷ 10 ∷ []) (0 ∷ 12 ∷ []) refl h
 
-module _ (ks : List Kind) (stanza : List ℕ) (first many : ℕ) (xs : List ℕ) (p : Prints stanza first many ks xs) (c : PrintCall stanza first many xs) where
+module _ (es : List Entry) (names : List ℕ) (types : List TypeName) (ks : List Kind) (stanza : List ℕ) (first many : ℕ) (xs : List ℕ) (p : Prints es names types stanza first many ks xs)
+    (c : PrintCall es names stanza first many xs) where
   -- the three ways to answer
   data Way : Type 0 where
-    written-text : accepts ks xs ≡ true → length (textOf ks xs) ≤ room (c .out) (c .at) → c .reply .number ≡ 0 → c .reply .place ≡ length (textOf ks xs)
-        → c .after ≡ stored (c .out) (c .at) (textOf ks xs) → Way
-    lacking-room : accepts ks xs ≡ true → room (c .out) (c .at) < length (textOf ks xs) → c .reply .number ≡ 12 → c .reply .place ≡ length (textOf ks xs) → c .after ≡ c .out → Way
+    written-text : accepts ks xs ≡ true → length (textOf types ks xs) ≤ room (c .out) (c .at) → c .reply .number ≡ 0 → c .reply .place ≡ length (textOf types ks xs)
+        → c .after ≡ stored (c .out) (c .at) (textOf types ks xs) → Way
+    lacking-room : accepts ks xs ≡ true → room (c .out) (c .at) < length (textOf types ks xs) → c .reply .number ≡ 12 → c .reply .place ≡ length (textOf types ks xs) → c .after ≡ c .out → Way
     refusing : accepts ks xs ≡ false → among (c .reply .number) (1 ∷ 8 ∷ 9 ∷ 10 ∷ []) ≡ true → c .after ≡ c .out → Way
 
   way : Way
-  way = by (accepts ks xs) refl (decLe (length (textOf ks xs)) (room (c .out) (c .at)))
+  way = by (accepts ks xs) refl (decLe (length (textOf types ks xs)) (room (c .out) (c .at)))
     where
-      by : (b : Bool) → accepts ks xs ≡ b → Dec (length (textOf ks xs) ≤ room (c .out) (c .at)) → Way
+      by : (b : Bool) → accepts ks xs ≡ b → Dec (length (textOf types ks xs) ≤ room (c .out) (c .at)) → Way
       by true a (yes l) =
           let e = p .enough-room a (c .out) (c .at) l in
           written-text a l (c .promise .numbers ∙ ap (λ o. o .number) e) (c .promise .places ∙ ap (λ o. o .place) e) (c .promise .octets ∙ ap (λ o. o .lent) e)
       by true a (no l) =
-          let m : room (c .out) (c .at) < length (textOf ks xs) = omega arith in
+          let m : room (c .out) (c .at) < length (textOf types ks xs) = omega arith in
           let e = p .no-room a (c .out) (c .at) m in
           lacking-room a m (c .promise .numbers ∙ ap (λ o. o .number) e) (c .promise .places ∙ ap (λ o. o .place) e) (c .promise .octets ∙ ap (λ o. o .lent) e)
       by false a l = let e = p .refuses a (c .out) (c .at) in refusing a (rw (c .promise .numbers) (e .0)) (c .promise .octets ∙ e .1)
 
-  answers : Answers ks stanza first many xs c
+  answers : Answers es names types ks stanza first many xs c
   answers = by way
     where
-      by : Way → Answers ks stanza first many xs c
+      by : Way → Answers es names types ks stanza first many xs c
       by (written-text a l n q r) = record {
         exactly = rw (n, a);
-        text = λ z. (q, rw (q, r) (stored-text (c .out) (c .at) (textOf ks xs) l), r);
+        text = λ z. (q, rw (q, r) (stored-text (c .out) (c .at) (textOf types ks xs) l), r);
         needed = λ z. absurd (omega (arith, n, z));
         refused = λ z. absurd (true≢false (rw n at z));
       }
@@ -91,38 +93,41 @@ module _ (ks : List Kind) (stanza : List ℕ) (first many : ℕ) (xs : List ℕ)
       }
 
 -- if a call answers 0, its list accepts
-done-accepts : (ks : List Kind) (stanza : List ℕ) (first many : ℕ) (xs : List ℕ) (c : PrintCall stanza first many xs) → Answers ks stanza first many xs c → c .reply .number ≡ 0 → accepts ks xs ≡ true
-done-accepts ks stanza first many xs c a z = sym (a .exactly) ∙ rw z
+done-accepts : {es : List Entry} {names : List ℕ} (types : List TypeName) (ks : List Kind) (stanza : List ℕ) (first many : ℕ) (xs : List ℕ) (c : PrintCall es names stanza first many xs)
+    → Answers es names types ks stanza first many xs c → c .reply .number ≡ 0 → accepts ks xs ≡ true
+done-accepts types ks stanza first many xs c a z = sym (a .exactly) ∙ rw z
 
-module _ (stanza : List ℕ) (d : Description) (j : judged stanza ≡ described d) (k : ℕ) (h : k ≤ length (d .fields)) (xs : List ℕ) (m : length xs ≤ maxRdata) where
+module _ (es : List Entry) (names : List ℕ) (types : List TypeName) (n : catalogued names es ≡ known types)
+    (stanza : List ℕ) (d : Description) (j : judged stanza ≡ described d) (k : ℕ) (h : k ≤ length (d .fields)) (xs : List ℕ) (m : length xs ≤ maxRdata) where
   ks : List Kind
   ks = kinds (d .fields)
 
-  cuts : Cuts stanza (kinds (d .fields)) k xs
-  cuts = demand-3 stanza d j k h xs m
+  cuts : Cuts es names types stanza (kinds (d .fields)) k xs
+  cuts = demand-3 es names types n stanza d j k h xs m
 
-  module _ (whole : PrintCall stanza 1 (length (kinds (d .fields))) xs) (front : (e : ℕ) → PrintCall stanza 1 k (take e xs)) (back : (e : ℕ) → PrintCall stanza (k + 1) (length (kinds (d .fields)) - k) (drop e xs)) where
-    whole-way : Answers (wholeList (kinds (d .fields))) stanza 1 (length (kinds (d .fields))) xs whole
-    whole-way = answers (wholeList (kinds (d .fields))) stanza 1 (length (kinds (d .fields))) xs (cuts .whole-prints) whole
+  module _ (whole : PrintCall es names stanza 1 (length (kinds (d .fields))) xs) (front : (e : ℕ) → PrintCall es names stanza 1 k (take e xs))
+      (back : (e : ℕ) → PrintCall es names stanza (k + 1) (length (kinds (d .fields)) - k) (drop e xs)) where
+    whole-way : Answers es names types (wholeList (kinds (d .fields))) stanza 1 (length (kinds (d .fields))) xs whole
+    whole-way = answers es names types (wholeList (kinds (d .fields))) stanza 1 (length (kinds (d .fields))) xs (cuts .whole-prints) whole
 
-    front-way : (e : ℕ) → Answers (firstList (kinds (d .fields)) k) stanza 1 k (take e xs) (front e)
-    front-way e = answers (firstList (kinds (d .fields)) k) stanza 1 k (take e xs) (cuts .first-prints e) (front e)
+    front-way : (e : ℕ) → Answers es names types (firstList (kinds (d .fields)) k) stanza 1 k (take e xs) (front e)
+    front-way e = answers es names types (firstList (kinds (d .fields)) k) stanza 1 k (take e xs) (cuts .first-prints e) (front e)
 
-    back-way : (e : ℕ) → Answers (secondList (kinds (d .fields)) k) stanza (k + 1) (length (kinds (d .fields)) - k) (drop e xs) (back e)
-    back-way e = answers (secondList (kinds (d .fields)) k) stanza (k + 1) (length (kinds (d .fields)) - k) (drop e xs) (cuts .second-prints e) (back e)
+    back-way : (e : ℕ) → Answers es names types (secondList (kinds (d .fields)) k) stanza (k + 1) (length (kinds (d .fields)) - k) (drop e xs) (back e)
+    back-way e = answers es names types (secondList (kinds (d .fields)) k) stanza (k + 1) (length (kinds (d .fields)) - k) (drop e xs) (cuts .second-prints e) (back e)
 
     divided : (e : ℕ) → e ≤ length xs → accepted (front e) ≡ true → accepted (back e) ≡ true → Divides (firstList (kinds (d .fields)) k) (secondList (kinds (d .fields)) k) xs e
     divided e l a b = record { within = l; front = sym (front-way e .exactly) ∙ a; back = sym (back-way e .exactly) ∙ b }
 
-    cut-calls : CutCalls stanza (kinds (d .fields)) k xs whole front back
+    cut-calls : CutCalls es names types stanza (kinds (d .fields)) k xs whole front back
     cut-calls = record {
       divides = (
         λ a. let (e, v) = cuts .accepted .0 (sym (whole-way .exactly) ∙ a) in (e, v .within, front-way e .exactly ∙ v .front, back-way e .exactly ∙ v .back),
         λ (e, l, a, b). whole-way .exactly ∙ cuts .accepted .1 (e, divided e l a b),
       );
       no-other = λ e l a b f w u. by f (cuts .no-other e (divided e l a b) f w u);
-      texts = λ e l a b c. whole-way .text a .1 ∙ cuts .text e (record { within = l; front = done-accepts _ _ _ _ _ (front e) (front-way e) b; back = done-accepts _ _ _ _ _ (back e) (back-way e) c })
-          ∙ ap (λ t. joined t (textOf (secondList (kinds (d .fields)) k) (drop e xs))) (sym (front-way e .text b .1)) ∙ ap (joined (written (front e))) (sym (back-way e .text c .1));
+      texts = λ e l a b c. whole-way .text a .1 ∙ cuts .text e (record { within = l; front = done-accepts types _ _ _ _ _ (front e) (front-way e) b; back = done-accepts types _ _ _ _ _ (back e) (back-way e) c })
+          ∙ ap (λ t. joined t (textOf types (secondList (kinds (d .fields)) k) (drop e xs))) (sym (front-way e .text b .1)) ∙ ap (joined (written (front e))) (sym (back-way e .text c .1));
       whole-answers = whole-way;
       front-answers = front-way;
       back-answers = back-way;
@@ -132,17 +137,17 @@ module _ (stanza : List ℕ) (d : Description) (j : judged stanza ≡ described 
         by f (inl a) = inl (front-way f .exactly ∙ a)
         by f (inr b) = inr (back-way f .exactly ∙ b)
 
-  empty-call : (c : PrintCall stanza (k + 1) 0 xs) → EmptyCall stanza k xs c
+  empty-call : (c : PrintCall es names stanza (k + 1) 0 xs) → EmptyCall es names stanza k xs c
   empty-call c = record { only = (λ e. cuts .nothing .0 (sym (way-to .exactly) ∙ e), λ e. way-to .exactly ∙ cuts .nothing .1 e); none = λ e. by e (cuts .nothing .0 (sym (way-to .exactly) ∙ e)) }
     where
       is-run : isRun (k + 1) 0 (kinds (d .fields)) ≡ true
       is-run = rw (le-leb 1 (k + 1) (omega arith), le-leb (k + 1 - 1 + 0) (length (kinds (d .fields))) (omega (arith, kinds-length (d .fields))))
 
-      way-to : Answers [] stanza (k + 1) 0 xs c
-      way-to = answers [] stanza (k + 1) 0 xs (prints stanza d j (k + 1) 0 is-run xs) c
+      way-to : Answers es names types [] stanza (k + 1) 0 xs c
+      way-to = answers es names types [] stanza (k + 1) 0 xs (prints es names types n stanza d j (k + 1) 0 is-run xs) c
 
-      text-none : xs ≡ [] → length (textOf [] xs) ≡ 0
-      text-none e = ap length (ap (textOf []) e ∙ cuts .no-text)
+      text-none : xs ≡ [] → length (textOf types [] xs) ≡ 0
+      text-none e = ap length (ap (textOf types []) e ∙ cuts .no-text)
 
       by : accepted c ≡ true → xs ≡ [] → (c .reply .number ≡ 0) × (c .reply .place ≡ 0) × (c .after ≡ c .out)
       by e q = on (eqb (c .reply .number) 0) refl (eqb (c .reply .number) 12) refl e
@@ -151,36 +156,38 @@ module _ (stanza : List ℕ) (d : Description) (j : judged stanza ≡ described 
           on true a b p f =
               let n = eqb-true (c .reply .number) 0 a in
               let t = way-to .text n in
-              let z : textOf [] xs ≡ [] = ap (textOf []) q ∙ cuts .no-text in
+              let z : textOf types [] xs ≡ [] = ap (textOf types []) q ∙ cuts .no-text in
               (n, t .0 ∙ text-none q, t .2 ∙ ap (stored (c .out) (c .at)) z ∙ nothing-stored (c .out) (c .at))
           on false a true p f = absurd (omega (arith, way-to .needed (eqb-true (c .reply .number) 12 p) .1, text-none q))
           on false a false p f = absurd (true≢false (sym f))
 
 pub third-demand : ThirdDemand
-third-demand s d j k h xs m = (λ whole front back. cut-calls s d j k h xs m whole front back, λ c. empty-call s d j k h xs m c)
+third-demand es names types n s d j k h xs m = (λ whole front back. cut-calls es names types n s d j k h xs m whole front back, λ c. empty-call es names types n s d j k h xs m c)
 
--- a run of an accepted stanza
-module _ (stanza : List ℕ) (first many : ℕ) (h : HasRun stanza first many) where
+-- a run of an accepted stanza, with a catalogue that is not refused
+module _ (es : List Entry) (names stanza : List ℕ) (first many : ℕ) (h : HasRun stanza first many es names) where
   abbrev run-kinds : List Kind
   run-kinds = run first many (kinds (h .description .fields))
 
-  run-answers : (xs : List ℕ) (c : PrintCall stanza first many xs) → Answers run-kinds stanza first many xs c
-  run-answers xs c = answers run-kinds stanza first many xs (prints stanza (h .description) (h .accepted) first many (h .run) xs) c
+  run-answers : (xs : List ℕ) (c : PrintCall es names stanza first many xs) → Answers es names (h .types) run-kinds stanza first many xs c
+  run-answers xs c = answers es names (h .types) run-kinds stanza first many xs (prints es names (h .types) (h .known-there) stanza (h .description) (h .accepted) first many (h .run) xs) c
 
 -- a call that answers 0 is on such a run
-printed-run : (stanza : List ℕ) (first many : ℕ) (xs : List ℕ) (c : PrintCall stanza first many xs) → c .reply .number ≡ 0 → HasRun stanza first many
-unfolding print
-printed-run stanza first many xs c z =
-    let (t, e, l) = zero-done (printing stanza first many xs) (print-told stanza first many xs) (c .out) (c .at) (sym (c .promise .numbers) ∙ z) in print-run stanza first many xs t e
+printed-run : (es : List Entry) (names stanza : List ℕ) (first many : ℕ) (xs : List ℕ) (c : PrintCall es names stanza first many xs) → c .reply .number ≡ 0 → HasRun stanza first many es names
+unfolding printWith
+printed-run es names stanza first many xs c z =
+    let (t, e, l) = zero-done (printingWith stanza first many es names xs) (print-with-told stanza first many es names xs) (c .out) (c .at) (sym (c .promise .numbers) ∙ z) in
+    print-run stanza first many es names xs t e
 
-one-text : (stanza : List ℕ) (first many : ℕ) (xs : List ℕ) (p q : PrintCall stanza first many xs) → p .reply .number ≡ 0 → q .reply .number ≡ 0 → written p ≡ written q
-one-text stanza first many xs p q y z =
-    let h = printed-run stanza first many xs p y in
-    run-answers stanza first many h xs p .text y .1 ∙ sym (run-answers stanza first many h xs q .text z .1)
+one-text : (es : List Entry) (names stanza : List ℕ) (first many : ℕ) (xs : List ℕ) (p q : PrintCall es names stanza first many xs)
+    → p .reply .number ≡ 0 → q .reply .number ≡ 0 → written p ≡ written q
+one-text es names stanza first many xs p q y z =
+    let h = printed-run es names stanza first many xs p y in
+    run-answers es names stanza first many h xs p .text y .1 ∙ sym (run-answers es names stanza first many h xs q .text z .1)
 
-returned : (stanza : List ℕ) (first many : ℕ) (xs : List ℕ) → Octets xs → (p : PrintCall stanza first many xs) → p .reply .number ≡ 0 → (origin : List ℕ) → isWireName origin ≡ true
-    → (q : ReadCall stanza first many origin (written p)) → Returns stanza first many origin (written p) xs q
-returned stanza first many xs b p z origin w q = record {
+returned : (es : List Entry) (names stanza : List ℕ) (first many : ℕ) (xs : List ℕ) → Octets xs → (p : PrintCall es names stanza first many xs) → p .reply .number ≡ 0
+    → (origin : List ℕ) → isWireName origin ≡ true → (q : ReadCall es names stanza first many origin (written p)) → Returns es names stanza first many origin (written p) xs q
+returned es names stanza first many xs b p z origin w q = record {
   enough-room = λ l.
       let e = reads ∙ trip .reads in-list origin w (q .out) (q .at) l in
       let n = q .promise .places ∙ ap (λ o. o .place) e in
@@ -191,43 +198,44 @@ returned stanza first many xs b p z origin w q = record {
       (q .promise .numbers ∙ ap (λ o. o .number) e, q .promise .places ∙ ap (λ o. o .place) e, q .promise .octets ∙ ap (λ o. o .lent) e);
 }
   where
-    h : HasRun stanza first many
-    h = printed-run stanza first many xs p z
+    h : HasRun stanza first many es names
+    h = printed-run es names stanza first many xs p z
 
     ks : List Kind
-    ks = run-kinds stanza first many h
+    ks = run-kinds es names stanza first many h
 
-    a : Answers ks stanza first many xs p
-    a = run-answers stanza first many h xs p
+    a : Answers es names (h .types) ks stanza first many xs p
+    a = run-answers es names stanza first many h xs p
 
     in-list : accepts ks xs ≡ true
-    in-list = done-accepts ks stanza first many xs p a z
+    in-list = done-accepts (h .types) ks stanza first many xs p a z
 
-    trip : RoundTrip stanza first many ks xs
-    trip = demand-2 stanza (h .description) (h .accepted) first many (h .run) xs b
+    trip : RoundTrip es names (h .types) stanza first many ks xs
+    trip = demand-2 es names (h .types) (h .known-there) stanza (h .description) (h .accepted) first many (h .run) xs b
 
-    reads : read stanza first many origin (written p) (q .out) (q .at) ≡ read stanza first many origin (textOf ks xs) (q .out) (q .at)
-    reads = ap (λ t. read stanza first many origin t (q .out) (q .at)) (a .text z .1)
+    reads : readWith stanza first many es names origin (written p) (q .out) (q .at) ≡ readWith stanza first many es names origin (textOf (h .types) ks xs) (q .out) (q .at)
+    reads = ap (λ t. readWith stanza first many es names origin t (q .out) (q .at)) (a .text z .1)
 
--- what `read` wrote is what the definition answers
-read-done : (stanza : List ℕ) (first many : ℕ) (origin text : List ℕ) (c : ReadCall stanza first many origin text) → c .reply .number ≡ 0 → reading stanza first many origin text ≡ done (rdataOf c)
-unfolding read
-read-done stanza first many origin text c z =
-    let (xs, e, l) = zero-done (reading stanza first many origin text) (read-told stanza first many origin text) (c .out) (c .at) (sym (c .promise .numbers) ∙ z) in by xs e l
+-- what reading wrote is what the definition answers
+read-done : (es : List Entry) (names stanza : List ℕ) (first many : ℕ) (origin text : List ℕ) (c : ReadCall es names stanza first many origin text) → c .reply .number ≡ 0
+    → readingWith stanza first many es names origin text ≡ done (rdataOf c)
+unfolding readWith
+read-done es names stanza first many origin text c z =
+    let (xs, e, l) = zero-done (readingWith stanza first many es names origin text) (read-with-told stanza first many es names origin text) (c .out) (c .at) (sym (c .promise .numbers) ∙ z) in by xs e l
   where
-    by : (xs : List ℕ) → reading stanza first many origin text ≡ done xs → length xs ≤ room (c .out) (c .at) → reading stanza first many origin text ≡ done (rdataOf c)
+    by : (xs : List ℕ) → readingWith stanza first many es names origin text ≡ done xs → length xs ≤ room (c .out) (c .at) → readingWith stanza first many es names origin text ≡ done (rdataOf c)
     by xs e l =
-        let f : read stanza first many origin text (c .out) (c .at) ≡ record { number = 0; place = length xs; lent = stored (c .out) (c .at) xs } = rw (e, le-leb (length xs) (room (c .out) (c .at)) l) in
+        let f : readWith stanza first many es names origin text (c .out) (c .at) ≡ record { number = 0; place = length xs; lent = stored (c .out) (c .at) xs } = rw (e, le-leb (length xs) (room (c .out) (c .at)) l) in
         let n = c .promise .places ∙ ap (λ o. o .place) f in
         let r = c .promise .octets ∙ ap (λ o. o .lent) f in
         rw (n, r, stored-text (c .out) (c .at) xs l) e
 
-reads-accepted : (stanza : List ℕ) (first many : ℕ) (origin text : List ℕ) (q : ReadCall stanza first many origin text) → q .reply .number ≡ 0
-    → (p : PrintCall stanza first many (rdataOf q)) → accepted p ≡ true
-reads-accepted stanza first many origin text q z p =
-    let e = read-done stanza first many origin text q z in
-    let h = read-run stanza first many origin text (rdataOf q) e in
-    run-answers stanza first many h (rdataOf q) p .exactly ∙ read-accepted stanza (h .description) (h .accepted) first many origin text (rdataOf q) e
+reads-accepted : (es : List Entry) (names stanza : List ℕ) (first many : ℕ) (origin text : List ℕ) (q : ReadCall es names stanza first many origin text) → q .reply .number ≡ 0
+    → (p : PrintCall es names stanza first many (rdataOf q)) → accepted p ≡ true
+reads-accepted es names stanza first many origin text q z p =
+    let e = read-done es names stanza first many origin text q z in
+    let h = read-run stanza first many es names origin text (rdataOf q) e in
+    run-answers es names stanza first many h (rdataOf q) p .exactly ∙ read-accepted es names stanza (h .description) (h .accepted) first many origin text (rdataOf q) e
 
 -- what the definition's answer means for a call: a result, given room; want of room; or a refusal
 data Came (a : Answer) (out : List ℕ) (at : ℕ) (r : Reply) (after : List ℕ) : Type 0 where
@@ -243,13 +251,14 @@ came (done t) out at r after w = by (leb (length t) (room out at)) refl w
     by true l w = gives t refl (leb-true (length t) (room out at) l) (w .numbers) (w .places) (w .octets)
     by false l w = lacks t refl (leb-false (length t) (room out at) l) (w .numbers) (w .places) (w .octets)
 
-print-came : {stanza : List ℕ} {first many : ℕ} {xs : List ℕ} (c : PrintCall stanza first many xs) → Came (printing stanza first many xs) (c .out) (c .at) (c .reply) (c .after)
-unfolding print
+print-came : {es : List Entry} {names stanza : List ℕ} {first many : ℕ} {xs : List ℕ} (c : PrintCall es names stanza first many xs)
+    → Came (printingWith stanza first many es names xs) (c .out) (c .at) (c .reply) (c .after)
+unfolding printWith
 print-came c = came _ (c .out) (c .at) (c .reply) (c .after) (c .promise)
 
-read-came : {stanza : List ℕ} {first many : ℕ} {origin text : List ℕ} (c : ReadCall stanza first many origin text)
-    → Came (reading stanza first many origin text) (c .out) (c .at) (c .reply) (c .after)
-unfolding read
+read-came : {es : List Entry} {names stanza : List ℕ} {first many : ℕ} {origin text : List ℕ} (c : ReadCall es names stanza first many origin text)
+    → Came (readingWith stanza first many es names origin text) (c .out) (c .at) (c .reply) (c .after)
+unfolding readWith
 read-came c = came _ (c .out) (c .at) (c .reply) (c .after) (c .promise)
 
 -- the root is a wire name
@@ -258,17 +267,17 @@ unfolding wireTaken
 root-name = refl
 
 -- a printed text has at most 1,048,576 octets: it would not be read back else
-print-length : (stanza : List ℕ) (first many : ℕ) (xs : List ℕ) → Octets xs → (t : List ℕ) → printing stanza first many xs ≡ done t → length t ≤ maxText
-unfolding print read
-print-length stanza first many xs b t e = omega (arith, a .text refl .0, read-short stanza first many (0 ∷ []) (textOf ks xs) (back .0) (back .1))
+print-length : (es : List Entry) (names stanza : List ℕ) (first many : ℕ) (xs : List ℕ) → Octets xs → (t : List ℕ) → printingWith stanza first many es names xs ≡ done t → length t ≤ maxText
+unfolding printWith readWith
+print-length es names stanza first many xs b t e = omega (arith, a .text refl .0, read-short stanza first many es names (0 ∷ []) (textOf (h .types) ks xs) (back .0) (back .1))
   where
-    h : HasRun stanza first many
-    h = print-run stanza first many xs t e
+    h : HasRun stanza first many es names
+    h = print-run stanza first many es names xs t e
 
     ks : List Kind
-    ks = run-kinds stanza first many h
+    ks = run-kinds es names stanza first many h
 
-    c : PrintCall stanza first many xs
+    c : PrintCall es names stanza first many xs
     c = record {
       out = t;
       at = 0;
@@ -277,24 +286,24 @@ print-length stanza first many xs b t e = omega (arith, a .text refl .0, read-sh
       promise = rw (e, le-leb (length t) (length t - 0) (omega arith)) (record { numbers = refl; places = refl; octets = refl });
     }
 
-    a : Answers ks stanza first many xs c
-    a = run-answers stanza first many h xs c
+    a : Answers es names (h .types) ks stanza first many xs c
+    a = run-answers es names stanza first many h xs c
 
-    trip : RoundTrip stanza first many ks xs
-    trip = demand-2 stanza (h .description) (h .accepted) first many (h .run) xs b
+    trip : RoundTrip es names (h .types) stanza first many ks xs
+    trip = demand-2 es names (h .types) (h .known-there) stanza (h .description) (h .accepted) first many (h .run) xs b
 
-    back : (ys : List ℕ) × (reading stanza first many (0 ∷ []) (textOf ks xs) ≡ done ys) × (length ys ≤ room xs 0)
+    back : (ys : List ℕ) × (readingWith stanza first many es names (0 ∷ []) (textOf (h .types) ks xs) ≡ done ys) × (length ys ≤ room xs 0)
     back =
-        zero-done (reading stanza first many (0 ∷ []) (textOf ks xs)) (read-told stanza first many (0 ∷ []) (textOf ks xs)) xs 0
-        (ap (λ o. o .number) (trip .reads (done-accepts ks stanza first many xs c a refl) (0 ∷ []) root-name xs 0 (omega arith)))
+        zero-done (readingWith stanza first many es names (0 ∷ []) (textOf (h .types) ks xs)) (read-with-told stanza first many es names (0 ∷ []) (textOf (h .types) ks xs)) xs 0
+        (ap (λ o. o .number) (trip .reads (done-accepts (h .types) ks stanza first many xs c a refl) (0 ∷ []) root-name xs 0 (omega arith)))
 
 -- what is read has at most 65,535 octets
-read-length : (stanza : List ℕ) (first many : ℕ) (origin text xs : List ℕ) → reading stanza first many origin text ≡ done xs → length xs ≤ maxRdata
+read-length : (es : List Entry) (names stanza : List ℕ) (first many : ℕ) (origin text xs : List ℕ) → readingWith stanza first many es names origin text ≡ done xs → length xs ≤ maxRdata
 unfolding accepts
-read-length stanza first many origin text xs e =
-    let h = read-run stanza first many origin text xs e in
+read-length es names stanza first many origin text xs e =
+    let h = read-run stanza first many es names origin text xs e in
     let ks = run first many (kinds (h .description .fields)) in
-    let a = read-accepted stanza (h .description) (h .accepted) first many origin text xs e in
+    let a = read-accepted es names stanza (h .description) (h .accepted) first many origin text xs e in
     leb-true (length xs) maxRdata (and-left (leb (length xs) maxRdata) (isParts (partsOf ks xs)) a)
 
 or-right : (b c : Bool) → c ≡ true → b || c ≡ true
@@ -335,17 +344,35 @@ judge-answered stanza c = by (judged stanza) refl (c .promise)
       halves = omega (arith, w .places, judges stanza d e .most-fields);
     }
 
+-- printing and reading, with any numbers in which their refusals lie
+module _ (numbers : List ℕ) (m : among 12 numbers ≡ true) (es : List Entry) (names stanza : List ℕ) (first many : ℕ) where
+  print-answered : (refusals : List ℕ) → allOf (λ x. among x numbers) refusals ≡ true → (xs : List ℕ) → Octets xs → (c : PrintCall es names stanza first many xs)
+      → Rows stanza many (room (c .out) (c .at)) refusals (printingWith stanza first many es names xs)
+      → Answered numbers stanza many (room (c .out) (c .at)) (c .reply) × Keeps (c .reply) (c .out) (c .after)
+  print-answered refusals h xs b c w =
+      answered numbers stanza many (printingWith stanza first many es names xs) (c .out) (c .at) (c .reply) (c .after) m
+      (rows-wider stanza many (room (c .out) (c .at)) refusals numbers h (printingWith stanza first many es names xs) w)
+      (λ t e. omega (arith, print-length es names stanza first many xs b t e)) (print-came c)
+
+  read-answered : (refusals : List ℕ) → allOf (λ x. among x numbers) refusals ≡ true → (origin text : List ℕ) (c : ReadCall es names stanza first many origin text)
+      → Rows stanza many (room (c .out) (c .at)) refusals (readingWith stanza first many es names origin text)
+      → Answered numbers stanza many (room (c .out) (c .at)) (c .reply) × Keeps (c .reply) (c .out) (c .after)
+  read-answered refusals h origin text c w =
+      answered numbers stanza many (readingWith stanza first many es names origin text) (c .out) (c .at) (c .reply) (c .after) m
+      (rows-wider stanza many (room (c .out) (c .at)) refusals numbers h (readingWith stanza first many es names origin text) w)
+      (λ xs e. omega (arith, read-length es names stanza first many origin text xs e)) (read-came c)
+
 pub first-demand : FirstDemand
 first-demand = record {
   judging = judge-answered;
-  printing = λ s f m xs b c.
-      answered printNumbers s m (printing s f m xs) (c .out) (c .at) (c .reply) (c .after) refl
-      (rows-wider s m (room (c .out) (c .at)) printRefusals printNumbers refl (printing s f m xs) (print-rows s f m (room (c .out) (c .at)) xs))
-      (λ t e. omega (arith, print-length s f m xs b t e)) (print-came c);
-  reading = λ s f m o t c.
-      answered readNumbers s m (reading s f m o t) (c .out) (c .at) (c .reply) (c .after) refl
-      (rows-wider s m (room (c .out) (c .at)) readRefusals readNumbers refl (reading s f m o t) (read-rows s f m (room (c .out) (c .at)) o t))
-      (λ xs e. omega (arith, read-length s f m o t xs e)) (read-came c);
+  printing = λ es names s f m xs b c.
+      print-answered _ refl es names s f m (printRefusals (13 ∷ [])) refl xs b c (print-rows s f m (room (c .out) (c .at)) es names xs);
+  reading = λ es names s f m o t c.
+      read-answered _ refl es names s f m (readRefusals (13 ∷ [])) refl o t c (read-rows s f m (room (c .out) (c .at)) es names o t);
+  printing-old = λ names s f m xs b c.
+      print-answered _ refl [] names s f m (printRefusals []) refl xs b c (print-rows-old s f m (room (c .out) (c .at)) names xs) .0;
+  reading-old = λ names s f m o t c.
+      read-answered _ refl [] names s f m (readRefusals []) refl o t c (read-rows-old s f m (room (c .out) (c .at)) names o t) .0;
 }
 
 -- demand 2: what is accepted
@@ -358,30 +385,36 @@ described-by stanza c = (λ z. by (judged stanza) refl (c .promise) z, λ (d, e,
         let r : Row stanza 0 0 judgeNumbers n i = rw e at (stanza-rejected stanza 0 0) in absurd (true≢false (sym (eq-eqb n 0 (sym (w .numbers) ∙ z)) ∙ not-zero (r .fixed)))
     by (described d) e w z = (d, e, w .places)
 
-run-of : (stanza : List ℕ) (first many : ℕ) → HasRun stanza first many → (ks : List Kind) × RunOf stanza first many ks
-run-of stanza first many h = (run-kinds stanza first many h, record { description = h .description; accepted-there = h .accepted; is-run = h .run; fields = refl })
+run-of : (es : List Entry) (names stanza : List ℕ) (first many : ℕ) → HasRun stanza first many es names
+    → ((ks : List Kind) × RunOf stanza first many ks) × ((types : List TypeName) × (catalogued names es ≡ known types))
+run-of es names stanza first many h = (
+  (run-kinds es names stanza first many h, record { description = h .description; accepted-there = h .accepted; is-run = h .run; fields = refl }),
+  (h .types, h .known-there),
+)
 
 -- a refusal, want of room apart, is not accepted
 not-taken : (stanza : List ℕ) (many space : ℕ) (numbers : List ℕ) (r : Reply) (n i : ℕ) → Row stanza many space numbers n i → allOf (λ x. not (among x (0 ∷ 12 ∷ []))) numbers ≡ true → r .number ≡ n
     → taken r ≡ false
 not-taken stanza many space numbers r n i w h p = rw p (apart n numbers (0 ∷ 12 ∷ []) h (w .number))
 
-rdata-run : (stanza : List ℕ) (first many : ℕ) (xs : List ℕ) (c : PrintCall stanza first many xs) → accepted c ≡ true → (ks : List Kind) × RunOf stanza first many ks
-rdata-run stanza first many xs c z = by (print-came c)
+rdata-run : (es : List Entry) (names stanza : List ℕ) (first many : ℕ) (xs : List ℕ) (c : PrintCall es names stanza first many xs) → accepted c ≡ true
+    → ((ks : List Kind) × RunOf stanza first many ks) × ((types : List TypeName) × (catalogued names es ≡ known types))
+rdata-run es names stanza first many xs c z = by (print-came c)
   where
-    by : Came (printing stanza first many xs) (c .out) (c .at) (c .reply) (c .after) → (ks : List Kind) × RunOf stanza first many ks
-    by (gives t e h p q s) = run-of stanza first many (print-run stanza first many xs t e)
-    by (lacks t e h p q s) = run-of stanza first many (print-run stanza first many xs t e)
+    by : Came (printingWith stanza first many es names xs) (c .out) (c .at) (c .reply) (c .after)
+        → ((ks : List Kind) × RunOf stanza first many ks) × ((types : List TypeName) × (catalogued names es ≡ known types))
+    by (gives t e h p q s) = run-of es names stanza first many (print-run stanza first many es names xs t e)
+    by (lacks t e h p q s) = run-of es names stanza first many (print-run stanza first many es names xs t e)
     by (refuses n i e p q s) =
-        let w : Row stanza many 0 printRefusals n i = rw e at (print-rows stanza first many 0 xs) in
-        absurd (true≢false (sym z ∙ not-taken stanza many 0 printRefusals (c .reply) n i w refl p))
+        let w : Row stanza many 0 (printRefusals (13 ∷ [])) n i = rw e at (print-rows stanza first many 0 es names xs) in
+        absurd (true≢false (sym z ∙ not-taken stanza many 0 (printRefusals (13 ∷ [])) (c .reply) n i w refl p))
 
-text-read : (stanza : List ℕ) (first many : ℕ) (origin text : List ℕ) (c : ReadCall stanza first many origin text)
-    → (taken (c .reply) ≡ true) ↔ ((xs : List ℕ) × (reading stanza first many origin text ≡ done xs) × Returns stanza first many origin text xs c)
-text-read stanza first many origin text c = (λ z. by z (read-came c), λ (xs, e, r). back xs e (read-came c))
+text-read : (es : List Entry) (names stanza : List ℕ) (first many : ℕ) (origin text : List ℕ) (c : ReadCall es names stanza first many origin text)
+    → (taken (c .reply) ≡ true) ↔ ((xs : List ℕ) × (readingWith stanza first many es names origin text ≡ done xs) × Returns es names stanza first many origin text xs c)
+text-read es names stanza first many origin text c = (λ z. by z (read-came c), λ (xs, e, r). back xs e (read-came c))
   where
-    by : taken (c .reply) ≡ true → Came (reading stanza first many origin text) (c .out) (c .at) (c .reply) (c .after)
-        → (xs : List ℕ) × (reading stanza first many origin text ≡ done xs) × Returns stanza first many origin text xs c
+    by : taken (c .reply) ≡ true → Came (readingWith stanza first many es names origin text) (c .out) (c .at) (c .reply) (c .after)
+        → (xs : List ℕ) × (readingWith stanza first many es names origin text ≡ done xs) × Returns es names stanza first many origin text xs c
     by z (gives t e h p q s) = (
       t,
       e,
@@ -392,24 +425,32 @@ text-read stanza first many origin text c = (λ z. by z (read-came c), λ (xs, e
     )
     by z (lacks t e h p q s) = (t, e, record { enough-room = λ l. absurd (omega (arith, l, h)); no-room = λ l. (p, q, s) })
     by z (refuses n i e p q s) =
-        let w : Row stanza many 0 readRefusals n i = rw e at (read-rows stanza first many 0 origin text) in
-        absurd (true≢false (sym z ∙ not-taken stanza many 0 readRefusals (c .reply) n i w refl p))
+        let w : Row stanza many 0 (readRefusals (13 ∷ [])) n i = rw e at (read-rows stanza first many 0 es names origin text) in
+        absurd (true≢false (sym z ∙ not-taken stanza many 0 (readRefusals (13 ∷ [])) (c .reply) n i w refl p))
 
-    back : (xs : List ℕ) → reading stanza first many origin text ≡ done xs → Came (reading stanza first many origin text) (c .out) (c .at) (c .reply) (c .after) → taken (c .reply) ≡ true
+    back : (xs : List ℕ) → readingWith stanza first many es names origin text ≡ done xs → Came (readingWith stanza first many es names origin text) (c .out) (c .at) (c .reply) (c .after) → taken (c .reply) ≡ true
     back xs d (gives t e h p q s) = rw p
     back xs d (lacks t e h p q s) = rw p
     back xs d (refuses n i e p q s) = let z : refusal n i ≡ done xs = sym e ∙ d in cc
 
+-- 13 for a bad catalogue
+bad-names : (i : ℕ) (out : List ℕ) {r : Reply} {after : List ℕ} {o : Outcome} → Leaves r after o → o ≡ record { number = 13; place = i; lent = out } → BadNames i r out after
+bad-names i out w e = (w .numbers ∙ ap (λ o. o .number) e, w .places ∙ ap (λ o. o .place) e, w .octets ∙ ap (λ o. o .lent) e)
+
 pub second-demand : SecondDemand
 second-demand = record {
   description = described-by;
-  rdata = λ s f m ks r xs c.
-      subst (λ ks. Answers ks s f m xs c) (sym (r .fields))
-      (answers (run f m (kinds (r .description .fields))) s f m xs (prints s (r .description) (r .accepted-there) f m (r .is-run) xs) c);
+  rdata = λ es names types n s f m ks r xs c.
+      subst (λ ks. Answers es names types ks s f m xs c) (sym (r .fields))
+      (answers es names types (run f m (kinds (r .description .fields))) s f m xs (prints es names types n s (r .description) (r .accepted-there) f m (r .is-run) xs) c);
   rdata-run = rdata-run;
   text = text-read;
+  rdata-apart = λ es names i n s f m ks r xs l c.
+      bad-names i (c .out) (c .promise) (bad-catalogue es names i n s (r .description) (r .accepted-there) f m (r .is-run) .printing-13 xs l (c .out) (c .at));
+  text-apart = λ es names i n s f m ks r o w t l c.
+      bad-names i (c .out) (c .promise) (bad-catalogue es names i n s (r .description) (r .accepted-there) f m (r .is-run) .reading-13 o w t l (c .out) (c .at));
   returns = returned;
   one-text = one-text;
   read-accepted = reads-accepted;
-  read-octets = λ s f m o t b q z. read-octets s f m o t (rdataOf q) b (read-done s f m o t q z);
+  read-octets = λ es names s f m o t b q z. read-octets es names s f m o t (rdataOf q) b (read-done es names s f m o t q z);
 }

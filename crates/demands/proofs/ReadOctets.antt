@@ -1,4 +1,4 @@
--- What reading answers are octets, for every kind of field and any text: a token's octets are tab and 20 to 7E hex, and each reader gives octets.
+-- What reading answers are octets, for every kind of field, any catalogue and any text: a token's octets are tab and 20 to 7E hex, and each reader gives octets.
 use Prim.Native.Nat.{ℕ, zero, suc, _+_, _*_, _-_, _^_, _≤_, _<_}
 use mathlib.Core.Path.{_≡_, refl}
 use mathlib.Core.Bool.{Bool, true, false, not, cond, _&&_, _||_}
@@ -14,7 +14,6 @@ use Rattle.format.specs.Octets.{Below, Octets, ascii, inRange, among, blank, di
 use Rattle.format.specs.Field.{Kind, int, rrtype, bitmap, a4, aa, aaaa, name, str, strs, raw, b32, b64, hex, hexc, eui, time, kinds}
 use Rattle.format.specs.Digits.{digits, number, digitValue}
 use Rattle.format.specs.Number.{decimal, decimalOf, below, symbolValue, readInteger}
-use Rattle.format.specs.Rrtype.{typeNumber, readType}
 use Rattle.format.specs.Token.{textOctet, quoteMark, guarded, Token, bare, quoted, broken, Scan, between, inBare, inQuotes, closed, ScanMove, skip, keep, endBare, endQuoted, breaks, bareOctet, scanStep, scanEnd, intoFirst, afterScan, scanned, tokens, Item, plain, escape, octetOf, Escaping, outside, slash, oneDigit, twoDigits, EscapeMove, moves, gives, badEscape, escapeStep, escapeEnd, afterEscape, unescapedFrom, unescaped}
 use Rattle.format.specs.Text.{withCount, counted, stringValue, readString, notEmpty, readRaw}
 use Rattle.format.specs.Name.{isDot, isWireName, labelBefore, wireName, nameOf, readName}
@@ -24,9 +23,10 @@ use Rattle.format.specs.Eui.{readEui}
 use Rattle.format.specs.Address.{smallNumber, readA, groupOctets, groupOf, readAA, eightGroups, atDoubleColon, readAAAA}
 use Rattle.format.specs.Bitmap.{bitsOf, octetsFrom, windowOctets, beforeZeros, withoutLastZeros, blockOf, blocksFrom, blocks, readBitmap}
 use Rattle.format.specs.Time.{momentOf, readTime}
+use Rattle.format.specs.Catalogue.{Entry, TypeName, Catalogued, badEntry, known, catalogued, typeNumberIn, readTypeIn}
 use Rattle.format.specs.Run.{Got, noToken, badToken, got, gotOr, bareOf, oneToken, oneBare, joinedBares, readField, Parts, refused, parts, withFirst, maxRdata, afterReading, readRun}
 use Rattle.format.specs.Judge.{Judged, rejected, described, judged}
-use Rattle.format.specs.Entries.{Answer, done, refusal, maxText, orRefusal, ofStanza, ofParts, isRun, run, reading}
+use Rattle.format.specs.Entries.{Answer, done, refusal, maxText, orRefusal, ofStanza, ofParts, isRun, run, ofCatalogue, readingWith}
 use Rattle.format.proofs.Lists.{and-left, and-right, below-append}
 use Rattle.format.proofs.Digits.{digits-below, number-bound}
 use Rattle.format.proofs.Base.{bits-below}
@@ -345,15 +345,15 @@ bares-fine f h (t ∷ ts) w =
     (gives-then (λ l. Octets (flat l)) Octets (eachOf bareOf (t ∷ ts)) (λ l. f (flat l) >>= notEmpty) (each-flat Written bareOf bare-written (t ∷ ts) w)
     (λ l b. octets-then (f (flat l)) notEmpty (h (flat l) b) some-octets)) tt
 
-module _ (o : List ℕ) (b : Octets o) (ts : List Token) (w : All Written ts) where
-  field-fine : (k : Kind) → Fine (readField k o ts)
+module _ (types : List TypeName) (o : List ℕ) (b : Octets o) (ts : List Token) (w : All Written ts) where
+  field-fine : (k : Kind) → Fine (readField types k o ts)
   unfolding readField
   field-fine (int v l) = bare-fine (readInteger v l) (λ t c. number-octets v (orElse (below (256 ^ v) (decimalOf t)) (symbolValue l t))) ts w
-  field-fine rrtype = bare-fine readType (λ t c. number-octets 2 (typeNumber t)) ts w
+  field-fine rrtype = bare-fine (readTypeIn types) (λ t c. number-octets 2 (typeNumberIn types t)) ts w
   field-fine bitmap = or-fine (readBitmap type ts) [] (made-octets (eachOf type ts) blocks (λ l. blocks-octets l 0 256 (omega arith))) tt
     where
       type : Token → Option ℕ
-      type t = bareOf t >>= typeNumber
+      type t = bareOf t >>= typeNumberIn types
   field-fine a4 = bare-fine readA (λ t c. separated-octets 4 46 smallNumber small-less t) ts w
   field-fine aa = bare-fine readAA (λ t c. made-octets (exactly 4 (eachOf groupOf (splitOn 58 t))) groupOctets groups-octets) ts w
   field-fine aaaa = bare-fine readAAAA (λ t c. made-octets (eightGroups t (atDoubleColon t)) groupOctets groups-octets) ts w
@@ -382,15 +382,15 @@ first-flat : (p : List ℕ) (r : Parts) → Octets p → Flat r → Flat (withFi
 first-flat p (refused n i) h k = tt
 first-flat p (parts ps) h k = below-append 256 p (flat ps) h k
 
-module _ (o : List ℕ) (b : Octets o) where
+module _ (types : List TypeName) (o : List ℕ) (b : Octets o) where
   abbrev read-here : Kind → List Token → Got
-  read-here k ts = readField k o ts
+  read-here k ts = readField types k o ts
 
   run-flat : (ks : List Kind) (ts : List Token) → All Written ts → Flat (readRun read-here ks ts)
   unfolding readRun
   run-flat [] [] w = tt
   run-flat [] (t ∷ ts) w = tt
-  run-flat (k ∷ ks) ts w = by (readField k o ts) (field-fine o b ts w k) (run-flat ks)
+  run-flat (k ∷ ks) ts w = by (readField types k o ts) (field-fine types o b ts w k) (run-flat ks)
     where
       by : (g : Got) → Fine g → ((us : List Token) → All Written us → Flat (readRun read-here ks us)) → Flat (afterReading read-here g (λ us. readRun read-here ks us))
       by noToken h ih = tt
@@ -409,15 +409,20 @@ stanza-done : (j : Judged) (f : List Kind → Answer) → ((ks : List Kind) → 
 stanza-done (rejected n i) f h = tt
 stanza-done (described d) f h = h (kinds (d .fields))
 
+names-done : (r : Catalogued) (f : List TypeName → Answer) → ((c : List TypeName) → Done (f c)) → Done (ofCatalogue r f)
+names-done (badEntry i) f h = tt
+names-done (known c) f h = h c
+
 parts-done : (r : Parts) → Flat r → Done (ofParts r (λ ps. orRefusal 11 (leb (length (flat ps)) maxRdata) (done (flat ps))))
 parts-done (refused n i) h = tt
 parts-done (parts ps) h = or-done 11 (leb (length (flat ps)) maxRdata) (done (flat ps)) h
 
-reading-done : (stanza : List ℕ) (first many : ℕ) (origin text : List ℕ) → Octets origin → Done (reading stanza first many origin text)
-unfolding reading
-reading-done s first many o t b =
+reading-done : (es : List Entry) (names stanza : List ℕ) (first many : ℕ) (origin text : List ℕ) → Octets origin → Done (readingWith stanza first many es names origin text)
+unfolding readingWith
+reading-done es names s first many o t b =
     or-done 1 (leb (length t) maxText) _ (stanza-done (judged s) _ (λ ks. or-done 6 (isRun first many ks) _ (or-done 7 (isWireName o) _
-    (parts-done (readRun (read-here o b) (run first many ks) (tokens t)) (run-flat o b (run first many ks) (tokens t) (scan-written between t))))))
+    (names-done (catalogued names es) _ (λ c.
+    parts-done (readRun (read-here c o b) (run first many ks) (tokens t)) (run-flat c o b (run first many ks) (tokens t) (scan-written between t)))))))
 
-pub read-octets : (stanza : List ℕ) (first many : ℕ) (origin text xs : List ℕ) → Octets origin → reading stanza first many origin text ≡ done xs → Octets xs
-read-octets s first many o t xs b e = rw e at (reading-done s first many o t b)
+pub read-octets : (es : List Entry) (names stanza : List ℕ) (first many : ℕ) (origin text xs : List ℕ) → Octets origin → readingWith stanza first many es names origin text ≡ done xs → Octets xs
+read-octets es names s first many o t xs b e = rw e at (reading-done es names s first many o t b)

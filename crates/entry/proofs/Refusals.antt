@@ -1,13 +1,13 @@
--- Every refusal is a row of document 01's table, with a place below 2 to the 32.
+-- Every refusal is a row of the table, with a place below 2 to the 32.
 use Prim.Native.Nat.{ℕ, suc, _+_, _-_, _≤_, _<_}
 use mathlib.Core.Path.{_≡_, refl, sym}
 use mathlib.Core.Bool.{Bool, true, false, not, cond, _||_, _&&_, true≢false}
 use mathlib.Core.List.{List, [], _∷_, _++_}
 use mathlib.Core.Option.{Option, none, some}
 use native.Mathlib.Omega.{arith}
-use lib.ListN.{length, take, drop, length-take, length-drop}
-use lib.Dec.{leb, eqb}
-use borrow.Author.Tests.{leb-true, eqb-true}
+use lib.ListN.{length, take, drop, length-take, length-drop, length-append}
+use lib.Dec.{leb, ltb, eqb}
+use borrow.Author.Tests.{leb-true, ltb-true, eqb-true}
 use Rattle.format.specs.Lists.{null, anyOf, allOf, flat, span, parting, split}
 use Rattle.format.specs.Octets.{inRange, blank, among, splitOn}
 use Rattle.format.specs.Wire.{Taken, short, bad, took, taken}
@@ -19,11 +19,12 @@ use Rattle.format.specs.Grammar.{Header, headerLine, FieldLine, fieldLine}
 use Rattle.format.specs.Types.{Meaning, unknown, forbidden, means, meaning}
 use Rattle.format.specs.Judge.{Description, Progress, beforeHeader, afterHeader, Verdict, faulty, goesOn, afterTail, sameName, ofMeaning, ofFieldLine, ofHeader, contentLine, ignored, lineVerdict, Judged, rejected, described, afterLine, judgedFrom, maxStanza, judged}
 use Rattle.format.specs.Run.{Got, noToken, badToken, got, readField, Parts, refused, parts, withFirst, afterTaking, partsOf, maxRdata, afterReading, readRun}
-use Rattle.format.specs.Entries.{Answer, done, refusal, maxText, orRefusal, ofStanza, ofParts, isRun, run, printing, reading}
+use Rattle.format.specs.Catalogue.{Entry, TypeName, Catalogued, badEntry, known, entryAfter, afterEntry, cataloguedFrom, catalogued}
+use Rattle.format.specs.Entries.{Answer, done, refusal, maxText, orRefusal, ofStanza, ofParts, isRun, run, ofCatalogue, printingWith, readingWith}
 use Rattle.format.proofs.Lists.{and-right}
 use Rattle.format.proofs.Judge.{judges}
 use Rattle.format.proofs.Demands.{kinds-length}
-use Rattle.entry.specs.Refusals.{IsLine, InRun, Fixed, over-limit, bad-line, no-line, unknown-there, not-allowed, one-more, no-run, no-origin, cut-short, breaks-rule, left-over, over-rdata, no-room, judgeNumbers}
+use Rattle.entry.specs.Refusals.{IsLine, InRun, Fixed, over-limit, bad-line, no-line, unknown-there, not-allowed, one-more, no-run, no-origin, cut-short, breaks-rule, left-over, over-rdata, no-room, bad-entry, judgeNumbers}
 
 either : {A : Type 0} (P : A → Type 0) (b : Bool) (x y : A) → P x → P y → P (cond b x y)
 either P true x y h k = h
@@ -189,12 +190,36 @@ run-length stanza d j first many e =
       omega (arith, l, kinds-length (d .fields), judges stanza d j .most-fields),
     )
 
--- the numbers with which printing and reading refuse, want of room apart
-abbrev pub printRefusals : List ℕ
-printRefusals = 1 ∷ 2 ∷ 3 ∷ 4 ∷ 5 ∷ 6 ∷ 8 ∷ 9 ∷ 10 ∷ []
+-- the place of a bad entry: the first 512 may be good, and the 513th is bad
+bad-from : (earlier : List TypeName) (names : List ℕ) (es : List Entry) (i : ℕ) → length earlier ≤ 512 → cataloguedFrom earlier names es ≡ badEntry i → (1 ≤ i) × (i ≤ 513)
+unfolding cataloguedFrom
+bad-from earlier names [] i h q = let z : _≡_ {A = ℕ} 0 1 = cc in absurd (omega arith)
+bad-from earlier names (e ∷ es) i h q = by (ltb (length earlier) 512) refl q (λ n. bad-from (earlier ++ n ∷ []) names es i)
+  where
+    Later : Type 0
+    Later = (n : TypeName) → length (earlier ++ n ∷ []) ≤ 512 → cataloguedFrom (earlier ++ n ∷ []) names es ≡ badEntry i → (1 ≤ i) × (i ≤ 513)
 
-abbrev pub readRefusals : List ℕ
-readRefusals = 1 ∷ 2 ∷ 3 ∷ 4 ∷ 5 ∷ 6 ∷ 7 ∷ 8 ∷ 9 ∷ 10 ∷ 11 ∷ []
+    here : badEntry (suc (length earlier)) ≡ badEntry i → (1 ≤ i) × (i ≤ 513)
+    here q = let z : suc (length earlier) ≡ i = cc in (omega arith, omega arith)
+
+    on : length earlier < 512 → (o : Option TypeName) → afterEntry o (suc (length earlier)) (λ n. cataloguedFrom (earlier ++ n ∷ []) names es) ≡ badEntry i → Later → (1 ≤ i) × (i ≤ 513)
+    on l none q ih = here q
+    on l (some n) q ih = ih n (omega (arith, length-append earlier (n ∷ []))) q
+
+    by : (b : Bool) → ltb (length earlier) 512 ≡ b → afterEntry (cond b (entryAfter earlier names e) none) (suc (length earlier)) (λ n. cataloguedFrom (earlier ++ n ∷ []) names es) ≡ badEntry i → Later
+        → (1 ≤ i) × (i ≤ 513)
+    by true l q ih = on (ltb-true (length earlier) 512 l) (entryAfter earlier names e) q ih
+    by false l q ih = here q
+
+pub bad-place : (names : List ℕ) (es : List Entry) (i : ℕ) → catalogued names es ≡ badEntry i → (1 ≤ i) × (i ≤ 513)
+bad-place names es i q = bad-from [] names es i (omega arith) q
+
+-- the numbers with which printing and reading refuse, want of room apart, and more
+abbrev pub printRefusals : List ℕ → List ℕ
+printRefusals more = 1 ∷ 2 ∷ 3 ∷ 4 ∷ 5 ∷ 6 ∷ 8 ∷ 9 ∷ 10 ∷ more
+
+abbrev pub readRefusals : List ℕ → List ℕ
+readRefusals more = 1 ∷ 2 ∷ 3 ∷ 4 ∷ 5 ∷ 6 ∷ 7 ∷ 8 ∷ 9 ∷ 10 ∷ 11 ∷ more
 
 module _ (stanza : List ℕ) (many room : ℕ) (numbers : List ℕ) where
   abbrev pub Rows : Answer → Type 0
@@ -220,25 +245,55 @@ module _ (stanza : List ℕ) (many room : ℕ) (numbers : List ℕ) where
   parts-row m l (left e) f k = row-wider (8 ∷ 9 ∷ 10 ∷ []) numbers m (record { fixed = left-over e; small = omega (arith, e); number = refl })
   parts-row m l (good {ps = ps}) f k = k ps
 
-pub print-rows : (s : List ℕ) (first many room : ℕ) (xs : List ℕ) → Rows s many room printRefusals (printing s first many xs)
-unfolding printing
-print-rows s first many room xs =
-    or-row s many room printRefusals 1 over-limit refl (leb (length xs) maxRdata) _ (λ _.
-    stanza-row s many room printRefusals refl _ (λ d j.
-    or-row s many room printRefusals 6 no-run refl (isRun first many (kinds (d .fields))) _ (λ e.
-    let l = run-length s d j first many e in
-    parts-row s many room printRefusals refl (l .1) (rw (l .0) at (wire-fault (run first many (kinds (d .fields))) xs)) _ (λ ps. tt))))
+  catalogue-row : (names : List ℕ) (es : List Entry) → ((i : ℕ) → catalogued names es ≡ badEntry i → among 13 numbers ≡ true) → (f : List TypeName → Answer)
+      → ((c : List TypeName) → Rows (f c)) → Rows (ofCatalogue (catalogued names es) f)
+  catalogue-row names es m f k = by (catalogued names es) refl
+    where
+      by : (r : Catalogued) → catalogued names es ≡ r → Rows (ofCatalogue r f)
+      by (badEntry i) e = let (l, u) = bad-place names es i e in record { fixed = bad-entry l u; small = omega arith; number = m i e }
+      by (known c) e = k c
 
-pub read-rows : (s : List ℕ) (first many room : ℕ) (origin text : List ℕ) → Rows s many room readRefusals (reading s first many origin text)
-unfolding reading
-read-rows s first many room origin text =
-    or-row s many room readRefusals 1 over-limit refl (leb (length text) maxText) _ (λ _.
-    stanza-row s many room readRefusals refl _ (λ d j.
-    or-row s many room readRefusals 6 no-run refl (isRun first many (kinds (d .fields))) _ (λ e.
-    or-row s many room readRefusals 7 no-origin refl (isWireName origin) _ (λ _.
-    let l = run-length s d j first many e in
-    parts-row s many room readRefusals refl (l .1) (rw (l .0) at (text-fault (λ k ts. readField k origin ts) (run first many (kinds (d .fields))) (tokens text))) _ (λ ps.
-    or-row s many room readRefusals 11 over-rdata refl (leb (length (flat ps)) maxRdata) (done (flat ps)) (λ _. tt))))))
+-- where the catalogue is bad, 13 is one of the numbers
+module _ (s : List ℕ) (first many room : ℕ) (es : List Entry) (names more : List ℕ) (m : (i : ℕ) → catalogued names es ≡ badEntry i → among 13 more ≡ true) where
+  printing-rows : (xs : List ℕ) → Rows s many room (printRefusals more) (printingWith s first many es names xs)
+  unfolding printingWith
+  printing-rows xs =
+      or-row s many room (printRefusals more) 1 over-limit refl (leb (length xs) maxRdata) _ (λ _.
+      stanza-row s many room (printRefusals more) refl _ (λ d j.
+      or-row s many room (printRefusals more) 6 no-run refl (isRun first many (kinds (d .fields))) _ (λ e.
+      catalogue-row s many room (printRefusals more) names es m _ (λ c.
+      let l = run-length s d j first many e in
+      parts-row s many room (printRefusals more) refl (l .1) (rw (l .0) at (wire-fault (run first many (kinds (d .fields))) xs)) _ (λ ps. tt)))))
+
+  reading-rows : (origin text : List ℕ) → Rows s many room (readRefusals more) (readingWith s first many es names origin text)
+  unfolding readingWith
+  reading-rows origin text =
+      or-row s many room (readRefusals more) 1 over-limit refl (leb (length text) maxText) _ (λ _.
+      stanza-row s many room (readRefusals more) refl _ (λ d j.
+      or-row s many room (readRefusals more) 6 no-run refl (isRun first many (kinds (d .fields))) _ (λ e.
+      or-row s many room (readRefusals more) 7 no-origin refl (isWireName origin) _ (λ _.
+      catalogue-row s many room (readRefusals more) names es m _ (λ c.
+      let l = run-length s d j first many e in
+      parts-row s many room (readRefusals more) refl (l .1) (rw (l .0) at (text-fault (λ k ts. readField c k origin ts) (run first many (kinds (d .fields))) (tokens text))) _ (λ ps.
+      or-row s many room (readRefusals more) 11 over-rdata refl (leb (length (flat ps)) maxRdata) (done (flat ps)) (λ _. tt)))))))
+
+-- with any catalogue
+pub print-rows : (s : List ℕ) (first many room : ℕ) (es : List Entry) (names xs : List ℕ) → Rows s many room (printRefusals (13 ∷ [])) (printingWith s first many es names xs)
+print-rows s first many room es names xs = printing-rows s first many room es names (13 ∷ []) (λ i e. refl) xs
+
+pub read-rows : (s : List ℕ) (first many room : ℕ) (es : List Entry) (names origin text : List ℕ) → Rows s many room (readRefusals (13 ∷ [])) (readingWith s first many es names origin text)
+read-rows s first many room es names origin text = reading-rows s first many room es names (13 ∷ []) (λ i e. refl) origin text
+
+-- with an empty one: never 13
+none-bad : (names : List ℕ) (i : ℕ) → catalogued names [] ≡ badEntry i → among 13 [] ≡ true
+unfolding cataloguedFrom
+none-bad names i e = cc
+
+pub print-rows-old : (s : List ℕ) (first many room : ℕ) (names xs : List ℕ) → Rows s many room (printRefusals []) (printingWith s first many [] names xs)
+print-rows-old s first many room names xs = printing-rows s first many room [] names [] (none-bad names) xs
+
+pub read-rows-old : (s : List ℕ) (first many room : ℕ) (names origin text : List ℕ) → Rows s many room (readRefusals []) (readingWith s first many [] names origin text)
+read-rows-old s first many room names origin text = reading-rows s first many room [] names [] (none-bad names) origin text
 
 -- no refusal has the number 0
 pub not-zero : {stanza : List ℕ} {many room n i : ℕ} → Fixed stanza many room n i → eqb n 0 ≡ false
@@ -255,3 +310,4 @@ not-zero (breaks-rule h) = refl
 not-zero (left-over e) = refl
 not-zero over-rdata = refl
 not-zero (no-room h) = refl
+not-zero (bad-entry l u) = refl

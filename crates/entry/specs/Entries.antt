@@ -7,8 +7,9 @@ use lib.Dec.{leb}
 use Rattle.format.specs.Lists.{flat}
 use Rattle.format.specs.Field.{Kind}
 use Rattle.format.specs.Token.{tokens}
+use Rattle.format.specs.Catalogue.{Entry, TypeName}
 use Rattle.format.specs.Run.{shown, readField, Parts, parts, partsOf, maxRdata, textOfParts, readRun}
-use Rattle.format.specs.Entries.{Answer, done, orRefusal, ofParts, ifRoom, room, Outcome, outcome, print, read, judge}
+use Rattle.format.specs.Entries.{Answer, done, orRefusal, ofParts, ifRoom, room, Outcome, outcome, print, printWith, read, readWith, judge}
 use Rattle.entry.specs.declared.Reply.{Reply}
 
 -- an answer has the outcome's number, and its place or count
@@ -32,6 +33,13 @@ PrintPromise stanza first many rdata out at r after = Leaves r after (print stan
 abbrev pub ReadPromise : (stanza : List ℕ) (first many : ℕ) (origin text out : List ℕ) (at : ℕ) → Reply → List ℕ → Type 0
 ReadPromise stanza first many origin text out at r after = Leaves r after (read stanza first many origin text out at)
 
+-- the same with a catalogue
+abbrev pub PrintWithPromise : (stanza : List ℕ) (first many : ℕ) (entries : List Entry) (names rdata out : List ℕ) (at : ℕ) → Reply → List ℕ → Type 0
+PrintWithPromise stanza first many entries names rdata out at r after = Leaves r after (printWith stanza first many entries names rdata out at)
+
+abbrev pub ReadWithPromise : (stanza : List ℕ) (first many : ℕ) (entries : List Entry) (names origin text out : List ℕ) (at : ℕ) → Reply → List ℕ → Type 0
+ReadWithPromise stanza first many entries names origin text out at r after = Leaves r after (readWith stanza first many entries names origin text out at)
+
 -- the answer in 64 bits: its number in the upper 32, its place or count in the lower
 abbrev pub unpacked : ℕ → Reply
 unpacked r = record { number = r / 4294967296; place = r % 4294967296 }
@@ -40,21 +48,21 @@ unpacked r = record { number = r / 4294967296; place = r % 4294967296 }
 abbrev pub withRoom : List ℕ → ℕ → Answer → Outcome
 withRoom out at a = outcome out at (ifRoom (room out at) a)
 
--- the text of a run, whatever the room is
-abbrev pub runText : List Kind → List ℕ → Answer
-runText ks xs = ofParts (partsOf ks xs) (λ ps. done (textOfParts shown ks ps))
+-- the text of a run, with the names of types that are known, whatever the room is
+abbrev pub runText : List TypeName → List Kind → List ℕ → Answer
+runText c ks xs = ofParts (partsOf ks xs) (λ ps. done (textOfParts (shown c) ks ps))
 
 -- the octets of each field of a run, read from a text
-abbrev pub runParts : List Kind → List ℕ → List ℕ → Parts
-runParts ks origin text = readRun (λ k ts. readField k origin ts) ks (tokens text)
+abbrev pub runParts : List TypeName → List Kind → List ℕ → List ℕ → Parts
+runParts c ks origin text = readRun (λ k ts. readField c k origin ts) ks (tokens text)
 
 -- the octets that a run reads from a text, or 11, whatever the room is
-abbrev pub runOctets : List Kind → List ℕ → List ℕ → Answer
-runOctets ks origin text = ofParts (runParts ks origin text) (λ ps. orRefusal 11 (leb (length (flat ps)) maxRdata) (done (flat ps)))
+abbrev pub runOctets : List TypeName → List Kind → List ℕ → List ℕ → Answer
+runOctets c ks origin text = ofParts (runParts c ks origin text) (λ ps. orRefusal 11 (leb (length (flat ps)) maxRdata) (done (flat ps)))
 
 -- a run reads a text, and there is room for its octets
-pub record ReadsIn (ks : List Kind) (origin text : List ℕ) (room : ℕ) : Type 0 where
+pub record ReadsIn (c : List TypeName) (ks : List Kind) (origin text : List ℕ) (room : ℕ) : Type 0 where
   pub fields : List (List ℕ)
-  pub reads : runParts ks origin text ≡ parts fields
+  pub reads : runParts c ks origin text ≡ parts fields
   pub short : length (flat fields) ≤ maxRdata
   pub fits : length (flat fields) ≤ room

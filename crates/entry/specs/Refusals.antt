@@ -1,4 +1,4 @@
--- Document 01's table of refusals: the place that goes with each number.
+-- Document 01's table of refusals, and document 02's number: the place that goes with each.
 use Prim.Native.Nat.{ℕ, _+_, _≤_, _<_}
 use mathlib.Core.Path.{_≡_}
 use mathlib.Core.List.{List, [], _∷_}
@@ -41,6 +41,8 @@ pub data Fixed (stanza : List ℕ) (many room : ℕ) : ℕ → ℕ → Type 0 wh
   over-rdata : Fixed stanza many room 11 0
   -- 12: "the result is longer than the room"; "octets needed"
   no-room : {n : ℕ} → room < n → Fixed stanza many room 12 n
+  -- 13: "place the first entry (from 1) bad in itself or against earlier ones, or a 513th" (document 02, 3)
+  bad-entry : {i : ℕ} → 1 ≤ i → i ≤ 513 → Fixed stanza many room 13 i
 
 -- The numbers with which judging, printing and reading may refuse: 7 and 11 are for "text reading only".
 abbrev pub judgeNumbers : List ℕ
@@ -51,3 +53,10 @@ printNumbers = 1 ∷ 2 ∷ 3 ∷ 4 ∷ 5 ∷ 6 ∷ 8 ∷ 9 ∷ 10 ∷ 12 ∷ []
 
 abbrev pub readNumbers : List ℕ
 readNumbers = 1 ∷ 2 ∷ 3 ∷ 4 ∷ 5 ∷ 6 ∷ 7 ∷ 8 ∷ 9 ∷ 10 ∷ 11 ∷ 12 ∷ []
+
+-- The same with a catalogue: 13 "after 7 (after 6 when printing)".
+abbrev pub printWithNumbers : List ℕ
+printWithNumbers = 1 ∷ 2 ∷ 3 ∷ 4 ∷ 5 ∷ 6 ∷ 8 ∷ 9 ∷ 10 ∷ 12 ∷ 13 ∷ []
+
+abbrev pub readWithNumbers : List ℕ
+readWithNumbers = 1 ∷ 2 ∷ 3 ∷ 4 ∷ 5 ∷ 6 ∷ 7 ∷ 8 ∷ 9 ∷ 10 ∷ 11 ∷ 12 ∷ 13 ∷ []

@@ -10,9 +10,10 @@ use borrow.Author.Tests.{le-leb, lt-leb}
 use Rattle.format.specs.Lists.{anyOf, allOf}
 use Rattle.format.specs.Octets.{Octets}
 use Rattle.format.specs.Field.{Kind, tail}
+use Rattle.format.specs.Catalogue.{Entry, TypeName, Catalogued, badEntry, known, catalogued}
 use Rattle.format.specs.Run.{shown, refused, parts, partsOf, textOfParts, textOf}
-use Rattle.format.specs.Entries.{done, refusal, printing}
-use Rattle.format.specs.Demands.{tailsLast, soundKind}
+use Rattle.format.specs.Entries.{done, refusal, ofCatalogue, printingWith}
+use Rattle.format.specs.Demands.{tailsLast, soundKind, soundNames}
 use Rattle.format.proofs.Field.{isBitmap}
 use Rattle.format.proofs.Run.{no-tail}
 use Rattle.format.proofs.Bound.{tail-bitmap, plain-within, text-within}
@@ -55,56 +56,57 @@ plain-run s fs k (suc m) t h =
     let q : k + suc m ≡ k + 1 + m = omega arith in
     rw (plain-kind (kindFor s (getD fs k noField)) a) (plain-run s fs (k + 1) m b (rw q at h))
 
-module _ (s : List ℕ) (fs : List FieldDesc) (first many : ℕ) (xs : List ℕ) (b : Octets xs) (a : Accepted s fs first many xs) where
+module _ (ns : List TypeName) (g : soundNames ns ≡ true) (s : List ℕ) (fs : List FieldDesc) (first many : ℕ) (xs : List ℕ) (b : Octets xs) (a : Accepted s fs first many xs) where
   all-sound : allOf soundKind (kindsFrom s fs first many) ≡ true
   all-sound = all-of soundKind s fs first many (λ j l. a .usable .fields j l .sound)
 
-  text-parts : textOf (kindsFrom s fs first many) xs ≡ textOfParts shown (kindsFrom s fs first many) (a .taken-all .0)
+  text-parts : textOf ns (kindsFrom s fs first many) xs ≡ textOfParts (shown ns) (kindsFrom s fs first many) (a .taken-all .0)
   unfolding textOf
   text-parts = rw (a .taken-all .1)
 
-  pub surely : 1 ≤ many → (d : FieldDesc) → d ≡ getD fs (first + many - 1) noField → isBitmap (kindFor s d) ≡ false → (room : ℕ) → 4 * length xs + 64 * many ≤ room → length (textOf (kindsFrom s fs first many) xs) ≤ room
+  pub surely : 1 ≤ many → (d : FieldDesc) → d ≡ getD fs (first + many - 1) noField → isBitmap (kindFor s d) ≡ false → (room : ℕ) → 4 * length xs + 64 * many ≤ room → length (textOf ns (kindsFrom s fs first many) xs) ≤ room
   surely h d f k room l = by many refl h
     where
-      by : (m : ℕ) → many ≡ m → 1 ≤ m → length (textOf (kindsFrom s fs first many) xs) ≤ room
+      by : (m : ℕ) → many ≡ m → 1 ≤ m → length (textOf ns (kindsFrom s fs first many) xs) ≤ room
       by zero e h = absurd (omega arith)
       by (suc m) e h =
           let i : first + many - 1 ≡ first + m = omega arith in
           let t : tailsLast (kindsFrom s fs first (suc m)) ≡ true = subst (λ n. tailsLast (kindsFrom s fs first n) ≡ true) e (a .usable .tails) in
           let p : anyOf isBitmap (kindsFrom s fs first many) ≡ false = subst (λ n. anyOf isBitmap (kindsFrom s fs first n) ≡ false) (sym e) (plain-run s fs first m t (rw (f, i) at k)) in
-          omega (arith, plain-within (kindsFrom s fs first many) p all-sound xs b (a .taken-all .0) (a .taken-all .1), ap length text-parts, kinds-many s fs first many)
+          omega (arith, plain-within ns g (kindsFrom s fs first many) p all-sound xs b (a .taken-all .0) (a .taken-all .1), ap length text-parts, kinds-many s fs first many)
 
-  pub text-short : length (textOf (kindsFrom s fs first many) xs) ≤ 1048576
+  pub text-short : length (textOf ns (kindsFrom s fs first many) xs) ≤ 1048576
   text-short =
-      omega (arith, text-within (kindsFrom s fs first many) (a .usable .tails) all-sound (omega (arith, kinds-many s fs first many, a .usable .within)) xs b (a .short) (a .taken-all .0) (a .taken-all .1), ap length text-parts)
+      omega (arith, text-within ns g (kindsFrom s fs first many) (a .usable .tails) all-sound (omega (arith, kinds-many s fs first many, a .usable .within)) xs b (a .short) (a .taken-all .0) (a .taken-all .1), ap length text-parts)
 
 -- what a run answers
-pub text-answer : (ks : List Kind) (xs : List ℕ) (ps : List (List ℕ)) → partsOf ks xs ≡ parts ps → runText ks xs ≡ done (textOf ks xs)
+pub text-answer : (ns : List TypeName) (ks : List Kind) (xs : List ℕ) (ps : List (List ℕ)) → partsOf ks xs ≡ parts ps → runText ns ks xs ≡ done (textOf ns ks xs)
 unfolding textOf
-text-answer ks xs ps e = rw e
+text-answer ns ks xs ps e = rw e
 
-pub no-answer : (ks : List Kind) (xs : List ℕ) (n i : ℕ) → partsOf ks xs ≡ refused n i → runText ks xs ≡ refusal n i
-no-answer ks xs n i e = rw e
+pub no-answer : (ns : List TypeName) (ks : List Kind) (xs : List ℕ) (n i : ℕ) → partsOf ks xs ≡ refused n i → runText ns ks xs ≡ refusal n i
+no-answer ns ks xs n i e = rw e
 
 -- printing, refusal by refusal
-pub print-long : (s : List ℕ) (first many : ℕ) (xs : List ℕ) → 65535 < length xs → printing s first many xs ≡ refusal 1 0
-unfolding printing
-print-long s first many xs h = rw (lt-leb (length xs) 65535 h)
+module _ (es : List Entry) (names : List ℕ) where
+  pub print-long : (s : List ℕ) (first many : ℕ) (xs : List ℕ) → 65535 < length xs → printingWith s first many es names xs ≡ refusal 1 0
+  unfolding printingWith
+  print-long s first many xs h = rw (lt-leb (length xs) 65535 h)
 
-module _ {s codes : List ℕ} {o : Outline} (q : Outlined s codes o) where
-  pub print-rejected : (first many : ℕ) (xs : List ℕ) → length xs ≤ 65535 → 0 < o .number → printing s first many xs ≡ refusal (o .number) (o .line)
-  unfolding printing
-  print-rejected first many xs h n = rw (le-leb (length xs) 65535 h, not-judged q (λ z. omega arith))
+  module _ {s codes : List ℕ} {o : Outline} (q : Outlined s codes o) where
+    pub print-rejected : (first many : ℕ) (xs : List ℕ) → length xs ≤ 65535 → 0 < o .number → printingWith s first many es names xs ≡ refusal (o .number) (o .line)
+    unfolding printingWith
+    print-rejected first many xs h n = rw (le-leb (length xs) 65535 h, not-judged q (λ z. omega arith))
 
-  module _ (n : o .number ≡ 0) where
-    pub print-no-run : (first many : ℕ) (xs : List ℕ) → length xs ≤ 65535 → false ≡ leb 1 first && leb (first - 1 + many) (o .count) → printing s first many xs ≡ refusal 6 0
-    unfolding printing
-    print-no-run first many xs h r = rw (le-leb (length xs) 65535 h, accepted q n, kinds-length q n, ← r)
+    module _ (n : o .number ≡ 0) where
+      pub print-no-run : (first many : ℕ) (xs : List ℕ) → length xs ≤ 65535 → false ≡ leb 1 first && leb (first - 1 + many) (o .count) → printingWith s first many es names xs ≡ refusal 6 0
+      unfolding printingWith
+      print-no-run first many xs h r = rw (le-leb (length xs) 65535 h, accepted q n, kinds-length q n, ← r)
 
-    pub print-runs : (first many : ℕ) → true ≡ leb 1 first && leb (first - 1 + many) (o .count) → (xs : List ℕ) → length xs ≤ 65535
-        → printing s first many xs ≡ runText (kindsFrom s (fieldsOf codes) (first - 1) many) xs
-    unfolding printing
-    print-runs first many r xs h = rw (le-leb (length xs) 65535 h, accepted q n, kinds-length q n, ← r, run-kinds q n first many r)
+      pub print-runs : (first many : ℕ) → true ≡ leb 1 first && leb (first - 1 + many) (o .count) → (xs : List ℕ) → length xs ≤ 65535
+          → printingWith s first many es names xs ≡ ofCatalogue (catalogued names es) (λ ns. runText ns (kindsFrom s (fieldsOf codes) (first - 1) many) xs)
+      unfolding printingWith
+      print-runs first many r xs h = rw (le-leb (length xs) 65535 h, accepted q n, kinds-length q n, ← r, run-kinds q n first many r)
 
 -- the room that a text needs: 0 if it fits, else its length
 pub fitting-needs : (room : ℕ) (t : List ℕ) → length t ≤ room → length t ≤ 1048576 → Needs room 0 t

@@ -5,12 +5,15 @@ ghost use mathlib.Core.Bool.{true};
 ghost use mathlib.Core.List.{List};
 ghost use lib.ListN.{length};
 ghost use Rattle.format.specs.Octets.{Octets};
-ghost use Rattle.format.specs.Entries.{done};
+ghost use Rattle.format.specs.Entries.{done, ofCatalogue};
 ghost use Rattle.format.specs.Run.{textOf};
+ghost use Rattle.format.specs.Catalogue.{TypeName, catalogued};
+ghost use Rattle.format.specs.Demands.{soundNames};
 ghost use Rattle.stanza_form.specs.Code.{fieldsOf};
 ghost use Rattle.run_wire.specs.Run.{kindsFrom, UsableRun};
 ghost use Rattle.run_print.specs.Printing.{Accepted};
-ghost use Rattle.entry.specs.Entries.{Leaves, PrintPromise, withRoom, runText};
+ghost use Rattle.entry.specs.Entries.{Leaves, PrintPromise, PrintWithPromise, withRoom, runText};
+ghost use Rattle.catalogue.specs.Entries.{Listed, namesOf, entriesAt};
 ghost use Rattle.entry_print.specs.Needs.{Needs};
 use entry::Reply;
 use entry::accepted;
@@ -22,7 +25,7 @@ use stanza_form::Shape;
 // most 64. If this denies it, the text is measured.
 fn surely_fits(codes: &[u64; 64], first: usize, many: usize, octets: usize, room: usize) -> bool
     requires { ⌜ (first + many ≤ 64) × (octets ≤ 65535) ⌝ }
-    ensures { λ r. ⌜ (r ≡ true → (s xs : List ℕ) → Octets xs → length xs ≡ octets → Accepted s (fieldsOf (now (codes .entry))) first many xs → length (textOf (kindsFrom s (fieldsOf (now (codes .entry))) first many) xs) ≤ room) ⌝ }
+    ensures { λ r. ⌜ (r ≡ true → (c : List TypeName) → soundNames c ≡ true → (s xs : List ℕ) → Octets xs → length xs ≡ octets → Accepted s (fieldsOf (now (codes .entry))) first many xs → length (textOf c (kindsFrom s (fieldsOf (now (codes .entry))) first many) xs) ≤ room) ⌝ }
 {
     if many < 1 {
         return false;
@@ -46,18 +49,20 @@ fn needed(
     codes: &[u64; 64],
     first: usize,
     many: usize,
+    types: &[u64],
+    names: &[u8],
     p: &[u8],
     out: &mut [u8],
     room: usize,
 ) -> usize
-    requires { ⌜ Accepted (now s) (fieldsOf (now codes)) first many (now p) ⌝ }
-    ensures { λ r. ⌜ (now (out .exit) ≡ now (out .entry)) × Needs room r (textOf (kindsFrom (now (s .entry)) (fieldsOf (now (codes .entry))) first many) (now (p .entry))) ⌝ }
+    requires { ⌜ Accepted (now s) (fieldsOf (now codes)) first many (now p) × Listed (now names) (now types) ⌝ }
+    ensures { λ r. ⌜ (now (out .exit) ≡ now (out .entry)) × Needs room r (textOf (namesOf (now (names .entry)) (now (types .entry))) (kindsFrom (now (s .entry)) (fieldsOf (now (codes .entry))) first many) (now (p .entry))) ⌝ }
 {
     if surely_fits(codes, first, many, p.len(), room) {
         return 0;
     }
     let end = out.len();
-    run_print::put_run(&mut out[end..], codes, first, many, s, p)
+    run_print::put_run(&mut out[end..], codes, first, many, s, types, names, p)
 }
 
 // Writes the text of RDATA that the run takes, at a place in the buffer, if there is room.
@@ -66,20 +71,22 @@ fn put_text(
     codes: &[u64; 64],
     first: usize,
     many: usize,
+    types: &[u64],
+    names: &[u8],
     p: &[u8],
     out: &mut [u8],
     at: usize,
 ) -> Reply
-    requires { ⌜ Accepted (now s) (fieldsOf (now codes)) first many (now p) ⌝ }
-    ensures { λ r. ⌜ Leaves r (now (out .exit)) (withRoom (now (out .entry)) at (done (textOf (kindsFrom (now (s .entry)) (fieldsOf (now (codes .entry))) first many) (now (p .entry))))) ⌝ }
+    requires { ⌜ Accepted (now s) (fieldsOf (now codes)) first many (now p) × Listed (now names) (now types) ⌝ }
+    ensures { λ r. ⌜ Leaves r (now (out .exit)) (withRoom (now (out .entry)) at (done (textOf (namesOf (now (names .entry)) (now (types .entry))) (kindsFrom (now (s .entry)) (fieldsOf (now (codes .entry))) first many) (now (p .entry))))) ⌝ }
 {
     let n = out.len();
     let a = buffer::least(at, n);
-    let need = needed(s, codes, first, many, p, out, n - a);
+    let need = needed(s, codes, first, many, types, names, p, out, n - a);
     if n - a < need {
         return refused(12, need as u32);
     }
-    let w = run_print::put_run(&mut out[a..], codes, first, many, s, p);
+    let w = run_print::put_run(&mut out[a..], codes, first, many, s, types, names, p);
     accepted(w as u32)
 }
 
@@ -89,31 +96,58 @@ fn print_run(
     codes: &[u64; 64],
     first: usize,
     many: usize,
+    types: &[u64],
+    names: &[u8],
+    p: &[u8],
+    out: &mut [u8],
+    at: usize,
+) -> Reply
+    requires { ⌜ UsableRun (now s) (fieldsOf (now codes)) first many × (length (now p) ≤ 65535) × Listed (now names) (now types) ⌝ }
+    ensures { λ r. ⌜ Leaves r (now (out .exit)) (withRoom (now (out .entry)) at (runText (namesOf (now (names .entry)) (now (types .entry))) (kindsFrom (now (s .entry)) (fieldsOf (now (codes .entry))) first many) (now (p .entry)))) ⌝ }
+{
+    let c = run_wire::check(codes, first, many, p);
+    match c {
+        Checked::Refused(number, place) => refused(number, place),
+        Checked::Good => put_text(s, codes, first, many, types, names, p, out, at),
+    }
+}
+
+// Prints RDATA under a run of a judged stanza, with the names of a catalogue; 13 if it is bad.
+fn print_listed(
+    s: &[u8],
+    codes: &[u64; 64],
+    first: usize,
+    many: usize,
+    entries: &[u64],
+    names: &[u8],
     p: &[u8],
     out: &mut [u8],
     at: usize,
 ) -> Reply
     requires { ⌜ UsableRun (now s) (fieldsOf (now codes)) first many × (length (now p) ≤ 65535) ⌝ }
-    ensures { λ r. ⌜ Leaves r (now (out .exit)) (withRoom (now (out .entry)) at (runText (kindsFrom (now (s .entry)) (fieldsOf (now (codes .entry))) first many) (now (p .entry)))) ⌝ }
+    ensures { λ r. ⌜ Leaves r (now (out .exit)) (withRoom (now (out .entry)) at (ofCatalogue (catalogued (now (names .entry)) (entriesAt (now (entries .entry)))) (λ c. runText c (kindsFrom (now (s .entry)) (fieldsOf (now (codes .entry))) first many) (now (p .entry))))) ⌝ }
 {
-    let c = run_wire::check(codes, first, many, p);
-    match c {
-        Checked::Refused(number, place) => refused(number, place),
-        Checked::Good => put_text(s, codes, first, many, p, out, at),
+    let bad = catalogue_judge::judged(entries, names);
+    if 0 < bad {
+        return refused(13, bad as u32);
     }
+    print_run(s, codes, first, many, entries, names, p, out, at)
 }
 
-// Prints RDATA under `length` fields of a description, starting at `first`: 0 and the number of octets of the text, which stands
-// in `out` from `at` on; or a refusal's number and place, with `out` as it was.
-pub fn print(
+// Prints RDATA under `length` fields of a description, starting at `first`, with the names of types in a catalogue: its entries
+// as numbers, and the text that they point into. The answer is 0 and the number of octets of the text, which stands in `out`
+// from `at` on; or a refusal's number and place, with `out` as it was.
+pub fn print_with(
     stanza: &[u8],
     first: usize,
     length: usize,
+    entries: &[u64],
+    names: &[u8],
     rdata: &[u8],
     out: &mut [u8],
     at: usize,
 ) -> Reply
-    ensures { λ r. ⌜ PrintPromise (now (stanza .entry)) first length (now (rdata .entry)) (now (out .entry)) at r (now (out .exit)) ⌝ }
+    ensures { λ r. ⌜ PrintWithPromise (now (stanza .entry)) first length (entriesAt (now (entries .entry))) (now (names .entry)) (now (rdata .entry)) (now (out .entry)) at r (now (out .exit)) ⌝ }
 {
     if 65535 < rdata.len() {
         return refused(1, 0);
@@ -126,7 +160,41 @@ pub fn print(
     }
     let count = outline.count;
     if entry::is_run(first, length, count) {
-        return print_run(stanza, &codes, first - 1, length, rdata, out, at);
+        return print_listed(
+            stanza,
+            &codes,
+            first - 1,
+            length,
+            entries,
+            names,
+            rdata,
+            out,
+            at,
+        );
     }
     refused(6, 0)
+}
+
+// The same with no catalogue: every type prints as `TYPE` and its number.
+pub fn print(
+    stanza: &[u8],
+    first: usize,
+    length: usize,
+    rdata: &[u8],
+    out: &mut [u8],
+    at: usize,
+) -> Reply
+    ensures { λ r. ⌜ PrintPromise (now (stanza .entry)) first length (now (rdata .entry)) (now (out .entry)) at r (now (out .exit)) ⌝ }
+{
+    let none = [0u64; 1];
+    print_with(
+        stanza,
+        first,
+        length,
+        &none[0..0],
+        &stanza[0..0],
+        rdata,
+        out,
+        at,
+    )
 }

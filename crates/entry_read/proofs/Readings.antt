@@ -10,7 +10,8 @@ use lib.Dec.{leb}
 use borrow.Author.Tests.{le-leb, lt-leb}
 use Rattle.format.specs.Wire.{labelLength, taken, takesAll}
 use Rattle.format.specs.Name.{isWireName}
-use Rattle.format.specs.Entries.{refusal, reading}
+use Rattle.format.specs.Catalogue.{Entry, catalogued}
+use Rattle.format.specs.Entries.{refusal, ofCatalogue, readingWith}
 use Rattle.stanza_form.specs.Code.{fieldsOf}
 use Rattle.stanza_judge.specs.declared.Outline.{Outline}
 use Rattle.stanza_judge.specs.Stanza.{Outlined}
@@ -27,25 +28,26 @@ pub whole-name : (p : List ℕ) (t : Take) → takenIn t ≡ taken (labelLength 
 whole-name p t e = ap (λ x. takesAll x p) (e ∙ ap (taken (labelLength false 0)) (to-end p 0))
 
 -- refusals 1, the stanza's, 6 and 7
-pub read-long : (s : List ℕ) (first many : ℕ) (origin text : List ℕ) → 1048576 < length text → reading s first many origin text ≡ refusal 1 0
-unfolding reading
-read-long s first many origin text h = rw (lt-leb (length text) 1048576 h)
+module _ (es : List Entry) (names : List ℕ) where
+  pub read-long : (s : List ℕ) (first many : ℕ) (origin text : List ℕ) → 1048576 < length text → readingWith s first many es names origin text ≡ refusal 1 0
+  unfolding readingWith
+  read-long s first many origin text h = rw (lt-leb (length text) 1048576 h)
 
-module _ {s codes : List ℕ} {o : Outline} (q : Outlined s codes o) (origin text : List ℕ) (h : length text ≤ 1048576) where
-  pub read-rejected : (first many : ℕ) → 0 < o .number → reading s first many origin text ≡ refusal (o .number) (o .line)
-  unfolding reading
-  read-rejected first many n = rw (le-leb (length text) 1048576 h, not-judged q (λ z. omega arith))
+  module _ {s codes : List ℕ} {o : Outline} (q : Outlined s codes o) (origin text : List ℕ) (h : length text ≤ 1048576) where
+    pub read-rejected : (first many : ℕ) → 0 < o .number → readingWith s first many es names origin text ≡ refusal (o .number) (o .line)
+    unfolding readingWith
+    read-rejected first many n = rw (le-leb (length text) 1048576 h, not-judged q (λ z. omega arith))
 
-  module _ (n : o .number ≡ 0) (first many : ℕ) where
-    pub read-no-run : false ≡ leb 1 first && leb (first - 1 + many) (o .count) → reading s first many origin text ≡ refusal 6 0
-    unfolding reading
-    read-no-run r = rw (le-leb (length text) 1048576 h, accepted q n, kinds-length q n, ← r)
+    module _ (n : o .number ≡ 0) (first many : ℕ) where
+      pub read-no-run : false ≡ leb 1 first && leb (first - 1 + many) (o .count) → readingWith s first many es names origin text ≡ refusal 6 0
+      unfolding readingWith
+      read-no-run r = rw (le-leb (length text) 1048576 h, accepted q n, kinds-length q n, ← r)
 
-    module _ (r : true ≡ leb 1 first && leb (first - 1 + many) (o .count)) where
-      pub read-no-origin : isWireName origin ≡ false → reading s first many origin text ≡ refusal 7 0
-      unfolding reading
-      read-no-origin w = rw (le-leb (length text) 1048576 h, accepted q n, kinds-length q n, ← r, w)
+      module _ (r : true ≡ leb 1 first && leb (first - 1 + many) (o .count)) where
+        pub read-no-origin : isWireName origin ≡ false → readingWith s first many es names origin text ≡ refusal 7 0
+        unfolding readingWith
+        read-no-origin w = rw (le-leb (length text) 1048576 h, accepted q n, kinds-length q n, ← r, w)
 
-      pub read-runs : isWireName origin ≡ true → reading s first many origin text ≡ runOctets (kindsFrom s (fieldsOf codes) (first - 1) many) origin text
-      unfolding reading
-      read-runs w = rw (le-leb (length text) 1048576 h, accepted q n, kinds-length q n, ← r, w, run-kinds q n first many r)
+        pub read-runs : isWireName origin ≡ true → readingWith s first many es names origin text ≡ ofCatalogue (catalogued names es) (λ c. runOctets c (kindsFrom s (fieldsOf codes) (first - 1) many) origin text)
+        unfolding readingWith
+        read-runs w = rw (le-leb (length text) 1048576 h, accepted q n, kinds-length q n, ← r, w, run-kinds q n first many r)

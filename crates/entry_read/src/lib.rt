@@ -1,10 +1,16 @@
 // Reading: the refusals in their order, and the octets if there is room for them.
 ghost use Prim.Native.Nat.{_≤_};
 ghost use mathlib.Core.Path.{_≡_};
+ghost use mathlib.Core.Bool.{true};
 ghost use lib.ListN.{length};
 ghost use Rattle.format.specs.Name.{isWireName};
+ghost use Rattle.format.specs.Catalogue.{catalogued};
+ghost use Rattle.format.specs.Entries.{ofCatalogue};
+ghost use Rattle.stanza_form.specs.Code.{fieldsOf};
 ghost use Rattle.stanza_judge.specs.Stanza.{Outlined};
-ghost use Rattle.entry.specs.Entries.{ReadPromise};
+ghost use Rattle.catalogue.specs.Entries.{entriesAt};
+ghost use Rattle.run_wire.specs.Run.{kindsFrom, UsableRun};
+ghost use Rattle.entry.specs.Entries.{Leaves, ReadPromise, ReadWithPromise, withRoom, runOctets};
 use entry::Reply;
 use entry::refused;
 use field_wire::Take;
@@ -22,7 +28,71 @@ fn is_name(p: &[u8]) -> bool
     }
 }
 
-// Reads a text under a stanza that is already judged.
+// Reads a text under a run of a judged stanza, with the names of a catalogue; 13 if it is bad.
+fn read_listed(
+    s: &[u8],
+    codes: &[u64; 64],
+    first: usize,
+    many: usize,
+    entries: &[u64],
+    names: &[u8],
+    origin: &[u8],
+    t: &[u8],
+    out: &mut [u8],
+    at: usize,
+) -> Reply
+    requires { ⌜ UsableRun (now s) (fieldsOf (now codes)) first many × (isWireName (now origin) ≡ true) × (length (now t) ≤ 1048576) ⌝ }
+    ensures { λ r. ⌜ Leaves r (now (out .exit)) (withRoom (now (out .entry)) at (ofCatalogue (catalogued (now (names .entry)) (entriesAt (now (entries .entry)))) (λ c. runOctets c (kindsFrom (now (s .entry)) (fieldsOf (now (codes .entry))) first many) (now (origin .entry)) (now (t .entry))))) ⌝ }
+{
+    let bad = catalogue_judge::judged(entries, names);
+    if 0 < bad {
+        return refused(13, bad as u32);
+    }
+    entry_room::read_run(s, codes, first, many, entries, names, origin, t, out, at)
+}
+
+// Reads a text under a stanza that is already judged, with a catalogue.
+fn read_under(
+    s: &[u8],
+    outline: Outline,
+    codes: &[u64; 64],
+    first: usize,
+    many: usize,
+    entries: &[u64],
+    names: &[u8],
+    origin: &[u8],
+    t: &[u8],
+    out: &mut [u8],
+    at: usize,
+) -> Reply
+    requires { ⌜ Outlined (now s) (now codes) outline × (length (now t) ≤ 1048576) ⌝ }
+    ensures { λ r. ⌜ ReadWithPromise (now (s .entry)) first many (entriesAt (now (entries .entry))) (now (names .entry)) (now (origin .entry)) (now (t .entry)) (now (out .entry)) at r (now (out .exit)) ⌝ }
+{
+    let n = outline.number;
+    if 0 < n {
+        return refused(n as u32, outline.line as u32);
+    }
+    if entry::is_run(first, many, outline.count) {
+        if is_name(origin) {
+            return read_listed(
+                s,
+                codes,
+                first - 1,
+                many,
+                entries,
+                names,
+                origin,
+                t,
+                out,
+                at,
+            );
+        }
+        return refused(7, 0);
+    }
+    refused(6, 0)
+}
+
+// The same with no catalogue.
 pub fn read_judged(
     s: &[u8],
     outline: Outline,
@@ -37,21 +107,59 @@ pub fn read_judged(
     requires { ⌜ Outlined (now s) (now codes) outline × (length (now t) ≤ 1048576) ⌝ }
     ensures { λ r. ⌜ ReadPromise (now (s .entry)) first many (now (origin .entry)) (now (t .entry)) (now (out .entry)) at r (now (out .exit)) ⌝ }
 {
-    let n = outline.number;
-    if 0 < n {
-        return refused(n as u32, outline.line as u32);
-    }
-    if entry::is_run(first, many, outline.count) {
-        if is_name(origin) {
-            return entry_room::read_run(s, codes, first - 1, many, origin, t, out, at);
-        }
-        return refused(7, 0);
-    }
-    refused(6, 0)
+    let none = [0u64; 1];
+    read_under(
+        s,
+        outline,
+        codes,
+        first,
+        many,
+        &none[0..0],
+        &s[0..0],
+        origin,
+        t,
+        out,
+        at,
+    )
 }
 
-// Reads a text under `length` fields of a description, starting at `first`; names without a final dot are under the origin: 0 and
-// the number of octets of the RDATA, which stand in `out` from `at` on; or a refusal's number and place, with `out` as it was.
+// Reads a text under `length` fields of a description, starting at `first`; names without a final dot are under the origin, and
+// types may have the names in a catalogue: its entries as numbers, and the text that they point into. The answer is 0 and the
+// number of octets of the RDATA, which stand in `out` from `at` on; or a refusal's number and place, with `out` as it was.
+pub fn read_with(
+    stanza: &[u8],
+    first: usize,
+    length: usize,
+    entries: &[u64],
+    names: &[u8],
+    origin: &[u8],
+    text: &[u8],
+    out: &mut [u8],
+    at: usize,
+) -> Reply
+    ensures { λ r. ⌜ ReadWithPromise (now (stanza .entry)) first length (entriesAt (now (entries .entry))) (now (names .entry)) (now (origin .entry)) (now (text .entry)) (now (out .entry)) at r (now (out .exit)) ⌝ }
+{
+    if 1048576 < text.len() {
+        return refused(1, 0);
+    }
+    let mut codes = [0u64; 64];
+    let outline = stanza_judge::judged_outline(stanza, &mut codes);
+    read_under(
+        stanza,
+        outline,
+        &codes,
+        first,
+        length,
+        entries,
+        names,
+        origin,
+        text,
+        out,
+        at,
+    )
+}
+
+// The same with no catalogue: a type is read as `TYPE` and its number alone.
 pub fn read(
     stanza: &[u8],
     first: usize,
@@ -63,17 +171,13 @@ pub fn read(
 ) -> Reply
     ensures { λ r. ⌜ ReadPromise (now (stanza .entry)) first length (now (origin .entry)) (now (text .entry)) (now (out .entry)) at r (now (out .exit)) ⌝ }
 {
-    if 1048576 < text.len() {
-        return refused(1, 0);
-    }
-    let mut codes = [0u64; 64];
-    let outline = stanza_judge::judged_outline(stanza, &mut codes);
-    read_judged(
+    let none = [0u64; 1];
+    read_with(
         stanza,
-        outline,
-        &codes,
         first,
         length,
+        &none[0..0],
+        &stanza[0..0],
         origin,
         text,
         out,

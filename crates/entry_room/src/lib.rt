@@ -6,6 +6,7 @@ ghost use lib.ListN.{length};
 ghost use Rattle.format.specs.Name.{isWireName};
 ghost use Rattle.stanza_form.specs.Code.{fieldsOf};
 ghost use Rattle.run_wire.specs.Run.{kindsFrom, UsableRun};
+ghost use Rattle.catalogue.specs.Entries.{Listed, namesOf};
 ghost use Rattle.entry.specs.Entries.{Leaves, withRoom, runOctets, ReadsIn};
 use entry::Reply;
 use entry::accepted;
@@ -18,16 +19,28 @@ fn read_again(
     codes: &[u64; 64],
     first: usize,
     many: usize,
+    types: &[u64],
+    names: &[u8],
     origin: &[u8],
     t: &[u8],
     out: &mut [u8],
     at: usize,
 ) -> Reply
-    requires { ⌜ UsableRun (now s) (fieldsOf (now codes)) first many × (isWireName (now origin) ≡ true) × (length (now t) ≤ 1048576) × ReadsIn (kindsFrom (now s) (fieldsOf (now codes)) first many) (now origin) (now t) (length (now out) - at) ⌝ }
-    ensures { λ r. ⌜ Leaves r (now (out .exit)) (withRoom (now (out .entry)) at (runOctets (kindsFrom (now (s .entry)) (fieldsOf (now (codes .entry))) first many) (now (origin .entry)) (now (t .entry)))) ⌝ }
+    requires { ⌜ UsableRun (now s) (fieldsOf (now codes)) first many × (isWireName (now origin) ≡ true) × (length (now t) ≤ 1048576) × Listed (now names) (now types) × ReadsIn (namesOf (now names) (now types)) (kindsFrom (now s) (fieldsOf (now codes)) first many) (now origin) (now t) (length (now out) - at) ⌝ }
+    ensures { λ r. ⌜ Leaves r (now (out .exit)) (withRoom (now (out .entry)) at (runOctets (namesOf (now (names .entry)) (now (types .entry))) (kindsFrom (now (s .entry)) (fieldsOf (now (codes .entry))) first many) (now (origin .entry)) (now (t .entry)))) ⌝ }
 {
     let a = buffer::least(at, out.len());
-    let r = run_read::read_run(&mut out[a..], codes, first, many, s, origin, t);
+    let r = run_read::read_run(
+        &mut out[a..],
+        codes,
+        first,
+        many,
+        s,
+        types,
+        names,
+        origin,
+        t,
+    );
     match r {
         RunRead::Refused(number, place) => refused(number, place),
         RunRead::Done(m) => accepted(m as u32),
@@ -42,15 +55,17 @@ fn read_through(
     codes: &[u64; 64],
     first: usize,
     many: usize,
+    types: &[u64],
+    names: &[u8],
     origin: &[u8],
     t: &[u8],
     out: &mut [u8],
     at: usize,
 ) -> Reply
-    requires { ⌜ UsableRun (now s) (fieldsOf (now codes)) first many × (isWireName (now origin) ≡ true) × (length (now t) ≤ 1048576) ⌝ }
-    ensures { λ r. ⌜ Leaves r (now (out .exit)) (withRoom (now (out .entry)) at (runOctets (kindsFrom (now (s .entry)) (fieldsOf (now (codes .entry))) first many) (now (origin .entry)) (now (t .entry)))) ⌝ }
+    requires { ⌜ UsableRun (now s) (fieldsOf (now codes)) first many × (isWireName (now origin) ≡ true) × (length (now t) ≤ 1048576) × Listed (now names) (now types) ⌝ }
+    ensures { λ r. ⌜ Leaves r (now (out .exit)) (withRoom (now (out .entry)) at (runOctets (namesOf (now (names .entry)) (now (types .entry))) (kindsFrom (now (s .entry)) (fieldsOf (now (codes .entry))) first many) (now (origin .entry)) (now (t .entry)))) ⌝ }
 {
-    let r = run_read::read_run(short, codes, first, many, s, origin, t);
+    let r = run_read::read_run(short, codes, first, many, s, types, names, origin, t);
     match r {
         RunRead::Refused(number, place) => refused(number, place),
         RunRead::Done(m) => {
@@ -63,7 +78,7 @@ fn read_through(
                 return refused(12, m as u32);
             }
             if short.len() < m {
-                return read_again(s, codes, first, many, origin, t, out, at);
+                return read_again(s, codes, first, many, types, names, origin, t, out, at);
             }
             let w = buffer::put_all(&mut out[from..], 0, &short[0..m]);
             accepted(w as u32)
@@ -71,25 +86,67 @@ fn read_through(
     }
 }
 
-// The same through an array of its own: one of 1,024 octets, which is cleared quickly, if the text is short; else one of
-// 12,288, which every bitmap (8,704) fits into.
+// The same through an array of its own: one of 256 octets, which is cleared at once, if the text is short; one of 1,024 if it is
+// longer; else one of 12,288, which every bitmap (8,704) fits into.
 pub fn read_run(
     s: &[u8],
     codes: &[u64; 64],
     first: usize,
     many: usize,
+    types: &[u64],
+    names: &[u8],
     origin: &[u8],
     t: &[u8],
     out: &mut [u8],
     at: usize,
 ) -> Reply
-    requires { ⌜ UsableRun (now s) (fieldsOf (now codes)) first many × (isWireName (now origin) ≡ true) × (length (now t) ≤ 1048576) ⌝ }
-    ensures { λ r. ⌜ Leaves r (now (out .exit)) (withRoom (now (out .entry)) at (runOctets (kindsFrom (now (s .entry)) (fieldsOf (now (codes .entry))) first many) (now (origin .entry)) (now (t .entry)))) ⌝ }
+    requires { ⌜ UsableRun (now s) (fieldsOf (now codes)) first many × (isWireName (now origin) ≡ true) × (length (now t) ≤ 1048576) × Listed (now names) (now types) ⌝ }
+    ensures { λ r. ⌜ Leaves r (now (out .exit)) (withRoom (now (out .entry)) at (runOctets (namesOf (now (names .entry)) (now (types .entry))) (kindsFrom (now (s .entry)) (fieldsOf (now (codes .entry))) first many) (now (origin .entry)) (now (t .entry)))) ⌝ }
 {
+    if t.len() <= 128 {
+        let mut least = [0u8; 256];
+        return read_through(
+            &mut least,
+            s,
+            codes,
+            first,
+            many,
+            types,
+            names,
+            origin,
+            t,
+            out,
+            at,
+        );
+    }
     if t.len() <= 1024 {
         let mut short = [0u8; 1024];
-        return read_through(&mut short, s, codes, first, many, origin, t, out, at);
+        return read_through(
+            &mut short,
+            s,
+            codes,
+            first,
+            many,
+            types,
+            names,
+            origin,
+            t,
+            out,
+            at,
+        );
     }
     let mut long = [0u8; 12288];
-    read_through(&mut long, s, codes, first, many, origin, t, out, at)
+    read_through(
+        &mut long,
+        s,
+        codes,
+        first,
+        many,
+        types,
+        names,
+        origin,
+        t,
+        out,
+        at,
+    )
 }

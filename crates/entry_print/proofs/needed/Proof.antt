@@ -1,3 +1,5 @@
+use Rattle.catalogue.specs.Entries.{namesOf}
+use Rattle.catalogue.proofs.Laws.{listed-sound}
 use Rattle.entry_print.proofs.Printings.{fitting-needs, measured-needs, text-short}
 use Rattle.format.proofs.Lists.{below-each}
 use Rattle.buffer.proofs.Laws.{measured}
@@ -15,24 +17,24 @@ use Rattle.run_print.proofs.put_run.Reads as put-run-reads
 returns : tie.Need-returns
 returns c =
     let c3 = c .before .before .before in
-    let c5 = c3 .before .before in (
+    let c7 = c3 .before .before .before .before in (
       refl,
       fitting-needs _ _
-          (c .before .surely-fits .ensures (c .if1 .taken) (c5 .args .s .now) (c5 .args .p .now)
-          (below-each 256 (c5 .args .p .now) (λ j. omega (arith, c3 .shared-slice-known2 .given j))) refl (c5 .pre))
-          (text-short (c5 .args .s .now) (fieldsOf (c5 .args .codes .now)) (c5 .args .first) (c5 .args .many) (c5 .args .p .now)
-          (below-each 256 (c5 .args .p .now) (λ j. omega (arith, c3 .shared-slice-known2 .given j))) (c5 .pre)),
+          (c .before .surely-fits .ensures (c .if1 .taken) (namesOf (c7 .args .names .now) (c7 .args .types .now)) (listed-sound (c7 .args .names .now) (c7 .args .types .now) (c7 .pre .1)) (c7 .args .s .now) (c7 .args .p .now)
+          (below-each 256 (c7 .args .p .now) (λ j. omega (arith, c3 .shared-slice-known4 .given j))) refl (c7 .pre .0))
+          (text-short (namesOf (c7 .args .names .now) (c7 .args .types .now)) (listed-sound (c7 .args .names .now) (c7 .args .types .now) (c7 .pre .1)) (c7 .args .s .now) (fieldsOf (c7 .args .codes .now)) (c7 .args .first) (c7 .args .many) (c7 .args .p .now)
+          (below-each 256 (c7 .args .p .now) (λ j. omega (arith, c3 .shared-slice-known4 .given j))) (c7 .pre .0)),
     )
 
 returns-2 : tie.Need-returns-2
 returns-2 c =
     let c2 = c .before .before in
     let c7 = c2 .before .before .before .before .before in
-    let c9 = c7 .before .before in (
+    let c11 = c7 .before .before .before .before in (
       measured _ _ _ _ (c2 .put-run .ensures),
       measured-needs _ _ _ (c2 .put-run .ensures .count)
-          (text-short (c9 .args .s .now) (fieldsOf (c9 .args .codes .now)) (c9 .args .first) (c9 .args .many) (c9 .args .p .now)
-          (below-each 256 (c9 .args .p .now) (λ j. omega (arith, c7 .shared-slice-known2 .given j))) (c9 .pre)),
+          (text-short (namesOf (c11 .args .names .now) (c11 .args .types .now)) (listed-sound (c11 .args .names .now) (c11 .args .types .now) (c11 .pre .1)) (c11 .args .s .now) (fieldsOf (c11 .args .codes .now)) (c11 .args .first) (c11 .args .many) (c11 .args .p .now)
+          (below-each 256 (c11 .args .p .now) (λ j. omega (arith, c7 .shared-slice-known4 .given j))) (c11 .pre .0)),
     )
 
 pub needed-spec : {M : Type 1} → statement M

@@ -1,3 +1,4 @@
+use Rattle.catalogue.specs.Entries.{namesOf}
 use Rattle.entry.proofs.Rooms.{leaves-done, leaves-measured}
 use Rattle.run_wire.specs.Run.{kindsFrom}
 use Rattle.format.specs.Run.{textOf}
@@ -24,9 +25,9 @@ returns : tie.Need-returns
 returns c =
     let c4 = c .before .before .before .before in
     let c6 = c4 .before .before in
-    let c10 = c6 .before .before .before .before in
-    leaves-measured (c10 .args .out .now) _ (c10 .args .at) (c4 .needed .result)
-    (textOf (kindsFrom (c10 .args .s .now) (fieldsOf (c10 .args .codes .now)) (c10 .args .first) (c10 .args .many)) (c10 .args .p .now)) _
+    let c12 = c6 .before .before .before .before .before .before in
+    leaves-measured (c12 .args .out .now) _ (c12 .args .at) (c4 .needed .result)
+    (textOf (namesOf (c12 .args .names .now) (c12 .args .types .now)) (kindsFrom (c12 .args .s .now) (fieldsOf (c12 .args .codes .now)) (c12 .args .first) (c12 .args .many)) (c12 .args .p .now)) _
     (c4 .needed .ensures .0) (omega (arith, c4 .needed .ensures .1 .told (c .before .if1 .taken)))
     (omega (arith, c6 .least .ensures, c .before .if1 .taken)) (c .refused .ensures .0) (c .refused .ensures .1)
 
@@ -42,9 +43,9 @@ returns-2 c =
     let c5 = c3 .before .before in
     let c8 = c5 .before .before .before in
     let c10 = c8 .before .before in
-    let c14 = c10 .before .before .before .before in
-    leaves-done _ (c14 .args .out .now) _ (c14 .args .at) _ _
-    (textOf (kindsFrom (c14 .args .s .now) (fieldsOf (c14 .args .codes .now)) (c14 .args .first) (c14 .args .many)) (c14 .args .p .now))
+    let c16 = c10 .before .before .before .before .before .before in
+    leaves-done _ (c16 .args .out .now) _ (c16 .args .at) _ _
+    (textOf (namesOf (c16 .args .names .now) (c16 .args .types .now)) (kindsFrom (c16 .args .s .now) (fieldsOf (c16 .args .codes .now)) (c16 .args .first) (c16 .args .many)) (c16 .args .p .now))
     _ (c8 .needed .ensures .0) (c10 .least .ensures) (omega (arith, c10 .least .ensures, c8 .needed .ensures .1 .fits (c5 .if1 .left)))
     (c3 .put-run .ensures) (c .accepted .ensures .0) (c .accepted .ensures .1)
 

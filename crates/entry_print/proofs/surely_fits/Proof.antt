@@ -14,19 +14,19 @@ use Rattle.entry_print.proofs.surely_fits.Lts as lts
 use Rattle.stanza_form.proofs.field.Reads as field-reads
 
 returns : tie.Need-returns
-returns c = λ e s xs b n a. absurd (true≢false (sym e))
+returns c = λ e ns g s xs b n a. absurd (true≢false (sym e))
 
 returns-2 : tie.Need-returns-2
-returns-2 c = λ e s xs b n a. absurd (true≢false (sym e))
+returns-2 c = λ e ns g s xs b n a. absurd (true≢false (sym e))
 
 returns-3 : tie.Need-returns-3
-returns-3 c = λ e s xs b n a. absurd (true≢false (sym e))
+returns-3 c = λ e ns g s xs b n a. absurd (true≢false (sym e))
 
 returns-4 : tie.Need-returns-4
 returns-4 c =
     let c2 = c .before .before in
     let c6 = c2 .before .before .before .before in
-    λ e s xs b n a. surely s (fieldsOf (c6 .args .codes .now)) (c6 .args .first) (c6 .args .many) xs b a (omega arith)
+    λ e ns g s xs b n a. surely ns g s (fieldsOf (c6 .args .codes .now)) (c6 .args .first) (c6 .args .many) xs b a (omega arith)
     (c2 .field .result) (read-at (c6 .args .codes .now) _ (c2 .field .ensures))
     (shaped _ (c2 .field .result .form) .windows ∙ ap isWindows (sym (c .before .layout-of .ensures .0))
     ∙ not-windows (c .before .layout-of .result .shape) (c .match .keys2))
