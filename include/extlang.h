@@ -3,12 +3,13 @@
  *
  * Link with libextlang.a, which `rt staticlib extlang` writes to target/staticlib.
  *
- * A function takes a part of memory as a pointer and a count of octets. The
- * pointer is never null, even if the count is 0, and nothing else may write those
- * octets while the function runs. The part that is written must not overlap the
- * others: if it does, nothing is promised, and the call may answer wrongly or
- * crash. No function keeps a pointer, allocates, or changes anything but what it
- * says; each always returns.
+ * A function takes a part of memory as a pointer and a count: of octets, but for
+ * the entries of a catalogue, whose count is of entries and whose pointer is
+ * aligned for their type. The pointer is never null, even if the count is 0, and
+ * nothing else may write that part while the function runs. The part that is
+ * written must not overlap the others: if it does, nothing is promised, and the
+ * call may answer wrongly or crash. No function keeps a pointer, allocates, or
+ * changes anything but what it says; each always returns.
  *
  * The archive is for x86-64. It calls memcpy and memset alone, and has no
  * writable data.
@@ -125,6 +126,68 @@ uint64_t extlang_read(const uint8_t *stanza, size_t stanza_len,
                       const uint8_t *origin, size_t origin_len,
                       const uint8_t *text, size_t text_len,
                       uint8_t *out, size_t out_len, uint64_t at);
+
+/*
+ * A catalogue gives types the names that people know. It is a part of memory with
+ * entries, and a text that their names lie in. An entry has the number of a type,
+ * and its name is `length` octets of the text, starting at octet `start`, counted
+ * from 0.
+ *
+ * It has at most 512 entries, whose numbers are from 0 to 65,535 and each above
+ * the one before. Every name lies inside the text; names may overlap. A name is as
+ * in the header of a description: a letter, then letters, digits and hyphens, at
+ * most 63 octets in all. Ignoring case, no two names are the same, and none is
+ * `TYPE` and one or more digits, not even those of its own number.
+ */
+struct extlang_entry {
+    uint32_t number;
+    uint16_t start;
+    uint16_t length;
+};
+
+/*
+ * Prints as extlang_print does, with a catalogue: R and R[L] print a type that has
+ * an entry as its name, spelled as it is in the text, and any other type as TYPE
+ * and its number. Any entries and any octets of names may be handed in. If
+ * entry_count is 0, this gives what extlang_print gives.
+ *
+ * The numbers are those of extlang_print, and
+ *
+ * Number 13: the catalogue breaks a rule; the place is the number of the first bad
+ *           entry, counted from 1: one that is bad in itself or against an earlier
+ *           one, or a 513th. This comes after 6 and before 8.
+ *
+ * The catalogue is judged whole in every call, also where no type is printed, so
+ * that a bad one is found at once and not by the first record that needs it.
+ *
+ * Out must not overlap the entries or the names either.
+ */
+uint64_t extlang_print_named(const uint8_t *stanza, size_t stanza_len,
+                             uint64_t first, uint64_t length,
+                             const struct extlang_entry *entries, size_t entry_count,
+                             const uint8_t *names, size_t names_len,
+                             const uint8_t *rdata, size_t rdata_len,
+                             uint8_t *out, size_t out_len, uint64_t at);
+
+/*
+ * Reads as extlang_read does, with a catalogue: in R and R[L] a type is the name
+ * of an entry, or TYPE and a number, whether or not that number has an entry; case
+ * is ignored in both. Any entries and any octets of names may be handed in. If
+ * entry_count is 0, this gives what extlang_read gives.
+ *
+ * The numbers are those of extlang_read, and 13 with the place that
+ * extlang_print_named gives, after 7 and before 8. The catalogue is judged whole
+ * in every call, also where no type is read.
+ *
+ * Out must not overlap the entries or the names either.
+ */
+uint64_t extlang_read_named(const uint8_t *stanza, size_t stanza_len,
+                            uint64_t first, uint64_t length,
+                            const struct extlang_entry *entries, size_t entry_count,
+                            const uint8_t *names, size_t names_len,
+                            const uint8_t *origin, size_t origin_len,
+                            const uint8_t *text, size_t text_len,
+                            uint8_t *out, size_t out_len, uint64_t at);
 
 #ifdef __cplusplus
 }
