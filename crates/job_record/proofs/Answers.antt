@@ -2,14 +2,14 @@
 use Prim.Native.Nat.{ℕ, zero, suc, _+_, _-_, _≤_, _<_}
 use mathlib.Core.Path.{_≡_, refl, sym, ap, _∙_}
 use mathlib.Core.Bool.{true}
-use mathlib.Core.List.{List}
+use mathlib.Core.List.{List, []}
 use native.Mathlib.Omega.{arith}
 use lib.Dec.{leb}
 use lib.ListN.{length, take, drop}
 use lib.Seq.{take-at}
 use borrow.Author.Tests.{le-leb}
 use Rattle.format.specs.Judge.{judged}
-use Rattle.format.specs.Entries.{Answer, done, refusal, reading, ifRoom, room, outcome, stored, read}
+use Rattle.format.specs.Entries.{Answer, done, refusal, reading, ifRoom, room, outcome, stored, read, readWith}
 use Rattle.format.specs.Job.{answerLine, fieldCount}
 use Rattle.job_line.proofs.Answers.{Short, reading-short}
 use Rattle.stanza_judge.specs.declared.Outline.{Outline}
@@ -57,7 +57,7 @@ counted-answer {s} {codes} {o} q origin t h = by (o .number) refl
     by zero z = ap (λ k. reading s 1 k origin t) (sym (ap fieldCount (accepted q z) ∙ q .many))
     by (suc n) z =
         let p : 0 < o .number = omega arith in
-        read-rejected q origin t h 1 (o .count) p ∙ sym (read-rejected q origin t h 1 (fieldCount (judged s)) p)
+        read-rejected [] [] q origin t h 1 (o .count) p ∙ sym (read-rejected [] [] q origin t h 1 (fieldCount (judged s)) p)
 
 -- So each record's line is the line for what reading answered and left.
 module _ {s codes : List ℕ} {o : Outline} (h : Outlined s codes o) (origin t : List ℕ) (l : length t ≤ 1048576) (out : List ℕ) (big : 65535 ≤ length out)
@@ -74,7 +74,7 @@ module _ {s codes : List ℕ} {o : Outline} (h : Outlined s codes o) (origin t :
   short = reading-short s 1 (o .count) origin t
 
   leaves : Leaves r after (outcome out 0 (ifRoom (room out 0) answer))
-  unfolding answer read
+  unfolding answer readWith
   leaves = w
 
   found : r .number ≡ 0 → (xs : List ℕ) × (answer ≡ done xs) × (length xs ≤ room out 0)
