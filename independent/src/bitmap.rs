@@ -1,11 +1,18 @@
 //! R and R[L]: record types and their bitmaps.
 
+use crate::catalogue::Catalogue;
 use crate::number::{decimal, print_decimal};
 use crate::wire::Wire;
 use crate::Fault;
 
+/// Document 02, request 3: "R and R[L] […] read either form, ignoring case". No
+/// name has the other form.
+pub fn read_type(token: &[u8], catalogue: &Catalogue) -> Option<u16> {
+    read_numbered(token).or_else(|| catalogue.number(token))
+}
+
 /// "`TYPE` (case ignored) and a number to 65,535"
-pub fn read_type(token: &[u8]) -> Option<u16> {
+fn read_numbered(token: &[u8]) -> Option<u16> {
     let (word, digits) = token.split_at_checked(4)?;
     if !word.eq_ignore_ascii_case(b"TYPE") {
         return None;
@@ -13,10 +20,16 @@ pub fn read_type(token: &[u8]) -> Option<u16> {
     u16::try_from(decimal(digits)?).ok()
 }
 
-/// "prints without leading zeros"
-pub fn print_type(number: u16, out: &mut Vec<u8>) {
-    out.extend_from_slice(b"TYPE");
-    print_decimal(u64::from(number), out);
+/// Document 02, request 3: "R and R[L] print the name if the entry exists […];
+/// other types stay TYPEnnn", which "prints without leading zeros".
+pub fn print_type(number: u16, catalogue: &Catalogue, out: &mut Vec<u8>) {
+    match catalogue.name(number) {
+        Some(name) => out.extend_from_slice(name),
+        None => {
+            out.extend_from_slice(b"TYPE");
+            print_decimal(u64::from(number), out);
+        }
+    }
 }
 
 /// "It is a picture of 256 windows of 32 octets."
@@ -50,7 +63,7 @@ impl Picture {
 /// allowed. Every bit from 0 to 65,535 is accepted." Each rule of a block "is
 /// judged at the last octet it needs": the rise of windows at the window octet,
 /// the count at the count octet, the last octet at itself.
-pub fn print_list(wire: &mut Wire, out: &mut Vec<u8>) -> Result<(), Fault> {
+pub fn print_list(wire: &mut Wire, catalogue: &Catalogue, out: &mut Vec<u8>) -> Result<(), Fault> {
     let mut last_window = None;
     let mut first = true;
     while !wire.is_empty() {
@@ -72,7 +85,7 @@ pub fn print_list(wire: &mut Wire, out: &mut Vec<u8>) -> Result<(), Fault> {
                 if !std::mem::take(&mut first) {
                     out.push(b' ');
                 }
-                print_type(u16::from_be_bytes([window, octet * 8 + bit]), out);
+                print_type(u16::from_be_bytes([window, octet * 8 + bit]), catalogue, out);
             }
         }
     }

@@ -1,6 +1,7 @@
 //! The job program: a stanza, an origin and records in, one line per record out.
 
 use crate::base::print_hex;
+use crate::catalogue::Catalogue;
 use crate::lines::Lines;
 use crate::number::{decimal, print_decimal};
 use crate::stanza::Stanza;
@@ -43,12 +44,14 @@ impl<'a> Job<'a> {
         Some(Job { stanza, origin: read_origin(origin)?, records })
     }
 
+    /// Document 02, request 3: "an empty catalogue […] stands wherever none is
+    /// named".
     fn run(&self) -> Vec<u8> {
         let stanza = Stanza::judge(self.stanza);
         let mut out = Vec::new();
         for record in &self.records {
             let rdata = match &stanza {
-                Ok(stanza) => read::run(stanza.fields(), &self.origin, record),
+                Ok(stanza) => read::run(stanza.fields(), &Catalogue::default(), &self.origin, record),
                 Err(refusal) => Err(*refusal),
             };
             report(rdata, &mut out);

@@ -11,6 +11,7 @@
 mod address;
 mod base;
 mod bitmap;
+mod catalogue;
 pub mod generate;
 mod job;
 mod lines;
@@ -25,6 +26,8 @@ mod text;
 mod time;
 mod wire;
 
+use catalogue::Catalogue;
+pub use catalogue::{Entry, Lent, ENTRY_LIMIT};
 pub use job::job;
 use stanza::Stanza;
 
@@ -107,27 +110,49 @@ pub fn judge(stanza: &[u8]) -> (u8, u64) {
 }
 
 /// Turns text into RDATA under the run of `length` fields from field `first`.
-/// `origin` is a wire name, `room` the octets the result may take.
+/// `origin` is a wire name, `room` the octets the result may take. Document 02,
+/// request 3: "an empty catalogue […] stands wherever none is named".
 pub fn read(stanza: &[u8], first: u64, length: u64, origin: &[u8], text: &[u8], room: u64) -> Answer {
+    read_with(Lent::default(), stanza, first, length, origin, text, room)
+}
+
+/// The same with a lent catalogue.
+pub fn read_with(
+    lent: Lent,
+    stanza: &[u8],
+    first: u64,
+    length: u64,
+    origin: &[u8],
+    text: &[u8],
+    room: u64,
+) -> Answer {
     // "Order: 1; the first faulty stanza line […]; the place-0 case of 2; 6;
     // 7 (text reading only); fields left to right with 8 or 9; 10; 11; 12."
+    // Document 02, request 3: "13, […] after 7 (after 6 when printing)".
     let read = || {
         within_limit(text, TEXT_LIMIT)?;
         let stanza = Stanza::judge(stanza)?;
         let run = stanza.run(first, length)?;
         let origin = name::whole(origin).ok_or(Refusal::new(7, 0))?;
-        read::run(run, origin, text)
+        let catalogue = Catalogue::judge(lent)?;
+        read::run(run, &catalogue, origin, text)
     };
     Answer::within(room, read())
 }
 
 /// Turns RDATA into text under the run of `length` fields from field `first`.
 pub fn print(stanza: &[u8], first: u64, length: u64, rdata: &[u8], room: u64) -> Answer {
+    print_with(Lent::default(), stanza, first, length, rdata, room)
+}
+
+/// The same with a lent catalogue.
+pub fn print_with(lent: Lent, stanza: &[u8], first: u64, length: u64, rdata: &[u8], room: u64) -> Answer {
     let print = || {
         within_limit(rdata, RDATA_LIMIT)?;
         let stanza = Stanza::judge(stanza)?;
         let run = stanza.run(first, length)?;
-        print::run(run, rdata)
+        let catalogue = Catalogue::judge(lent)?;
+        print::run(run, &catalogue, rdata)
     };
     Answer::within(room, print())
 }

@@ -13,6 +13,8 @@ const USAGE: &str = "usage: independent MODE
   print-requests N SEED     N random request lines
   read-requests N SEED      N random request lines
   salt-requests N SEED      N random request lines about X[C], to print and to read
+  catalogue-requests N SEED N random request lines with a lent catalogue, to print and to
+                            read, a few to judge
   limit-requests            the large request lines
   job-requests N SEED DIR   N random jobs as files 000000.job, 000001.job, ... in DIR";
 
@@ -42,6 +44,7 @@ fn generate_requests(mode: &str, count: u64, seed: u64, rest: &[&str]) -> io::Re
         ("print-requests", []) => write_lines(generate::print_requests(count, seed)),
         ("read-requests", []) => write_lines(generate::read_requests(count, seed)),
         ("salt-requests", []) => write_lines(generate::salt_requests(count, seed)),
+        ("catalogue-requests", []) => write_lines(generate::catalogue_requests(count, seed)),
         ("job-requests", [directory]) => {
             let directory = Path::new(directory);
             std::fs::create_dir_all(directory)?;

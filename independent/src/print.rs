@@ -1,5 +1,6 @@
 //! From RDATA to text, field by field.
 
+use crate::catalogue::Catalogue;
 use crate::number::big_endian;
 use crate::stanza::Kind;
 use crate::wire::Wire;
@@ -7,7 +8,7 @@ use crate::{address, base, bitmap, name, strings, time, Fault, Refusal};
 
 /// "fields left to right with 8 or 9; 10". "Printed field texts that are not
 /// empty are joined by one space".
-pub fn run(fields: &[Kind], rdata: &[u8]) -> Result<Vec<u8>, Refusal> {
+pub fn run(fields: &[Kind], catalogue: &Catalogue, rdata: &[u8]) -> Result<Vec<u8>, Refusal> {
     let mut wire = Wire::new(rdata);
     let mut text = Vec::new();
     for (kind, place) in fields.iter().zip(1..) {
@@ -16,7 +17,7 @@ pub fn run(fields: &[Kind], rdata: &[u8]) -> Result<Vec<u8>, Refusal> {
             text.push(b' ');
         }
         let start = text.len();
-        field(kind, &mut wire, &mut text).map_err(|fault| fault.at(place))?;
+        field(kind, catalogue, &mut wire, &mut text).map_err(|fault| fault.at(place))?;
         if text.len() == start {
             text.truncate(before);
         }
@@ -28,13 +29,13 @@ pub fn run(fields: &[Kind], rdata: &[u8]) -> Result<Vec<u8>, Refusal> {
     Ok(text)
 }
 
-pub fn field(kind: &Kind, wire: &mut Wire, out: &mut Vec<u8>) -> Result<(), Fault> {
+pub fn field(kind: &Kind, catalogue: &Catalogue, wire: &mut Wire, out: &mut Vec<u8>) -> Result<(), Fault> {
     match kind {
         Kind::Integer(width, symbols) => {
             symbols.print(big_endian(wire.take(width.octets())?), out);
         }
-        Kind::Type => bitmap::print_type(u16::from_be_bytes(wire.array()?), out),
-        Kind::TypeList => bitmap::print_list(wire, out)?,
+        Kind::Type => bitmap::print_type(u16::from_be_bytes(wire.array()?), catalogue, out),
+        Kind::TypeList => bitmap::print_list(wire, catalogue, out)?,
         Kind::Address4 => address::print_a(wire.array()?, out),
         Kind::Address8 => address::print_aa(wire.array()?, out),
         Kind::Address16 => address::print_aaaa(wire.array()?, out),

@@ -7,13 +7,23 @@
 //! W JOB                                  -> LINES
 //! ```
 //!
+//! Document 02, request 3, has the first three with a lent catalogue:
+//!
+//! ```text
+//! JC STANZA                                               -> NUMBER PLACE
+//! PC STANZA FIRST LENGTH CATALOGUE NAMES RDATA ROOM       -> NUMBER PLACE TEXT
+//! RC STANZA FIRST LENGTH CATALOGUE NAMES ORIGIN TEXT ROOM -> NUMBER PLACE RDATA
+//! ```
+//!
 //! Words are parted by exactly one space. Octets are in hex, either case in,
 //! upper case out, `-` for none; numbers are decimal, unsigned, 64 bits. PLACE
 //! is the count where NUMBER is 0; LINES are what the job program writes for JOB.
-//! A line that is no request answers `?`.
+//! CATALOGUE has eight octets for each entry, big-endian: number 4, start 2,
+//! length 2; NAMES is the lent text. A line that is no request answers `?`, as
+//! does one whose CATALOGUE ends inside an entry.
 
 use crate::base::{print_hex, read_hex};
-use crate::{job, judge, print, read, Answer};
+use crate::{job, judge, print, print_with, read, read_with, Answer, Entry, Lent};
 
 /// The longest request line, without its LF.
 pub const LINE_LIMIT: usize = 2_200_000;
@@ -29,7 +39,7 @@ fn try_answer(line: &[u8]) -> Option<Vec<u8>> {
     }
     let words: Vec<&[u8]> = line.split(|&octet| octet == b' ').collect();
     match words[..] {
-        [b"J", stanza] => {
+        [b"J" | b"JC", stanza] => {
             let (number, place) = judge(&octets(stanza)?);
             Some(format!("{number} {place}").into_bytes())
         }
@@ -41,6 +51,23 @@ fn try_answer(line: &[u8]) -> Option<Vec<u8>> {
             number(room)?,
         ))),
         [b"R", stanza, first, length, origin, text, room] => Some(answer_line(read(
+            &octets(stanza)?,
+            number(first)?,
+            number(length)?,
+            &octets(origin)?,
+            &octets(text)?,
+            number(room)?,
+        ))),
+        [b"PC", stanza, first, length, catalogue, names, rdata, room] => Some(answer_line(print_with(
+            Lent { entries: &entries(catalogue)?, names: &octets(names)? },
+            &octets(stanza)?,
+            number(first)?,
+            number(length)?,
+            &octets(rdata)?,
+            number(room)?,
+        ))),
+        [b"RC", stanza, first, length, catalogue, names, origin, text, room] => Some(answer_line(read_with(
+            Lent { entries: &entries(catalogue)?, names: &octets(names)? },
             &octets(stanza)?,
             number(first)?,
             number(length)?,
@@ -75,6 +102,21 @@ fn octets(word: &[u8]) -> Option<Vec<u8>> {
     Some(octets)
 }
 
+/// Whole entries, and nothing after them.
+fn entries(word: &[u8]) -> Option<Vec<Entry>> {
+    let octets = octets(word)?;
+    let (entries, rest) = octets.as_chunks();
+    rest.is_empty().then(|| entries.iter().map(entry).collect())
+}
+
+fn entry(&[a, b, c, d, e, f, g, h]: &[u8; 8]) -> Entry {
+    Entry {
+        number: u32::from_be_bytes([a, b, c, d]),
+        start: u16::from_be_bytes([e, f]),
+        length: u16::from_be_bytes([g, h]),
+    }
+}
+
 fn number(word: &[u8]) -> Option<u64> {
     if word.is_empty() {
         return None;
@@ -103,12 +145,7 @@ pub fn judge_request(stanza: &[u8]) -> Vec<u8> {
 
 /// The request line for printing.
 pub fn print_request(stanza: &[u8], first: u64, length: u64, rdata: &[u8], room: u64) -> Vec<u8> {
-    let mut line = b"P ".to_vec();
-    push_octets(stanza, &mut line);
-    line.extend_from_slice(format!(" {first} {length} ").as_bytes());
-    push_octets(rdata, &mut line);
-    line.extend_from_slice(format!(" {room}").as_bytes());
-    line
+    request("P", stanza, first, length, &[rdata], room)
 }
 
 /// The request line for reading.
@@ -120,12 +157,60 @@ pub fn read_request(
     text: &[u8],
     room: u64,
 ) -> Vec<u8> {
-    let mut line = b"R ".to_vec();
+    request("R", stanza, first, length, &[origin, text], room)
+}
+
+/// The request line for judging, as it stands beside those with a catalogue.
+pub fn judge_with_request(stanza: &[u8]) -> Vec<u8> {
+    let mut line = b"JC ".to_vec();
+    push_octets(stanza, &mut line);
+    line
+}
+
+/// The request line for printing with a catalogue.
+pub fn print_with_request(
+    lent: Lent,
+    stanza: &[u8],
+    first: u64,
+    length: u64,
+    rdata: &[u8],
+    room: u64,
+) -> Vec<u8> {
+    request("PC", stanza, first, length, &[&catalogue_octets(lent.entries), lent.names, rdata], room)
+}
+
+/// The request line for reading with a catalogue.
+pub fn read_with_request(
+    lent: Lent,
+    stanza: &[u8],
+    first: u64,
+    length: u64,
+    origin: &[u8],
+    text: &[u8],
+    room: u64,
+) -> Vec<u8> {
+    request("RC", stanza, first, length, &[&catalogue_octets(lent.entries), lent.names, origin, text], room)
+}
+
+fn catalogue_octets(entries: &[Entry]) -> Vec<u8> {
+    let mut octets = Vec::new();
+    for Entry { number, start, length } in entries {
+        octets.extend(number.to_be_bytes());
+        octets.extend(start.to_be_bytes());
+        octets.extend(length.to_be_bytes());
+    }
+    octets
+}
+
+/// A request line with the words between the run and the room.
+fn request(action: &str, stanza: &[u8], first: u64, length: u64, words: &[&[u8]], room: u64) -> Vec<u8> {
+    let mut line = format!("{action} ").into_bytes();
     push_octets(stanza, &mut line);
     line.extend_from_slice(format!(" {first} {length} ").as_bytes());
-    push_octets(origin, &mut line);
-    line.push(b' ');
-    push_octets(text, &mut line);
-    line.extend_from_slice(format!(" {room}").as_bytes());
+    for word in words {
+        push_octets(word, &mut line);
+        line.push(b' ');
+    }
+    line.extend_from_slice(room.to_string().as_bytes());
     line
 }

@@ -1,17 +1,18 @@
 //! From text to RDATA, field by field.
 
 use crate::bitmap::{read_type, Picture};
+use crate::catalogue::Catalogue;
 use crate::number::Width;
 use crate::stanza::Kind;
 use crate::text::{Token, Tokens};
 use crate::{address, base, name, strings, time, Fault, Refusal, RDATA_LIMIT};
 
 /// "fields left to right with 8 or 9; 10; 11"
-pub fn run(fields: &[Kind], origin: &[u8], text: &[u8]) -> Result<Vec<u8>, Refusal> {
+pub fn run(fields: &[Kind], catalogue: &Catalogue, origin: &[u8], text: &[u8]) -> Result<Vec<u8>, Refusal> {
     let mut tokens = Tokens::new(text);
     let mut rdata = Vec::new();
     for (kind, place) in fields.iter().zip(1..) {
-        field(kind, origin, &mut tokens, &mut rdata).map_err(|fault| fault.at(place))?;
+        field(kind, catalogue, origin, &mut tokens, &mut rdata).map_err(|fault| fault.at(place))?;
     }
     // "anything but blanks after the last field is 10", at "run length plus 1"
     if tokens.next().is_some() {
@@ -26,16 +27,22 @@ pub fn run(fields: &[Kind], origin: &[u8], text: &[u8]) -> Result<Vec<u8>, Refus
 
 /// "A field that isn't a tail takes one token, S[X] one, N[O] at most one, other
 /// tails all that are left."
-pub fn field(kind: &Kind, origin: &[u8], tokens: &mut Tokens, out: &mut Vec<u8>) -> Result<(), Fault> {
+pub fn field(
+    kind: &Kind,
+    catalogue: &Catalogue,
+    origin: &[u8],
+    tokens: &mut Tokens,
+    out: &mut Vec<u8>,
+) -> Result<(), Fault> {
     let sound = match kind {
         Kind::Integer(width, symbols) => {
             symbols.read(*width, tokens.bare()?).map(|value| width.write(value, out))
         }
-        Kind::Type => read_type(tokens.bare()?).map(|number| Width::Two.write(number.into(), out)),
+        Kind::Type => read_type(tokens.bare()?, catalogue).map(|number| Width::Two.write(number.into(), out)),
         // "No block at all is allowed."
         Kind::TypeList => match tokens.next() {
             None => Some(()),
-            Some(first) => type_list(first, tokens, out),
+            Some(first) => type_list(first, tokens, catalogue, out),
         },
         Kind::Address4 => address::read_a(tokens.bare()?).map(|octets| out.extend(octets)),
         Kind::Address8 => address::read_aa(tokens.bare()?).map(|octets| out.extend(octets)),
@@ -67,10 +74,15 @@ pub fn field(kind: &Kind, origin: &[u8], tokens: &mut Tokens, out: &mut Vec<u8>)
 }
 
 /// "Text lists types in any order, repeats allowed".
-fn type_list<'a>(first: Token<'a>, rest: &mut Tokens<'a>, out: &mut Vec<u8>) -> Option<()> {
+fn type_list<'a>(
+    first: Token<'a>,
+    rest: &mut Tokens<'a>,
+    catalogue: &Catalogue,
+    out: &mut Vec<u8>,
+) -> Option<()> {
     let mut picture = Picture::empty();
     for token in std::iter::once(first).chain(rest) {
-        picture.set(read_type(token.bare()?)?);
+        picture.set(read_type(token.bare()?, catalogue)?);
     }
     picture.write(out);
     Some(())

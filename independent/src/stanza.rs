@@ -330,6 +330,12 @@ impl Word {
     }
 }
 
+/// "a name (letter, then letters, digits, hyphens)", and nothing else
+pub fn is_name(octets: &[u8]) -> bool {
+    let mut scan = Scan { rest: octets };
+    scan.name().is_some() && scan.rest.is_empty()
+}
+
 /// A place in a line, for the grammar.
 struct Scan<'a> {
     rest: &'a [u8],

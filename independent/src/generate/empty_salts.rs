@@ -5,6 +5,7 @@
 //! requests serves before and after. So its room still follows document 01: 9 at
 //! the field of the empty salt.
 
+use crate::catalogue::Catalogue;
 use crate::stanza::Kind;
 use crate::text::{Token, Tokens};
 use crate::wire::Wire;
@@ -18,7 +19,7 @@ pub fn first_on_the_wire(fields: &[Kind], rdata: &[u8]) -> Option<u64> {
         if matches!(kind, Kind::CountedHex) && wire.rest().first() == Some(&0) {
             return Some(place);
         }
-        print::field(kind, &mut wire, &mut Vec::new()).ok()?;
+        print::field(kind, &Catalogue::default(), &mut wire, &mut Vec::new()).ok()?;
     }
     None
 }
@@ -31,7 +32,7 @@ pub fn first_in_text(fields: &[Kind], origin: &[u8], text: &[u8]) -> Option<u64>
         if matches!(kind, Kind::CountedHex) && tokens.clone().next() == Some(Token::Bare(b"-")) {
             return Some(place);
         }
-        read::field(kind, origin, &mut tokens, &mut Vec::new()).ok()?;
+        read::field(kind, &Catalogue::default(), origin, &mut tokens, &mut Vec::new()).ok()?;
     }
     None
 }

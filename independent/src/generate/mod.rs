@@ -5,6 +5,7 @@
 //! Good and damaged inputs are mixed so that about half are accepted and every
 //! refusal number and every field kind with every qualifier occurs often.
 
+mod catalogues;
 mod empty_salts;
 mod jobs;
 mod limits;
@@ -13,9 +14,11 @@ mod requests;
 mod salts;
 mod stanzas;
 mod texts;
+mod type_names;
 mod values;
 
 pub use jobs::job;
 pub use limits::limit_requests;
 pub use requests::{judge_requests, print_requests, read_requests};
 pub use salts::salt_requests;
+pub use type_names::catalogue_requests;

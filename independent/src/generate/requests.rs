@@ -24,7 +24,7 @@ pub fn read_requests(count: u64, seed: u64) -> impl Iterator<Item = Vec<u8>> {
 }
 
 /// Good, of a chosen fault, or with one or two octets damaged.
-fn any_stanza(random: &mut Random) -> Vec<u8> {
+pub fn any_stanza(random: &mut Random) -> Vec<u8> {
     match random.below(300) {
         0 => stanzas::over_long(random),
         1..=125 => stanzas::good(random),
@@ -59,7 +59,7 @@ fn mostly_good_stanza(random: &mut Random) -> Vec<u8> {
 }
 
 /// A run of a stanza with so many fields, mostly within it.
-fn run(random: &mut Random, count: usize) -> (u64, u64) {
+pub fn run(random: &mut Random, count: usize) -> (u64, u64) {
     let n = count as u64;
     match random.below(40) {
         0 => random.pick(&[(0, 0), (0, 1), (0, n), (n + 2, 0), (n + 1, 1), (1, n + 1), (n, 2), (2, n)]),
