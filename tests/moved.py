@@ -70,7 +70,7 @@ def field_at(request, answer):
     """The field at the answer's place in the run, its line without name and free text, where the answer is 8, 9 or 10 and that
     place is a field."""
     letter, *words = request.split(b" ")
-    if letter not in (b"P", b"R") or number_of(request, answer) not in ("8", "9", "10"):
+    if letter not in (b"P", b"R", b"PC", b"RC") or number_of(request, answer) not in ("8", "9", "10"):
         return ""
     stanza, first, length, place = bytes.fromhex(words[0].decode()), int(words[1]), int(words[2]), int(answer.split(b" ")[1])
     if place > length:
@@ -80,7 +80,7 @@ def field_at(request, answer):
 
 def row(request, old, new):
     """The row of the table that counts this request: its letter, the field, the old number and the new one."""
-    return readable(request[:1]), field_at(request, old), number_of(request, old), number_of(request, new)
+    return readable(request.split(b" ")[0]), field_at(request, old), number_of(request, old), number_of(request, new)
 
 
 def show_gone(gone):

@@ -8,13 +8,14 @@ use native.Mathlib.Omega.{arith}
 use lib.Dec.{leb, eqb}
 use lib.ListN.{length, take, drop}
 use borrow.Author.Tests.{leb-true, ne-eqb}
-use Rattle.format.specs.Entries.{Answer, done, refusal, ifRoom, printing, reading, judge}
+use Rattle.format.specs.Entries.{Answer, done, refusal, ifRoom, printingWith, readingWith, judge}
 use Rattle.octets.proofs.Slices.{lent}
 use Rattle.buffer.specs.Writing.{Wrote}
 use Rattle.buffer.proofs.Laws.{wrote-text}
 use Rattle.probe_request.specs.declared.Span.{Span}
 use Rattle.probe_request.specs.declared.Request.{Request}
 use Rattle.probe_request.specs.Words.{Within, named, asked}
+use Rattle.probe_reply.specs.Entries.{entriesIn}
 use Rattle.probe_reply.specs.Replies.{unknownLine}
 use Rattle.probe_reply.proofs.Replies.{judged-most, result-most}
 use Rattle.probe_reply.specs.Reply.{answerLine, outcomeLine, replyTo}
@@ -38,18 +39,23 @@ answer-most n (done t) h = by (leb (length t) n) refl
     by true e = omega (arith, result-most 0 (length t) t, leb-true (length t) n e)
     by false e = omega (arith, result-most 12 (length t) [])
 
+-- the answer to a request to print and to read, by the parts that are lent
+abbrev lentPrinted : Request → List ℕ → Answer
+lentPrinted q xs = printingWith (lentAt xs (q .stanza)) (q .first) (q .many) (entriesIn (lentAt xs (q .entries))) (lentAt xs (q .names)) (lentAt xs (q .octets))
+
+abbrev lentRead : Request → List ℕ → Answer
+lentRead q xs = readingWith (lentAt xs (q .stanza)) (q .first) (q .many) (entriesIn (lentAt xs (q .entries))) (lentAt xs (q .names)) (lentAt xs (q .origin)) (lentAt xs (q .octets))
+
 module _ (q : Request) (xs : List ℕ) (w : Within (length xs) q) {before after : List ℕ} {r : ℕ} where
   pub judged-reply : q .letter ≡ 74 → Wrote before after 0 r (outcomeLine (judge (lentAt xs (q .stanza)))) → Replied before after r (replyTo (asked q xs))
   judged-reply e v = replied _ _ (rw (e, lent xs _ _ (w .0 .0))) (omega (arith, judged-most (judge (lentAt xs (q .stanza)) .number) (judge (lentAt xs (q .stanza)) .place))) v
 
   module _ (k : ℕ) (h : k ≡ min (q .room) 1048576) where
-    pub printed-reply : q .letter ≡ 80 → Wrote before after 0 r (answerLine (ifRoom k (printing (lentAt xs (q .stanza)) (q .first) (q .many) (lentAt xs (q .octets)))))
-        → Replied before after r (replyTo (asked q xs))
-    printed-reply e v = replied _ _ (rw (h, e, lent xs _ _ (w .0 .0), lent xs _ _ (w .2 .0))) (answer-most k (printing (lentAt xs (q .stanza)) (q .first) (q .many) (lentAt xs (q .octets))) (omega arith)) v
+    pub printed-reply : q .letter ≡ 80 → Wrote before after 0 r (answerLine (ifRoom k (lentPrinted q xs))) → Replied before after r (replyTo (asked q xs))
+    printed-reply e v = replied _ _ (rw (h, e, lent xs _ _ (w .0 .0), lent xs _ _ (w .1 .0), lent xs _ _ (w .2 .0), lent xs _ _ (w .4 .0))) (answer-most k (lentPrinted q xs) (omega arith)) v
 
-    pub read-reply : q .letter ≡ 82 → Wrote before after 0 r (answerLine (ifRoom k (reading (lentAt xs (q .stanza)) (q .first) (q .many) (lentAt xs (q .origin)) (lentAt xs (q .octets)))))
-        → Replied before after r (replyTo (asked q xs))
-    read-reply e v = replied _ _ (rw (h, e, lent xs _ _ (w .0 .0), lent xs _ _ (w .1 .0), lent xs _ _ (w .2 .0))) (answer-most k (reading (lentAt xs (q .stanza)) (q .first) (q .many) (lentAt xs (q .origin)) (lentAt xs (q .octets))) (omega arith)) v
+    pub read-reply : q .letter ≡ 82 → Wrote before after 0 r (answerLine (ifRoom k (lentRead q xs))) → Replied before after r (replyTo (asked q xs))
+    read-reply e v = replied _ _ (rw (h, e, lent xs _ _ (w .0 .0), lent xs _ _ (w .1 .0), lent xs _ _ (w .2 .0), lent xs _ _ (w .3 .0), lent xs _ _ (w .4 .0))) (answer-most k (lentRead q xs) (omega arith)) v
 
   pub unknown-reply : (q .letter ≡ 74 → ⊥) → (q .letter ≡ 80 → ⊥) → (q .letter ≡ 82 → ⊥) → (q .letter ≡ 87 → ⊥) → Wrote before after 0 r unknownLine
       → Replied before after r (replyTo (asked q xs))

@@ -1,3 +1,4 @@
 pub mod Replies
+pub mod Numbers
 pub mod Results
 pub mod Asking

@@ -7,9 +7,10 @@ use mathlib.Core.Option.{Option, none, some}
 use lib.ListN.{length, take}
 use lib.Dec.{eqb}
 use Rattle.format.specs.Octets.{ascii}
-use Rattle.format.specs.Entries.{Answer, done, refusal, maxText, printing, reading, ifRoom, Outcome, judge}
+use Rattle.format.specs.Entries.{Answer, done, refusal, maxText, printingWith, readingWith, ifRoom, Outcome, judge}
 use Rattle.format.specs.Job.{job}
 use Rattle.probe_request.specs.Request.{Asked}
+use Rattle.probe_reply.specs.Entries.{entriesIn}
 use Rattle.probe_reply.specs.Replies.{octetsText, judgedLine, resultLine, unknownLine}
 
 -- "PLACE is the count where NUMBER is 0, and the last word is '-' on a refusal."
@@ -28,11 +29,18 @@ jobLine j = octetsText (job j) ++ ascii "\n"
 abbrev pub roomOf : ℕ → ℕ
 roomOf n = min n maxText
 
+-- a line that names no catalogue has an empty one
+abbrev pub printingOf : Asked → Answer
+printingOf a = printingWith (a .stanza) (a .first) (a .many) (entriesIn (a .entries)) (a .names) (a .octets)
+
+abbrev pub readingOf : Asked → Answer
+readingOf a = readingWith (a .stanza) (a .first) (a .many) (entriesIn (a .entries)) (a .names) (a .origin) (a .octets)
+
 abbrev pub lineOf : Asked → List ℕ
 lineOf a =
     cond (eqb (a .letter) (code "J")) (outcomeLine (judge (a .stanza)))
-    (cond (eqb (a .letter) (code "P")) (answerLine (ifRoom (roomOf (a .room)) (printing (a .stanza) (a .first) (a .many) (a .octets))))
-    (cond (eqb (a .letter) (code "R")) (answerLine (ifRoom (roomOf (a .room)) (reading (a .stanza) (a .first) (a .many) (a .origin) (a .octets))))
+    (cond (eqb (a .letter) (code "P")) (answerLine (ifRoom (roomOf (a .room)) (printingOf a)))
+    (cond (eqb (a .letter) (code "R")) (answerLine (ifRoom (roomOf (a .room)) (readingOf a)))
     (cond (eqb (a .letter) (code "W")) (jobLine (a .stanza)) unknownLine)))
 
 -- "A line that is no request .. answers '?'."

@@ -1,15 +1,18 @@
 // Answers requests.
+pub mod entries;
 pub mod line;
 
 ghost use Prim.Native.Nat.{_^_, _≤_};
 ghost use mathlib.Core.Path.{_≡_};
 ghost use lib.ListN.{length};
-ghost use Rattle.format.specs.Entries.{ifRoom, printing, reading};
+ghost use Rattle.format.specs.Entries.{ifRoom, printingWith, readingWith};
 ghost use Rattle.format.specs.Entries.{judge as Entries·judge};
 ghost use Rattle.buffer.specs.Writing.{Wrote};
+ghost use Rattle.probe_reply.specs.Entries.{entriesIn};
 ghost use Rattle.probe_reply.specs.Replies.{resultLine};
 ghost use Rattle.probe_request.specs.Words.{Within, asked};
 ghost use Rattle.probe_reply.specs.Reply.{answerLine, outcomeLine, replyTo, resultOf};
+use crate::entries::numbers;
 use crate::line::put_judged;
 use crate::line::put_result;
 use crate::line::put_unknown;
@@ -35,36 +38,54 @@ fn put_reply(out: &mut [u8], number: u32, place: u32, text: &[u8]) -> usize
     put_result(out, number, place, &text[0..0])
 }
 
-// Answers a request to print; `text` is as long as the room.
+// Answers a request to print, with the octets of a catalogue's entries; `text` is as long as the room.
 fn print(
     stanza: &[u8],
     first: usize,
     many: usize,
+    catalogue: &[u8],
+    names: &[u8],
     rdata: &[u8],
     text: &mut [u8],
     out: &mut [u8],
 ) -> usize
     requires { ⌜ length (now text) ≤ 1048576 ⌝ }
-    ensures { λ r. ⌜ Wrote (now (out .entry)) (now (out .exit)) 0 r (answerLine (ifRoom (length (now (text .entry))) (printing (now (stanza .entry)) first many (now (rdata .entry))))) ⌝ }
+    ensures { λ r. ⌜ Wrote (now (out .entry)) (now (out .exit)) 0 r (answerLine (ifRoom (length (now (text .entry))) (printingWith (now (stanza .entry)) first many (entriesIn (now (catalogue .entry))) (now (names .entry)) (now (rdata .entry))))) ⌝ }
 {
-    let reply = entry_print::print(stanza, first, many, rdata, text, 0);
+    let mut raw = [0u64; 513];
+    let n = numbers(catalogue, &mut raw);
+    let reply = entry_print::print_with(stanza, first, many, &raw[0..n], names, rdata, text, 0);
     put_reply(out, reply.number, reply.place, text)
 }
 
-// Answers a request to read; `rdata` is as long as the room.
+// Answers a request to read, with the octets of a catalogue's entries; `rdata` is as long as the room.
 fn read(
     stanza: &[u8],
     first: usize,
     many: usize,
+    catalogue: &[u8],
+    names: &[u8],
     origin: &[u8],
     text: &[u8],
     rdata: &mut [u8],
     out: &mut [u8],
 ) -> usize
     requires { ⌜ length (now rdata) ≤ 1048576 ⌝ }
-    ensures { λ r. ⌜ Wrote (now (out .entry)) (now (out .exit)) 0 r (answerLine (ifRoom (length (now (rdata .entry))) (reading (now (stanza .entry)) first many (now (origin .entry)) (now (text .entry))))) ⌝ }
+    ensures { λ r. ⌜ Wrote (now (out .entry)) (now (out .exit)) 0 r (answerLine (ifRoom (length (now (rdata .entry))) (readingWith (now (stanza .entry)) first many (entriesIn (now (catalogue .entry))) (now (names .entry)) (now (origin .entry)) (now (text .entry))))) ⌝ }
 {
-    let reply = entry_read::read(stanza, first, many, origin, text, rdata, 0);
+    let mut raw = [0u64; 513];
+    let n = numbers(catalogue, &mut raw);
+    let reply = entry_read::read_with(
+        stanza,
+        first,
+        many,
+        &raw[0..n],
+        names,
+        origin,
+        text,
+        rdata,
+        0,
+    );
     put_reply(out, reply.number, reply.place, rdata)
 }
 
@@ -80,12 +101,18 @@ pub fn put_answer(octets: &[u8], q: Request, text: &mut [u8], out: &mut [u8]) ->
     }
     let c = q.octets.from;
     let d = q.octets.to;
+    let g = q.entries.from;
+    let h = q.entries.to;
+    let i = q.names.from;
+    let j = q.names.to;
     let most = buffer::least(q.room, text.len());
     if q.letter == b'P' {
         return print(
             &octets[a..b],
             q.first,
             q.many,
+            &octets[g..h],
+            &octets[i..j],
             &octets[c..d],
             &mut text[0..most],
             out,
@@ -98,6 +125,8 @@ pub fn put_answer(octets: &[u8], q: Request, text: &mut [u8], out: &mut [u8]) ->
             &octets[a..b],
             q.first,
             q.many,
+            &octets[g..h],
+            &octets[i..j],
             &octets[e..f],
             &octets[c..d],
             &mut text[0..most],

@@ -1,11 +1,14 @@
--- The request lines of the program probe: a letter and its words, with one space between them.
+-- The request lines of the program probe: a letter, and C where a catalogue may be named, and then the words, with one space between them.
 --     J STANZA
+--     JC STANZA
 --     P STANZA FIRST LENGTH RDATA ROOM
+--     PC STANZA FIRST LENGTH CATALOGUE NAMES RDATA ROOM
 --     R STANZA FIRST LENGTH ORIGIN TEXT ROOM
+--     RC STANZA FIRST LENGTH CATALOGUE NAMES ORIGIN TEXT ROOM
 --     W JOB
-use Prim.Native.Nat.{ℕ, _^_}
+use Prim.Native.Nat.{ℕ, _^_, _%_}
 use Prim.Native.Char.{code}
-use mathlib.Core.Bool.{cond}
+use mathlib.Core.Bool.{Bool, true, false, cond}
 use mathlib.Core.List.{List, [], _∷_}
 use mathlib.Core.Option.{Option, none, some}
 use lib.ListN.{length}
@@ -37,45 +40,78 @@ abbrev pub said : {A : Type 0} → (List ℕ → Option A) → List (List ℕ) �
 said f [] = none
 said f (w ∷ ws) = f w >>= λ v. some (record { value = v; later = ws })
 
--- A request, by its letter. What it does not name is empty or 0; a job stands in the place of a stanza.
+-- A request, by its letter. What it does not name is empty or 0, and so is a catalogue: the letter does not tell P from PC. A job stands in the
+-- place of a stanza; the entries are the octets of CATALOGUE.
 pub record Asked : Type 0 where
   pub letter : ℕ
   pub stanza : List ℕ
   pub first : ℕ
   pub many : ℕ
+  pub entries : List ℕ
+  pub names : List ℕ
   pub origin : List ℕ
   pub octets : List ℕ
   pub room : ℕ
 
--- J and W
+-- J, JC and W
 abbrev pub oneWord : ℕ → List (List ℕ) → Option Asked
 oneWord x ws = do
   s ← said octetsOf ws
-  provided (null (s .later)) (record { letter = x; stanza = s .value; first = 0; many = 0; origin = []; octets = []; room = 0 })
+  provided (null (s .later)) (record { letter = x; stanza = s .value; first = 0; many = 0; entries = []; names = []; origin = []; octets = []; room = 0 })
 
--- only R has an origin
+-- A catalogue as it is lent.
+pub record Lent : Type 0 where
+  pub entries : List ℕ
+  pub names : List ℕ
+
+-- only PC and RC have one; "entries of 8 octets": "a tail of fewer than 8 octets makes the line no request"
+abbrev pub catalogueWords : Bool → List (List ℕ) → Option (Said Lent)
+catalogueWords false ws = some (record { value = record { entries = []; names = [] }; later = ws })
+catalogueWords true ws = do
+  e ← said octetsOf ws
+  n ← said octetsOf (e .later)
+  provided (eqb (length (e .value) % 8) 0) (record { value = record { entries = e .value; names = n .value }; later = n .later })
+
+-- only R and RC have an origin
 abbrev pub originWord : ℕ → List (List ℕ) → Option (Said (List ℕ))
 originWord x ws = cond (eqb x (code "R")) (said octetsOf ws) (some (record { value = []; later = ws }))
 
--- P and R
-abbrev pub runWords : ℕ → List (List ℕ) → Option Asked
-runWords x ws = do
+-- P and R; PC and RC, where a catalogue is named
+abbrev pub runWords : Bool → ℕ → List (List ℕ) → Option Asked
+runWords named x ws = do
   s ← said octetsOf ws
   f ← said numberOf (s .later)
   m ← said numberOf (f .later)
-  o ← originWord x (m .later)
+  c ← catalogueWords named (m .later)
+  o ← originWord x (c .later)
   t ← said octetsOf (o .later)
   r ← said numberOf (t .later)
-  provided (null (r .later)) (record { letter = x; stanza = s .value; first = f .value; many = m .value; origin = o .value; octets = t .value; room = r .value })
+  provided (null (r .later)) (record {
+    letter = x;
+    stanza = s .value;
+    first = f .value;
+    many = m .value;
+    entries = c .value .entries;
+    names = c .value .names;
+    origin = o .value;
+    octets = t .value;
+    room = r .value;
+  })
 
-abbrev pub byLetter : ℕ → List (List ℕ) → Option Asked
-byLetter x ws = cond (among x (ascii "JW")) (oneWord x ws) (cond (among x (ascii "PR")) (runWords x ws) none)
+-- the letters of the lines with one word
+abbrev pub oneLetters : Bool → List ℕ
+oneLetters false = ascii "JW"
+oneLetters true = ascii "J"
+
+abbrev pub byLetter : Bool → ℕ → List (List ℕ) → Option Asked
+byLetter named x ws = cond (among x (oneLetters named)) (oneWord x ws) (cond (among x (ascii "PR")) (runWords named x ws) none)
 
 abbrev pub ofWords : List (List ℕ) → Option Asked
 ofWords [] = none
 ofWords ([] ∷ ws) = none
-ofWords ((x ∷ []) ∷ ws) = byLetter x ws
-ofWords ((x ∷ y ∷ t) ∷ ws) = none
+ofWords ((x ∷ []) ∷ ws) = byLetter false x ws
+ofWords ((x ∷ y ∷ []) ∷ ws) = cond (eqb y (code "C")) (byLetter true x ws) none
+ofWords ((x ∷ y ∷ z ∷ t) ∷ ws) = none
 
 -- A line "that is no request, or has more than 2,200,000 octets", is none.
 unfoldable pub requestOf : List ℕ → Option Asked

@@ -2,7 +2,7 @@
 use Prim.Native.Nat.{ℕ, _+_, _*_, _≤_, _<_}
 use Prim.Native.Char.{code}
 use mathlib.Core.Path.{_≡_}
-use mathlib.Core.Bool.{cond, true}
+use mathlib.Core.Bool.{Bool, cond, true}
 use mathlib.Core.List.{List, [], _∷_}
 use mathlib.Core.Option.{Option, none, some}
 use lib.ListN.{length, drop}
@@ -11,11 +11,12 @@ use lib.Dec.{leb, eqb}
 use Rattle.format.specs.Lists.{_>>=_, provided}
 use Rattle.format.specs.Octets.{splitOn}
 use Rattle.buffer.specs.Writing.{Wrote}
-use Rattle.probe_request.specs.Request.{octetsOf, numberOf, Said, said, Asked}
+use Rattle.probe_request.specs.Request.{octetsOf, numberOf, Said, said, Asked, catalogueWords}
 use Rattle.probe_request.specs.declared.Span.{Span}
 use Rattle.probe_request.specs.declared.Spelled.{Spelled}
 use Rattle.probe_request.specs.declared.Count.{Count}
 use Rattle.probe_request.specs.declared.Run.{Run}
+use Rattle.probe_request.specs.declared.Listed.{Listed}
 use Rattle.probe_request.specs.declared.Request.{Request}
 
 abbrev pub Inside : ℕ → Span → Type 0
@@ -23,7 +24,7 @@ Inside n s = (s .from ≤ s .to) × (s .to ≤ n)
 
 -- every text of a request lies in a buffer of n octets
 abbrev pub Within : ℕ → Request → Type 0
-Within n r = Inside n (r .stanza) × Inside n (r .origin) × Inside n (r .octets)
+Within n r = Inside n (r .stanza) × Inside n (r .entries) × Inside n (r .names) × Inside n (r .origin) × Inside n (r .octets)
 
 abbrev pub textAt : List ℕ → Span → List ℕ
 textAt xs s = slice (s .from) (s .to) xs
@@ -35,6 +36,8 @@ named r xs = record {
   stanza = textAt xs (r .stanza);
   first = r .first;
   many = r .many;
+  entries = textAt xs (r .entries);
+  names = textAt xs (r .names);
   origin = textAt xs (r .origin);
   octets = textAt xs (r .octets);
   room = r .room;
@@ -83,10 +86,22 @@ frontOf ws = do
   m ← said numberOf (f .later)
   some (record { stanza = s .value; first = f .value; many = m .value; later = m .later })
 
--- these words are read, and the stanza stands at the start of the buffer
-pub record Runs (l before after : List ℕ) (r : Run) : Type 0 where
+-- these words are read from `end` on, and the stanza stands at the start of the buffer
+pub record Runs (l : List ℕ) (end : ℕ) (before after : List ℕ) (r : Run) : Type 0 where
   pub octets : List ℕ
-  pub reads : frontOf (wordsAt l 1) ≡ provided (r .good) (record { stanza = octets; first = r .first; many = r .many; later = wordsAt l (r .end) })
+  pub reads : frontOf (wordsAt l end) ≡ provided (r .good) (record { stanza = octets; first = r .first; many = r .many; later = wordsAt l (r .end) })
   pub wrote : r .good ≡ true → Wrote before after 0 (r .to) octets
-  pub fits : 2 * r .to + 1 ≤ r .end
+  pub fits : 2 * r .to + end ≤ r .end
+  pub within : r .end ≤ length l
+
+-- A catalogue is read from `end` on, or none is named: its entries stand from n on, and its names after them.
+pub record Lists (named : Bool) (l : List ℕ) (end : ℕ) (before after : List ℕ) (n : ℕ) (r : Listed) : Type 0 where
+  pub entries : List ℕ
+  pub names : List ℕ
+  pub between : List ℕ
+  pub reads : catalogueWords named (wordsAt l end) ≡ provided (r .good) (record { value = record { entries = entries; names = names }; later = wordsAt l (r .end) })
+  pub wrote : r .good ≡ true → Wrote before between n (r .middle) entries × Wrote between after (r .middle) (r .to) names
+  pub from : n ≤ r .middle
+  pub on : r .middle ≤ r .to
+  pub fits : 2 * r .to + end ≤ 2 * n + r .end
   pub within : r .end ≤ length l

@@ -6,8 +6,8 @@ ghost use lib.ListN.{length, take, drop};
 ghost use lib.Seq.{slice};
 ghost use Rattle.octets.specs.Octets.{lineEnd};
 ghost use Rattle.buffer.specs.Writing.{Values};
-ghost use Rattle.probe_request.specs.Request.{octetsOf, said, oneWord, originWord, runWords, requestOf};
-ghost use Rattle.probe_request.specs.Words.{Within, asked, wordsAt, NextWord, Spells, Counts, Runs};
+ghost use Rattle.probe_request.specs.Request.{octetsOf, said, oneWord, originWord, runWords, byLetter, requestOf};
+ghost use Rattle.probe_request.specs.Words.{Within, asked, wordsAt, NextWord, Spells, Counts, Runs, Lists};
 use buffer::Value;
 use buffer::least;
 
@@ -20,12 +20,15 @@ pub struct Span {
     pub to: usize,
 }
 
-// What a line asks for, by its letter, which is 0 if it is no request. A job stands in the place of a stanza.
+// What a line asks for, by its letter, which is 0 if it is no request. A job stands in the place of a stanza; the entries of a
+// catalogue are the octets of their word.
 pub struct Request {
     pub letter: u8,
     pub stanza: Span,
     pub first: usize,
     pub many: usize,
+    pub entries: Span,
+    pub names: Span,
     pub origin: Span,
     pub octets: Span,
     pub room: usize,
@@ -51,6 +54,14 @@ struct Run {
     to: usize,
     first: usize,
     many: usize,
+    end: usize,
+}
+
+// The words of a catalogue, and where they end; its entries' octets end at `middle`, and its names' at `to`.
+struct Listed {
+    good: bool,
+    middle: usize,
+    to: usize,
     end: usize,
 }
 
@@ -157,6 +168,30 @@ fn next_number(line: &[u8], end: usize) -> Count
     }
 }
 
+// Reads a catalogue, if the line may name one: whole entries, of 8 octets each, and the text of the names.
+fn next_catalogue(line: &[u8], named: bool, end: usize, out: &mut [u8], at: usize) -> Listed
+    requires { ⌜ (end ≤ length (now line)) × (length (now line) ≤ 2 ^ 22) × (at ≤ 2 ^ 22) ⌝ }
+    ensures { λ r. ⌜ Lists named (now (line .entry)) end (now (out .entry)) (now (out .exit)) at r ⌝ }
+{
+    if named {
+        let e = next_octets(line, end, out, at);
+        let n = next_octets(line, e.end, out, e.to);
+        let whole = (e.to - at) % 8 == 0;
+        return Listed {
+            good: e.good & n.good & whole,
+            middle: e.to,
+            to: n.to,
+            end: n.end,
+        };
+    }
+    Listed {
+        good: true,
+        middle: at,
+        to: at,
+        end: end,
+    }
+}
+
 // Reads the origin's octets, which only a request to read has.
 fn next_origin(line: &[u8], letter: u8, end: usize, out: &mut [u8], at: usize) -> Spelled
     requires { ⌜ (end ≤ length (now line)) × (length (now line) ≤ 2 ^ 24) × (at ≤ 2 ^ 30) ⌝ }
@@ -179,12 +214,12 @@ fn letter_if(good: bool, letter: u8) -> u8
     if good { letter } else { 0 }
 }
 
-// Reads a request to judge, or a job.
-fn read_one(line: &[u8], octets: &mut [u8], letter: u8) -> Request
-    requires { ⌜ (1 ≤ length (now line)) × (length (now line) ≤ 2200000) × (1100000 ≤ length (now octets)) × (0 < letter) ⌝ }
-    ensures { λ r. ⌜ Within (length (now (octets .entry))) r × (asked r (now (octets .exit)) ≡ oneWord letter (wordsAt (now (line .entry)) 1)) ⌝ }
+// Reads a request to judge, or a job, whose first word ends at `end`.
+fn read_one(line: &[u8], end: usize, octets: &mut [u8], letter: u8) -> Request
+    requires { ⌜ (end ≤ length (now line)) × (length (now line) ≤ 2200000) × (1100000 ≤ length (now octets)) × (0 < letter) ⌝ }
+    ensures { λ r. ⌜ Within (length (now (octets .entry))) r × (asked r (now (octets .exit)) ≡ oneWord letter (wordsAt (now (line .entry)) end)) ⌝ }
 {
-    let word = next_octets(line, 1, octets, 0);
+    let word = next_octets(line, end, octets, 0);
     Request {
         letter: letter_if(word.good & (word.end == line.len()), letter),
         stanza: Span {
@@ -193,6 +228,8 @@ fn read_one(line: &[u8], octets: &mut [u8], letter: u8) -> Request
         },
         first: 0,
         many: 0,
+        entries: Span { from: 0, to: 0 },
+        names: Span { from: 0, to: 0 },
         origin: Span { from: 0, to: 0 },
         octets: Span { from: 0, to: 0 },
         room: 0,
@@ -200,11 +237,11 @@ fn read_one(line: &[u8], octets: &mut [u8], letter: u8) -> Request
 }
 
 // Reads the stanza and the run of a request.
-fn next_run(line: &[u8], octets: &mut [u8]) -> Run
-    requires { ⌜ (1 ≤ length (now line)) × (length (now line) ≤ 2200000) ⌝ }
-    ensures { λ r. ⌜ Runs (now (line .entry)) (now (octets .entry)) (now (octets .exit)) r ⌝ }
+fn next_run(line: &[u8], end: usize, octets: &mut [u8]) -> Run
+    requires { ⌜ (end ≤ length (now line)) × (length (now line) ≤ 2200000) ⌝ }
+    ensures { λ r. ⌜ Runs (now (line .entry)) end (now (octets .entry)) (now (octets .exit)) r ⌝ }
 {
-    let s = next_octets(line, 1, octets, 0);
+    let s = next_octets(line, end, octets, 0);
     let first = next_number(line, s.end);
     let many = next_number(line, first.end);
     Run {
@@ -216,16 +253,17 @@ fn next_run(line: &[u8], octets: &mut [u8]) -> Run
     }
 }
 
-// Reads a request to print or to read.
-fn read_run(line: &[u8], octets: &mut [u8], letter: u8) -> Request
-    requires { ⌜ (1 ≤ length (now line)) × (length (now line) ≤ 2200000) × (1100000 ≤ length (now octets)) × (0 < letter) ⌝ }
-    ensures { λ r. ⌜ Within (length (now (octets .entry))) r × (asked r (now (octets .exit)) ≡ runWords letter (wordsAt (now (line .entry)) 1)) ⌝ }
+// Reads a request to print or to read, which may name a catalogue, and whose first word ends at `end`.
+fn read_run(line: &[u8], end: usize, named: bool, octets: &mut [u8], letter: u8) -> Request
+    requires { ⌜ (end ≤ length (now line)) × (length (now line) ≤ 2200000) × (1100000 ≤ length (now octets)) × (0 < letter) ⌝ }
+    ensures { λ r. ⌜ Within (length (now (octets .entry))) r × (asked r (now (octets .exit)) ≡ runWords named letter (wordsAt (now (line .entry)) end)) ⌝ }
 {
-    let run = next_run(line, octets);
-    let o = next_origin(line, letter, run.end, octets, run.to);
+    let run = next_run(line, end, octets);
+    let c = next_catalogue(line, named, run.end, octets, run.to);
+    let o = next_origin(line, letter, c.end, octets, c.to);
     let t = next_octets(line, o.end, octets, o.to);
     let room = next_number(line, t.end);
-    let good = run.good & o.good & t.good & room.good;
+    let good = run.good & c.good & o.good & t.good & room.good;
     Request {
         letter: letter_if(good & (room.end == line.len()), letter),
         stanza: Span {
@@ -234,8 +272,16 @@ fn read_run(line: &[u8], octets: &mut [u8], letter: u8) -> Request
         },
         first: run.first,
         many: run.many,
-        origin: Span {
+        entries: Span {
             from: run.to,
+            to: c.middle,
+        },
+        names: Span {
+            from: c.middle,
+            to: c.to,
+        },
+        origin: Span {
+            from: c.to,
             to: o.to,
         },
         octets: Span {
@@ -255,10 +301,35 @@ fn no_request() -> Request
         stanza: Span { from: 0, to: 0 },
         first: 0,
         many: 0,
+        entries: Span { from: 0, to: 0 },
+        names: Span { from: 0, to: 0 },
         origin: Span { from: 0, to: 0 },
         octets: Span { from: 0, to: 0 },
         room: 0,
     }
+}
+
+// Reads a request by its letter; `named` if C stands after it, and `end` is where its first word ends.
+fn read_by(line: &[u8], end: usize, named: bool, octets: &mut [u8], letter: u8) -> Request
+    requires { ⌜ (end ≤ length (now line)) × (length (now line) ≤ 2200000) × (1100000 ≤ length (now octets)) ⌝ }
+    ensures { λ r. ⌜ Within (length (now (octets .entry))) r × (asked r (now (octets .exit)) ≡ byLetter named letter (wordsAt (now (line .entry)) end)) ⌝ }
+{
+    if letter == b'J' {
+        return read_one(line, end, octets, letter);
+    }
+    if letter == b'P' {
+        return read_run(line, end, named, octets, letter);
+    }
+    if letter == b'R' {
+        return read_run(line, end, named, octets, letter);
+    }
+    if named {
+        return no_request();
+    }
+    if letter == b'W' {
+        return read_one(line, end, octets, letter);
+    }
+    no_request()
 }
 
 // Reads what a line, without its LF, asks for. The octets of its words are stored one after another.
@@ -266,29 +337,22 @@ pub fn read(line: &[u8], octets: &mut [u8]) -> Request
     requires { ⌜ 1100000 ≤ length (now octets) ⌝ }
     ensures { λ r. ⌜ Within (length (now (octets .entry))) r × (asked r (now (octets .exit)) ≡ requestOf (now (line .entry))) ⌝ }
 {
-    if line.len() < 2 {
+    if line.len() < 3 {
         return no_request();
     }
     if LONGEST < line.len() {
         return no_request();
     }
-    if line[1] != b' ' {
+    if line[1] == b' ' {
+        return read_by(line, 1, false, octets, line[0]);
+    }
+    if line[1] != b'C' {
         return no_request();
     }
-    let letter = line[0];
-    if letter == b'J' {
-        return read_one(line, octets, letter);
+    if line[2] != b' ' {
+        return no_request();
     }
-    if letter == b'W' {
-        return read_one(line, octets, letter);
-    }
-    if letter == b'P' {
-        return read_run(line, octets, letter);
-    }
-    if letter == b'R' {
-        return read_run(line, octets, letter);
-    }
-    no_request()
+    read_by(line, 2, true, octets, line[0])
 }
 
 // The place of the first LF from i on, or the length if there is none.

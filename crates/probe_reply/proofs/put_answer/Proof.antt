@@ -14,19 +14,34 @@ returns c =
 returns-2 : tie.Need-returns-2
 returns-2 c =
     let c4 = c .before .before .before .before in
-    let c9 = c4 .before .before .before .before .before in
-    let c11 = c9 .before .before in
-    let c17 = c11 .before .before .before .before .before .before in
-    printed-reply (c17 .args .q) (c17 .args .octets .now) (c17 .pre .0) _ (omega (arith, c11 .least .ensures, c17 .pre .2)) (c9 .if2 .taken)
+    let c11 = c4 .before .before .before .before .before .before .before in
+    let c13 = c11 .before .before in
+    let c19 = c13 .before .before .before .before .before .before in
+    printed-reply (c19 .args .q) (c19 .args .octets .now) (c19 .pre .0) _ (omega (arith, c13 .least .ensures, c19 .pre .2)) (c11 .if2 .taken)
     (c4 .print .ensures)
+
+sub-read-5 : tie.Need-sub-read-5
+sub-read-5 c =
+    let c14 = c .before .before .before .before .before .before .before .before .before .before .before .before .before .before in
+    omega (arith, c14 .pre .0 .4 .0)
+
+part-read-start-5 : tie.Need-part-read-start-5
+part-read-start-5 c =
+    let c14 = c .before .before .before .before .before .before .before .before .before .before .before .before .before .before in
+    omega (arith, c14 .pre .0 .4 .0, c14 .pre .0 .4 .1)
+
+part-read-end-5 : tie.Need-part-read-end-5
+part-read-end-5 c =
+    let c14 = c .before .before .before .before .before .before .before .before .before .before .before .before .before .before in
+    omega (arith, c14 .pre .0 .4 .1)
 
 returns-3 : tie.Need-returns-3
 returns-3 c =
     let c4 = c .before .before .before .before in
-    let c10 = c4 .before .before .before .before .before .before in
-    let c14 = c10 .before .before .before .before in
-    let c20 = c14 .before .before .before .before .before .before in
-    read-reply (c20 .args .q) (c20 .args .octets .now) (c20 .pre .0) _ (omega (arith, c14 .least .ensures, c20 .pre .2)) (c10 .if3 .taken)
+    let c12 = c4 .before .before .before .before .before .before .before .before in
+    let c16 = c12 .before .before .before .before in
+    let c22 = c16 .before .before .before .before .before .before in
+    read-reply (c22 .args .q) (c22 .args .octets .now) (c22 .pre .0) _ (omega (arith, c16 .least .ensures, c22 .pre .2)) (c12 .if3 .taken)
     (c4 .read .ensures)
 
 returns-4 : tie.Need-returns-4
@@ -59,6 +74,12 @@ put-answer-spec =
     (λ c. search needs)
     (λ c. search needs)
     (λ c. search needs)
+    (λ c. search needs)
+    (λ c. search needs)
+    (λ c. search needs)
+    (λ c. search needs)
+    (λ c. search needs)
+    (λ c. search needs)
     (λ c κs. search needs)
     (λ c. search needs)
     (λ c. search needs)
@@ -72,6 +93,12 @@ put-answer-spec =
     (λ c. search needs)
     (λ c. search needs)
     (λ c. search needs)
+    (λ c. search needs)
+    (λ c. search needs)
+    (λ c. search needs)
+    sub-read-5
+    part-read-start-5
+    part-read-end-5
     (λ c. search needs)
     (λ c. search needs)
     (λ c. search needs)

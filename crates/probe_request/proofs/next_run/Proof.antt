@@ -8,7 +8,8 @@ returns c =
     let c3 = c .before .before .before in
     let c4 = c3 .before in
     let c7 = c4 .before .before .before in
-    front-read _ _ _ (c7 .next-octets .result) (c7 .next-octets .ensures) (c4 .next-number .result) (c3 .next-number2 .result)
+    let c11 = c7 .before .before .before .before in
+    front-read _ (c11 .args .end) _ _ (c7 .next-octets .result) (c7 .next-octets .ensures) (c4 .next-number .result) (c3 .next-number2 .result)
     (c4 .next-number .ensures) (c3 .next-number2 .ensures)
 
 pub next-run-spec : {M : Type 1} → statement M

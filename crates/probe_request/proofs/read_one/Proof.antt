@@ -1,5 +1,5 @@
-use native.Mathlib.Omega.{arith}
 use Rattle.probe_request.proofs.Requests.{one-fits, one-read}
+use native.Mathlib.Omega.{arith}
 use borrow.Author.Needs.{needs}
 use Rattle.probe_request.proofs.read_one.Statement.{statement}
 use Rattle.probe_request.proofs.read_one.Tie as tie
@@ -8,10 +8,10 @@ returns : tie.Need-returns
 returns c =
     let c5 = c .before .before .before .before .before in
     let c9 = c5 .before .before .before .before in
-    let f = one-fits _ _ _ (c9 .args .letter) (c .letter-if .result) (c9 .pre .1) (c9 .pre .2) (c5 .next-octets .result)
+    let f = one-fits _ (c9 .args .end) _ _ (c9 .args .letter) (c .letter-if .result) (c9 .pre .1) (c9 .pre .2) (c5 .next-octets .result)
     (c5 .next-octets .ensures) in (
-      ((omega arith, f), (omega arith, omega arith), (omega arith, omega arith)),
-      one-read _ _ _ (c9 .args .letter) (c .letter-if .result) (c9 .pre .1) (c9 .pre .2) (c5 .next-octets .result)
+      ((omega arith, f), (omega arith, omega arith), (omega arith, omega arith), (omega arith, omega arith), (omega arith, omega arith)),
+      one-read _ (c9 .args .end) _ _ (c9 .args .letter) (c .letter-if .result) (c9 .pre .1) (c9 .pre .2) (c5 .next-octets .result)
           (c5 .next-octets .ensures)
           (c9 .pre .3) (c .letter-if .ensures),
     )
