@@ -15,10 +15,11 @@ use Rattle.format.specs.Wire.{Taken, short, bad, took, taken}
 use Rattle.format.specs.Field.{Kind, start, Field, kinds}
 use Rattle.format.specs.Token.{tokens}
 use Rattle.format.specs.Name.{isWireName}
-use Rattle.format.specs.Judge.{Description, described, judged}
+use Rattle.format.specs.Judge.{Description, described}
+use Rattle.format.specs.Stored.{Lent, judgedOf}
 use Rattle.format.specs.Run.{shown, readField, Parts, refused, parts, withFirst, afterTaking, partsOf, isParts, maxRdata, accepts, textOfParts, textIn, textOf, readRun}
 use Rattle.format.specs.Catalogue.{Entry, TypeName, Catalogued, badEntry, known, cataloguedFrom, catalogued}
-use Rattle.format.specs.Entries.{Answer, done, refusal, maxText, orRefusal, ofParts, isRun, run, ofCatalogue, printingWith, readingWith, ifRoom, room, outcome, printWith, readWith}
+use Rattle.format.specs.Entries.{Answer, done, refusal, maxText, orRefusal, ofParts, isRun, run, ofCatalogue, printingOf, readingOf, ifRoom, room, outcome, printOf, readOf}
 use Rattle.format.specs.Demands.{tailsLast, soundKind, soundNames, Sound, Prints, Divides, wholeList, secondList, Demand3, RoundTrip, Demand2, ReadAccepted, BadCatalogue, BadRun, BadOrigin, OldAnswers}
 use Rattle.format.proofs.Lists.{and-right, all-take, all-drop}
 use Rattle.format.proofs.Judge.{judges}
@@ -62,7 +63,7 @@ run-fit d s first len =
 
 -- what reading answers with 0 is accepted
 pub read-accepted : ReadAccepted
-unfolding readingWith
+unfolding readingOf
 read-accepted es names s d j first len o t xs e = by (leb (length t) maxText) (rw j at e)
   where
     ks : List Kind
@@ -126,13 +127,13 @@ numbered (k ∷ ks) xs = by (taken (start k) xs) (λ ys. numbered ks ys)
     by bad ih = refl
     by (took n) ih = on (take n xs) (partsOf ks (drop n xs)) (ih (drop n xs))
 
-module _ (es : List Entry) (names : List ℕ) (c : List TypeName) (n : catalogued names es ≡ known c) (s : List ℕ) (d : Description) (j : judged s ≡ described d) (first len : ℕ) (r : isRun first len (kinds (d .fields)) ≡ true) where
+module _ (es : List Entry) (names : List ℕ) (c : List TypeName) (n : catalogued names es ≡ known c) (s : Lent) (d : Description) (j : judgedOf s ≡ described d) (first len : ℕ) (r : isRun first len (kinds (d .fields)) ≡ true) where
   abbrev ks : List Kind
   ks = run first len (kinds (d .fields))
 
   -- printing, want of room apart
-  prints-text : (xs : List ℕ) → accepts ks xs ≡ true → printingWith s first len es names xs ≡ done (textOf c ks xs)
-  unfolding printingWith accepts textOf
+  prints-text : (xs : List ℕ) → accepts ks xs ≡ true → printingOf s first len es names xs ≡ done (textOf c ks xs)
+  unfolding printingOf accepts textOf
   prints-text xs h = rw (j, r, n) (by (leb (length xs) maxRdata) (partsOf ks xs) h)
     where
       by : (a : Bool) (q : Parts) → a && isParts q ≡ true → orRefusal 1 a (ofParts q (λ ps. done (textOfParts (shown c) ks ps))) ≡ done (textIn (shown c) ks q)
@@ -144,8 +145,8 @@ module _ (es : List Entry) (names : List ℕ) (c : List TypeName) (n : catalogue
   Refusing (done t) = ⊥
   Refusing (refusal n i) = among n (1 ∷ 8 ∷ 9 ∷ 10 ∷ []) ≡ true
 
-  prints-refusal : (xs : List ℕ) → accepts ks xs ≡ false → Refusing (printingWith s first len es names xs)
-  unfolding printingWith accepts
+  prints-refusal : (xs : List ℕ) → accepts ks xs ≡ false → Refusing (printingOf s first len es names xs)
+  unfolding printingOf accepts
   prints-refusal xs h = rw (j, r, n) (by (leb (length xs) maxRdata) (partsOf ks xs) (numbered ks xs) h)
     where
       by : (a : Bool) (q : Parts) → Numbered q → a && isParts q ≡ false → Refusing (orRefusal 1 a (ofParts q (λ ps. done (textOfParts (shown c) ks ps))))
@@ -154,11 +155,11 @@ module _ (es : List Entry) (names : List ℕ) (c : List TypeName) (n : catalogue
       by false q n e = refl
 
   pub prints : (xs : List ℕ) → Prints es names c s first len (run first len (kinds (d .fields))) xs
-  unfolding printWith
+  unfolding printOf
   prints xs = record {
     enough-room = λ h out at l. rw (prints-text xs h, fits-room (textOf c ks xs) (room out at) l);
     no-room = λ h out at l. rw (prints-text xs h, lacks-room (textOf c ks xs) (room out at) l);
-    refuses = λ h out at. by (printingWith s first len es names xs) out at (prints-refusal xs h);
+    refuses = λ h out at. by (printingOf s first len es names xs) out at (prints-refusal xs h);
   }
     where
       by : (a : Answer) (out : List ℕ) (at : ℕ) → Refusing a → (among (outcome out at (ifRoom (room out at) a) .number) (1 ∷ 8 ∷ 9 ∷ 10 ∷ []) ≡ true) × (outcome out at (ifRoom (room out at) a) .lent ≡ out)
@@ -166,8 +167,8 @@ module _ (es : List Entry) (names : List ℕ) (c : List TypeName) (n : catalogue
       by (refusal n i) out at h = (h, refl)
 
   -- reading the printed text
-  reads-text : (xs : List ℕ) → Octets xs → accepts ks xs ≡ true → (o : List ℕ) → isWireName o ≡ true → readingWith s first len es names o (textOf c ks xs) ≡ done xs
-  unfolding readingWith accepts textOf
+  reads-text : (xs : List ℕ) → Octets xs → accepts ks xs ≡ true → (o : List ℕ) → isWireName o ≡ true → readingOf s first len es names o (textOf c ks xs) ≡ done xs
+  unfolding readingOf accepts textOf
   reads-text xs b h o w = by (leb (length xs) maxRdata) refl (partsOf ks xs) refl h
     where
       fit : Fit ks
@@ -176,7 +177,7 @@ module _ (es : List Entry) (names : List ℕ) (c : List TypeName) (n : catalogue
       sound : soundNames c ≡ true
       sound = catalogues names es c n .0
 
-      by : (a : Bool) → leb (length xs) maxRdata ≡ a → (q : Parts) → partsOf ks xs ≡ q → a && isParts q ≡ true → readingWith s first len es names o (textIn (shown c) ks q) ≡ done xs
+      by : (a : Bool) → leb (length xs) maxRdata ≡ a → (q : Parts) → partsOf ks xs ≡ q → a && isParts q ≡ true → readingOf s first len es names o (textIn (shown c) ks q) ≡ done xs
       by true a (parts ps) p e =
           let h = round-trip c sound o ks (fit .tails) (fit .sound) xs b ps p in
           let m : length (textOfParts (shown c) ks ps) ≤ maxText = text-within c sound ks (fit .tails) (fit .sound) (fit .most) xs b (leb-true (length xs) maxRdata a) ps p in
@@ -185,7 +186,7 @@ module _ (es : List Entry) (names : List ℕ) (c : List TypeName) (n : catalogue
       by false a q p e = cc
 
   round : (xs : List ℕ) → Octets xs → RoundTrip es names c s first len (run first len (kinds (d .fields))) xs
-  unfolding readWith
+  unfolding readOf
   round xs b = record {
     prints = prints xs;
     reads = λ h o w out at l. rw (reads-text xs b h o w, fits-room xs (room out at) l);
@@ -243,7 +244,7 @@ demand-3 es names n v s d j k h xs m = record {
 
 -- a bad catalogue, whatever the RDATA and the text
 pub bad-catalogue : BadCatalogue
-unfolding printWith printingWith readWith readingWith
+unfolding printOf printingOf readOf readingOf
 bad-catalogue es names i n s d j first len r = record {
   printing-13 = λ xs l out at. rw (le-leb (length xs) maxRdata l, j, r, n);
   reading-13 = λ o w t l out at. rw (le-leb (length t) maxText l, j, r, w, n);
@@ -251,19 +252,19 @@ bad-catalogue es names i n s d j first len r = record {
 
 -- the order before 13
 pub bad-run : BadRun
-unfolding printWith printingWith readWith readingWith
+unfolding printOf printingOf readOf readingOf
 bad-run es names s d j first len r = record {
   printing-6 = λ xs l out at. rw (le-leb (length xs) maxRdata l, j, r);
   reading-6 = λ o t l out at. rw (le-leb (length t) maxText l, j, r);
 }
 
 pub bad-origin : BadOrigin
-unfolding readWith readingWith
+unfolding readOf readingOf
 bad-origin es names s d j first len r o w t l out at = rw (le-leb (length t) maxText l, j, r, w)
 
 -- no entry: the old answers
 pub old-answers : OldAnswers
-unfolding printWith printingWith readWith readingWith cataloguedFrom shown readField
+unfolding printOf printingOf readOf readingOf cataloguedFrom shown readField
 old-answers = record {
   shown-type = λ p. refl;
   shown-types = λ p. refl;

@@ -5,7 +5,7 @@ use mathlib.Core.Bool.{Bool, true, false, not, cond, _&&_, _||_}
 use mathlib.Core.List.{List, [], _∷_, _++_}
 use mathlib.Core.Option.{Option, none, some}
 use native.Mathlib.Omega.{arith}
-use lib.ListN.{length, length-append}
+use lib.ListN.{length, drop, length-append}
 use lib.Dec.{leb, ltb, eqb}
 use borrow.Author.Tests.{leb-false}
 use Rattle.format.specs.Lists.{_>>=_, provided, consBoth, eachOf, null, anyOf, allOf, twice, Spanned, span}
@@ -15,7 +15,9 @@ use Rattle.format.specs.Number.{decimalOf}
 use Rattle.format.specs.Lines.{placed, lines}
 use Rattle.format.specs.Grammar.{partAt, isName, nameAt, after, freeTextAt, Header, headerLine, Qualifier, word, symbol, ifQualifier, qualifier, Qualified, notBracket, ifQualifiers, qualifiersAt, fieldNameAt, FieldLine, ifType, fieldLine}
 use Rattle.format.specs.Types.{Takes, symbols, words, TypeRow, hasWord, nameKind, stringKind, typeRows, takesOf, unknownWord, symbolOf, wordOf, sameSymbol, allowed, Meaning, unknown, forbidden, means, orForbidden, meaningOf, meaning}
-use Rattle.format.specs.Judge.{Description, Progress, beforeHeader, afterHeader, Verdict, faulty, goesOn, afterTail, sameName, withField, ofMeaning, ofFieldLine, ofHeader, contentLine, ignored, lineVerdict, rejected, described, atEnd, afterLine, judgedFrom, maxStanza, judged}
+use Rattle.format.specs.Judge.{Description, Progress, beforeHeader, afterHeader, Verdict, faulty, goesOn, afterTail, sameName, withField, ofMeaning, ofFieldLine, ofHeader, asSet, contentLine, ignored, lineVerdict, Judged, rejected, described, atEnd, afterLine, judgedFrom, maxStanza, judged}
+use Rattle.format.specs.Text.{pieces}
+use Rattle.format.specs.Stored.{stringsIn, wholeStrings, tagged, isEdition, orRejected, judgedStored, asFile, asStored}
 use Rattle.format.specs.Demands.{tailsLast, soundSymbol, soundKind, Sound, Judges}
 use Rattle.format.proofs.Lists.{and-left, and-right, or-left, or-right, bind-some, provided-some, each-all, all-snoc, twice-snoc}
 use Rattle.format.proofs.Token.{given}
@@ -235,19 +237,22 @@ header-leads (some h) = by (inRange 1 65535 (h .typeNo))
     by true = record { most = omega arith; tails = refl; names = refl; sound = refl }
     by false = tt
 
-content-leads : (s : Progress) (b : Bool) (end : ℕ) (t : List ℕ) → Leads s → Leading (contentLine s b end t)
-content-leads beforeHeader true end t h = tt
-content-leads beforeHeader false end t h = header-leads (headerLine end t)
-content-leads (afterHeader d) true end t h = line-leads d end t h
-content-leads (afterHeader d) false end t h = tt
+content-leads : (i : Bool) (s : Progress) (b : Bool) (end : ℕ) (t : List ℕ) → Leads s → Leading (contentLine i s b end t)
+content-leads i beforeHeader true end t h = tt
+content-leads i beforeHeader false end t h = header-leads (headerLine end t)
+content-leads i (afterHeader d) b end t h = by (asSet i b)
+  where
+    by : (c : Bool) → Leading (cond c (ofFieldLine d (fieldLine end t)) (faulty 2))
+    by true = line-leads d end t h
+    by false = tt
 
-verdict-leads : (s : Progress) (l : Part) → Leads s → Leading (lineVerdict s l)
-verdict-leads s l h =
-    leading-cond (ignored (span blank (l .octets) .rest)) (goesOn s) _ h (λ e. content-leads s (not (null (span blank (l .octets) .front))) (l .place + length (l .octets)) (span blank (l .octets) .rest) h)
+verdict-leads : (i : Bool) (s : Progress) (l : Part) → Leads s → Leading (lineVerdict i s l)
+verdict-leads i s l h =
+    leading-cond (ignored (span blank (l .octets) .rest)) (goesOn s) _ h (λ e. content-leads i s (not (null (span blank (l .octets) .front))) (l .place + length (l .octets)) (span blank (l .octets) .rest) h)
 
-lines-fine : (ls : List Part) (i : ℕ) (s : Progress) (d : Description) → Leads s → judgedFrom i s ls ≡ described d → Fine (d .fields) × (1 ≤ length (d .fields))
+lines-fine : (f : Bool) (ls : List Part) (i : ℕ) (s : Progress) (d : Description) → Leads s → judgedFrom f i s ls ≡ described d → Fine (d .fields) × (1 ≤ length (d .fields))
 unfolding judgedFrom
-lines-fine [] i s d h e = by s h e
+lines-fine f [] i s d h e = by s h e
   where
     on : (c : Description) (fs : List Field) → c .fields ≡ fs → Fine (c .fields) → cond (null fs) (rejected 2 0) (described c) ≡ described d → Fine (d .fields) × (1 ≤ length (d .fields))
     on c [] p h e = let z : _≡_ {A = ℕ} 0 1 = cc in absurd (omega arith)
@@ -256,19 +261,30 @@ lines-fine [] i s d h e = by s h e
     by : (s : Progress) → Leads s → atEnd s ≡ described d → Fine (d .fields) × (1 ≤ length (d .fields))
     by beforeHeader h e = let z : _≡_ {A = ℕ} 0 1 = cc in absurd (omega arith)
     by (afterHeader c) h e = on c (c .fields) refl h e
-lines-fine (l ∷ ls) i s d h e = by (lineVerdict s l) (verdict-leads s l h) e (λ t. lines-fine ls (suc i) t d)
+lines-fine f (l ∷ ls) i s d h e = by (lineVerdict f s l) (verdict-leads f s l h) e (λ t. lines-fine f ls (suc i) t d)
   where
-    by : (v : Verdict) → Leading v → afterLine v i (λ t. judgedFrom (suc i) t ls) ≡ described d
-        → ((t : Progress) → Leads t → judgedFrom (suc i) t ls ≡ described d → Fine (d .fields) × (1 ≤ length (d .fields))) → Fine (d .fields) × (1 ≤ length (d .fields))
-    by (faulty n) g f ih = let z : _≡_ {A = ℕ} 0 1 = cc in absurd (omega arith)
-    by (goesOn t) g f ih = ih t g f
+    by : (v : Verdict) → Leading v → afterLine v i (λ t. judgedFrom f (suc i) t ls) ≡ described d
+        → ((t : Progress) → Leads t → judgedFrom f (suc i) t ls ≡ described d → Fine (d .fields) × (1 ≤ length (d .fields))) → Fine (d .fields) × (1 ≤ length (d .fields))
+    by (faulty n) g q ih = let z : _≡_ {A = ℕ} 0 1 = cc in absurd (omega arith)
+    by (goesOn t) g q ih = ih t g q
+
+-- a judge's answer, of a file's lines or of stored ones: what it describes is sound
+abbrev Answers : Judged → Type 0
+Answers j = (d : Description) → j ≡ described d → Sound d
+
+pub lines-sound : (f : Bool) (i : ℕ) (ls : List Part) → Answers (judgedFrom f i beforeHeader ls)
+lines-sound f i ls d e =
+    let (h, k) = lines-fine f ls i beforeHeader d tt e in
+    record { some-field = k; most-fields = h .most; tails-last = h .tails; names-distinct = h .names; kinds-sound = h .sound }
+
+-- what stands before the lines refuses, or leaves them
+or-sound : (n i : ℕ) (b : Bool) (j : Judged) → Answers j → Answers (orRejected n i b j)
+or-sound n i true j k d e = k d e
+or-sound n i false j k d e = let z : _≡_ {A = ℕ} 0 1 = cc in absurd (omega arith)
 
 pub judges : Judges
-unfolding judged
-judges stanza d e = by (leb (length stanza) maxStanza) e
-  where
-    by : (b : Bool) → cond b (judgedFrom 1 beforeHeader (lines stanza)) (rejected 1 0) ≡ described d → Sound d
-    by true e =
-        let (h, k) = lines-fine (lines stanza) 1 beforeHeader d tt e in
-        record { some-field = k; most-fields = h .most; tails-last = h .tails; names-distinct = h .names; kinds-sound = h .sound }
-    by false e = let z : _≡_ {A = ℕ} 0 1 = cc in absurd (omega arith)
+unfolding judged judgedStored
+judges (asFile stanza) = or-sound _ _ (leb (length stanza) maxStanza) _ (lines-sound _ _ (lines stanza))
+judges (asStored edition txt) =
+    or-sound _ _ (leb (length txt) maxStanza) _ (or-sound _ _ (isEdition edition) _ (or-sound _ _ (wholeStrings txt) _ (or-sound _ _ (tagged (stringsIn txt)) _
+    (lines-sound _ _ (drop 1 (stringsIn txt))))))

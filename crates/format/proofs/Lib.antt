@@ -21,6 +21,8 @@ pub mod Cut
 pub mod Fields
 pub mod Bound
 pub mod Demands
+pub mod TwoForms
 pub mod Salt
 pub mod Settled
 pub mod Named
+pub mod StoredLines

@@ -7,9 +7,9 @@ use Rattle.format.specs.Name.{wireName}
 use Rattle.format.specs.Judge.{judgedFrom, judged}
 use Rattle.format.specs.Catalogue.{cataloguedFrom}
 use Rattle.format.specs.Run.{shown, readField, partsOf, textOfParts, readRun}
-use Rattle.format.specs.Entries.{printingWith, readingWith}
+use Rattle.format.specs.Entries.{printingOf, readingOf}
 use Rattle.format.specs.Named.{NamedLines}
 
 pub named-lines : NamedLines
-unfolding printingWith readingWith cataloguedFrom judged judgedFrom partsOf taken textOfParts shown readRun readField scanned unescapedFrom wireName octetsFrom blocksFrom
+unfolding printingOf readingOf cataloguedFrom judged judgedFrom partsOf taken textOfParts shown readRun readField scanned unescapedFrom wireName octetsFrom blocksFrom
 named-lines = refl

@@ -8,9 +8,9 @@ use Rattle.format.specs.Name.{wireName}
 use Rattle.format.specs.Judge.{judgedFrom, judged}
 use Rattle.format.specs.Catalogue.{cataloguedFrom}
 use Rattle.format.specs.Run.{shown, readField, partsOf, textOfParts, readRun}
-use Rattle.format.specs.Entries.{printingWith, readingWith}
+use Rattle.format.specs.Entries.{printingOf, readingOf}
 use Rattle.format.specs.Settled.{answered, Settled}
 
 pub settled : Settled
-unfolding answered printingWith readingWith cataloguedFrom judged judgedFrom partsOf taken textOfParts shown readRun readField scanned unescapedFrom wireName octetsFrom blocksFrom longestZeros groupsOf
+unfolding answered printingOf readingOf cataloguedFrom judged judgedFrom partsOf taken textOfParts shown readRun readField scanned unescapedFrom wireName octetsFrom blocksFrom longestZeros groupsOf
 settled = refl

@@ -10,7 +10,8 @@ use Rattle.format.specs.Digits.{number}
 use Rattle.format.specs.Token.{tokens}
 use Rattle.format.specs.Name.{isWireName}
 use Rattle.format.specs.Catalogue.{Entry, TypeName, Catalogued, badEntry, known, catalogued}
-use Rattle.format.specs.Judge.{Judged, rejected, described, judged}
+use Rattle.format.specs.Judge.{Judged, rejected, described}
+use Rattle.format.specs.Stored.{Lent, asFile, asStored, judgedOf}
 use Rattle.format.specs.Run.{shown, readField, Parts, refused, parts, partsOf, maxRdata, textOfParts, readRun}
 
 -- 0 and the octets; or a refusal's number and place.
@@ -50,31 +51,47 @@ abbrev pub ofCatalogue : Catalogued → (List TypeName → Answer) → Answer
 ofCatalogue (badEntry i) f = refusal 13 i
 ofCatalogue (known c) f = f c
 
--- Printing, want of room apart. Order: 1; the stanza's; 6; 13, "after 6 when printing"; 8 and 9; 10.
-unfoldable pub printingWith : List ℕ → ℕ → ℕ → List Entry → List ℕ → List ℕ → Answer
-printingWith stanza first len entries names rdata =
+-- Printing under a judged description, want of room apart. Order: 1; the stanza's; 6; 13, "after 6 when printing"; 8 and 9; 10.
+abbrev pub printingUnder : Judged → ℕ → ℕ → List Entry → List ℕ → List ℕ → Answer
+printingUnder j first len entries names rdata =
     orRefusal 1 (leb (length rdata) maxRdata) (
-    ofStanza (judged stanza) (λ ks.
+    ofStanza j (λ ks.
     orRefusal 6 (isRun first len ks) (
     ofCatalogue (catalogued names entries) (λ c.
     ofParts (partsOf (run first len ks) rdata) (λ ps.
     done (textOfParts (shown c) (run first len ks) ps))))))
 
+-- under a description as it is lent
+unfoldable pub printingOf : Lent → ℕ → ℕ → List Entry → List ℕ → List ℕ → Answer
+printingOf l first len entries names rdata = printingUnder (judgedOf l) first len entries names rdata
+
+-- under a stanza
+abbrev pub printingWith : List ℕ → ℕ → ℕ → List Entry → List ℕ → List ℕ → Answer
+printingWith stanza first len entries names rdata = printingOf (asFile stanza) first len entries names rdata
+
 -- "an empty catalogue .. stands wherever none is named, now and later"
 abbrev pub printing : List ℕ → ℕ → ℕ → List ℕ → Answer
 printing stanza first len rdata = printingWith stanza first len [] [] rdata
 
--- Reading, want of room apart. Order: 1; the stanza's; 6; 7; 13, "after 7"; 8 and 9; 10; 11.
-unfoldable pub readingWith : List ℕ → ℕ → ℕ → List Entry → List ℕ → List ℕ → List ℕ → Answer
-readingWith stanza first len entries names origin text =
+-- Reading under a judged description, want of room apart. Order: 1; the stanza's; 6; 7; 13, "after 7"; 8 and 9; 10; 11.
+abbrev pub readingUnder : Judged → ℕ → ℕ → List Entry → List ℕ → List ℕ → List ℕ → Answer
+readingUnder j first len entries names origin text =
     orRefusal 1 (leb (length text) maxText) (
-    ofStanza (judged stanza) (λ ks.
+    ofStanza j (λ ks.
     orRefusal 6 (isRun first len ks) (
     orRefusal 7 (isWireName origin) (
     ofCatalogue (catalogued names entries) (λ c.
     ofParts (readRun (λ k ts. readField c k origin ts) (run first len ks) (tokens text)) (λ ps.
     orRefusal 11 (leb (length (flat ps)) maxRdata) (
     done (flat ps))))))))
+
+-- under a description as it is lent
+unfoldable pub readingOf : Lent → ℕ → ℕ → List Entry → List ℕ → List ℕ → List ℕ → Answer
+readingOf l first len entries names origin text = readingUnder (judgedOf l) first len entries names origin text
+
+-- under a stanza
+abbrev pub readingWith : List ℕ → ℕ → ℕ → List Entry → List ℕ → List ℕ → List ℕ → Answer
+readingWith stanza first len entries names origin text = readingOf (asFile stanza) first len entries names origin text
 
 -- with no catalogue
 abbrev pub reading : List ℕ → ℕ → ℕ → List ℕ → List ℕ → Answer
@@ -105,20 +122,36 @@ outcome out at (done t) = record { number = 0; place = length t; lent = stored o
 outcome out at (refusal n i) = record { number = n; place = i; lent = out }
 
 -- printing, with 12, into the lent buffer
-unfoldable pub printWith : List ℕ → ℕ → ℕ → List Entry → List ℕ → List ℕ → List ℕ → ℕ → Outcome
-printWith stanza first len entries names rdata out at = outcome out at (ifRoom (room out at) (printingWith stanza first len entries names rdata))
+unfoldable pub printOf : Lent → ℕ → ℕ → List Entry → List ℕ → List ℕ → List ℕ → ℕ → Outcome
+printOf l first len entries names rdata out at = outcome out at (ifRoom (room out at) (printingOf l first len entries names rdata))
+
+-- under a stanza
+abbrev pub printWith : List ℕ → ℕ → ℕ → List Entry → List ℕ → List ℕ → List ℕ → ℕ → Outcome
+printWith stanza first len entries names rdata out at = printOf (asFile stanza) first len entries names rdata out at
 
 -- with no catalogue
 abbrev pub print : List ℕ → ℕ → ℕ → List ℕ → List ℕ → ℕ → Outcome
 print stanza first len rdata out at = printWith stanza first len [] [] rdata out at
 
+-- under a stored description; no catalogue is named
+abbrev pub printStored : List ℕ → ℕ → ℕ → ℕ → List ℕ → List ℕ → ℕ → Outcome
+printStored txt first len edition rdata out at = printOf (asStored edition txt) first len [] [] rdata out at
+
 -- reading, with 12, into the lent buffer
-unfoldable pub readWith : List ℕ → ℕ → ℕ → List Entry → List ℕ → List ℕ → List ℕ → List ℕ → ℕ → Outcome
-readWith stanza first len entries names origin text out at = outcome out at (ifRoom (room out at) (readingWith stanza first len entries names origin text))
+unfoldable pub readOf : Lent → ℕ → ℕ → List Entry → List ℕ → List ℕ → List ℕ → List ℕ → ℕ → Outcome
+readOf l first len entries names origin text out at = outcome out at (ifRoom (room out at) (readingOf l first len entries names origin text))
+
+-- under a stanza
+abbrev pub readWith : List ℕ → ℕ → ℕ → List Entry → List ℕ → List ℕ → List ℕ → List ℕ → ℕ → Outcome
+readWith stanza first len entries names origin text out at = readOf (asFile stanza) first len entries names origin text out at
 
 -- with no catalogue
 abbrev pub read : List ℕ → ℕ → ℕ → List ℕ → List ℕ → List ℕ → ℕ → Outcome
 read stanza first len origin text out at = readWith stanza first len [] [] origin text out at
+
+-- under a stored description
+abbrev pub readStored : List ℕ → ℕ → ℕ → ℕ → List ℕ → List ℕ → List ℕ → ℕ → Outcome
+readStored txt first len edition origin text out at = readOf (asStored edition txt) first len [] [] origin text out at
 
 -- "for judging alone, the field count"; nothing is lent
 abbrev pub judgeOutcome : Judged → Outcome
@@ -126,5 +159,13 @@ judgeOutcome (rejected n i) = record { number = n; place = i; lent = [] }
 judgeOutcome (described d) = record { number = 0; place = length (d .fields); lent = [] }
 
 -- judging alone
-unfoldable pub judge : List ℕ → Outcome
-judge stanza = judgeOutcome (judged stanza)
+unfoldable pub judgeOf : Lent → Outcome
+judgeOf l = judgeOutcome (judgedOf l)
+
+-- a stanza
+abbrev pub judge : List ℕ → Outcome
+judge stanza = judgeOf (asFile stanza)
+
+-- a stored description
+abbrev pub judgeStored : List ℕ → ℕ → Outcome
+judgeStored txt edition = judgeOf (asStored edition txt)

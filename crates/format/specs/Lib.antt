@@ -18,11 +18,14 @@ pub mod Lines
 pub mod Grammar
 pub mod Types
 pub mod Judge
+pub mod Stored
 pub mod Catalogue
 pub mod Run
 pub mod Entries
 pub mod Job
+pub mod TwoForms
 pub mod Demands
 pub mod Salt
 pub mod Settled
 pub mod Named
+pub mod StoredLines
