@@ -9,7 +9,7 @@ use native.Mathlib.Decide.{decLe}
 use lib.ListN.{length, getD, length-append}
 use lib.Seq.{slice, slice-empty, length-slice}
 use lib.Dec.{leb}
-use borrow.Author.Tests.{le-leb, lt-leb, eq-eqb, ne-eqb}
+use borrow.Author.Tests.{le-leb, lt-leb, lt-ltb, le-ltb, eq-eqb, ne-eqb}
 use Rattle.format.specs.Lists.{_>>=_, provided, eachOf, null, allOf, Spanned, spanning, span}
 use Rattle.format.specs.Octets.{inRange, blank, digit, letter, alphanumeric, nameOctet, splitOn}
 use Rattle.format.specs.Number.{decimalOf}
@@ -20,7 +20,7 @@ use Rattle.octets.specs.Octets.{partIn, firstOr, frontEnd}
 use Rattle.stanza_words.specs.Qualifiers.{piecesIn, qualifiersIn}
 use Rattle.stanza_words.proofs.Laws.{all-front, front}
 use Rattle.stanza_grammar.specs.Grammar.{headerIn, fieldLineIn}
-use Rattle.stanza_grammar.specs.Parts.{Within, cutIn, restIn, textIn, numberAfter, textAfter, numberIn, bracketsIn, namedIn, NamedWithin, afterType}
+use Rattle.stanza_grammar.specs.Parts.{Within, cutIn, restIn, textStart, textIn, numberAfter, textAfter, numberIn, bracketsIn, namedIn, NamedWithin, afterType}
 use Rattle.stanza_grammar.specs.declared.HeaderLine.the-variants.{IsHeader}
 use Rattle.stanza_grammar.specs.declared.LineField.the-variants.{IsField}
 use Rattle.stanza_grammar.specs.declared.Place.{Place}
@@ -108,17 +108,15 @@ overlong s i e z q k =
 
 -- free text
 module _ (s : List ℕ) (i e : ℕ) (h : i < e) (l : e ≤ length s) where
-  pub text-on : blank (getD s i 0) ≡ true → allOf (inRange 0x20 0xFE) (slice (i + 1) e s) ≡ true → some (partIn s (i + 1) e) ≡ freeTextAt e (slice i e s)
-  text-on b q = rw (next s i e h l, b, q, place s (i + 1) e (omega arith) l)
-
-  pub text-broken : blank (getD s i 0) ≡ true → allOf (inRange 0x20 0xFE) (slice (i + 1) e s) ≡ false → none ≡ freeTextAt e (slice i e s)
-  text-broken b q = rw (next s i e h l, b, q)
+  pub text-all : blank (getD s i 0) ≡ true → (b : Bool) → b ≡ allOf (inRange 0x20 0xFE) (slice (i + 1) e s) → provided b (partIn s (textStart i e) e) ≡ freeTextAt e (slice i e s)
+  text-all b true q = rw (lt-ltb i e h, next s i e h l, b, ← q, place s (i + 1) e (omega arith) l)
+  text-all b false q = rw (next s i e h l, b, ← q)
 
   pub text-tight : blank (getD s i 0) ≡ false → none ≡ freeTextAt e (slice i e s)
   text-tight b = rw (next s i e h l, b)
 
-pub text-none : (s : List ℕ) (i e : ℕ) → e ≤ i → some (partIn s e e) ≡ freeTextAt e (slice i e s)
-text-none s i e h = let z : e - 0 ≡ e = omega arith in rw (nothing s i e h, slice-empty e s, z)
+pub text-none : (s : List ℕ) (i e : ℕ) → e ≤ i → some (partIn s (textStart i e) e) ≡ freeTextAt e (slice i e s)
+text-none s i e h = let z : e - 0 ≡ e = omega arith in rw (le-ltb i e h, nothing s i e h, slice-empty e s, z)
 
 -- a number after `:`
 pub no-number : (t : List ℕ) → (firstOr t ≡ 58 → ⊥) → none ≡ numberAfter t

@@ -1,9 +1,11 @@
 -- The parts of a header and of a field line, as the code finds them one after another.
-use Prim.Native.Nat.{ℕ, _≤_}
+use Prim.Native.Nat.{ℕ, _+_, _≤_}
 use Prim.Native.Char.{code}
+use mathlib.Core.Bool.{cond}
 use mathlib.Core.List.{List, _++_}
 use mathlib.Core.Option.{Option, none, some}
 use lib.Seq.{slice}
+use lib.Dec.{ltb}
 use Rattle.format.specs.Lists.{_>>=_, Spanned, span}
 use Rattle.format.specs.Octets.{digit}
 use Rattle.format.specs.Field.{Part}
@@ -37,6 +39,10 @@ restIn s end (At j) = some (slice j end s)
 abbrev pub textIn : List ℕ → ℕ → Place → Option Part
 textIn s end NoPlace = none
 textIn s end (At j) = some (partIn s j end)
+
+-- where free text begins that stands from i to e: after its blank, or at the end if there is none
+abbrev pub textStart : ℕ → ℕ → ℕ
+textStart i e = cond (ltb i e) (i + 1) e
 
 -- a header after its name: `:` and digits; options and free text
 abbrev pub numberAfter : List ℕ → Option Numbered

@@ -3,12 +3,15 @@ ghost use Prim.Native.Nat.{_≤_};
 ghost use lib.ListN.{length};
 ghost use lib.Seq.{slice};
 ghost use mathlib.Core.Path.{_≡_};
+ghost use Rattle.format.specs.Lists.{provided};
 ghost use Rattle.format.specs.Grammar.{headerLine, fieldLine, startsWithLetter, nameAt, afterOptions, freeTextAt, qualifiersAt, fieldNameAt};
+ghost use Rattle.octets.specs.Octets.{partIn};
 ghost use Rattle.stanza_grammar.specs.Grammar.{headerIn, fieldLineIn, HeaderWithin, LineFieldWithin};
 ghost use Rattle.stanza_grammar.specs.Parts.{
   Within,
   cutIn,
   restIn,
+  textStart,
   textIn,
   numberAfter,
   textAfter,
@@ -101,20 +104,26 @@ fn name_end(s: &[u8], at: usize, end: usize) -> Place
     Place::NoPlace
 }
 
-// Where the free text begins: after one blank, or at the end of the line if there is none.
-fn free_text(s: &[u8], i: usize, end: usize) -> Place
+// Where the free text of a line begins that has nothing else from i on: after one blank, or at the end if there is none.
+fn text_start(i: usize, end: usize) -> usize
+    requires { ⌜ i ≤ end ⌝ }
+    ensures { λ r. ⌜ (r ≡ textStart i end) × (i ≤ r) × (r ≤ end) ⌝ }
+{
+    if i < end { i + 1 } else { end }
+}
+
+// Whether a line has nothing but free text from i on.
+fn is_text(s: &[u8], i: usize, end: usize) -> bool
     requires { ⌜ (i ≤ end) × (end ≤ length (now s)) ⌝ }
-    ensures { λ r. ⌜ (textIn (now (s .entry)) end r ≡ freeTextAt end (slice i end (now (s .entry)))) × Within i end r ⌝ }
+    ensures { λ r. ⌜ provided r (partIn (now (s .entry)) (textStart i end) end) ≡ freeTextAt end (slice i end (now (s .entry))) ⌝ }
 {
     if i < end {
         if octets::is_in(Class::Blank, s[i]) {
-            if octets::all_free(s, i + 1, end) {
-                return Place::At(i + 1);
-            }
+            return octets::all_free(s, i + 1, end);
         }
-        return Place::NoPlace;
+        return false;
     }
-    Place::At(end)
+    true
 }
 
 // The number after `:`, and where the rest begins.
@@ -160,7 +169,12 @@ fn text_after(s: &[u8], i: usize, end: usize) -> Place
     let p = after_options(s, i, end);
     match p {
         Place::NoPlace => Place::NoPlace,
-        Place::At(j) => free_text(s, j, end),
+        Place::At(j) => {
+            if is_text(s, j, end) {
+                return Place::At(text_start(j, end));
+            }
+            Place::NoPlace
+        }
     }
 }
 
@@ -241,18 +255,17 @@ fn after_type(s: &[u8], at: usize, e: usize, end: usize) -> LineField
             match n {
                 Named::Broken => LineField::NoField,
                 Named::From(name_at, name_end) => {
-                    let t = free_text(s, name_end, end);
-                    match t {
-                        Place::NoPlace => LineField::NoField,
-                        Place::At(text_at) => LineField::IsField(FieldParts {
+                    if is_text(s, name_end, end) {
+                        return LineField::IsField(FieldParts {
                             type_end: e,
                             qualifiers_at,
                             qualifiers_end,
                             name_at,
                             name_end,
-                            text_at,
-                        }),
+                            text_at: text_start(name_end, end),
+                        });
                     }
+                    LineField::NoField
                 }
             }
         }
