@@ -7,14 +7,15 @@ use mathlib.Core.Option.{Option, none, some}
 use native.Mathlib.Omega.{arith}
 use lib.ListN.{length}
 use lib.Seq.{slice, length-slice}
-use lib.Dec.{eqb}
-use borrow.Author.Tests.{eq-eqb, ne-eqb, le-leb, lt-leb}
+use native.Mathlib.Decide.{decLe}
+use lib.Dec.{leb, ltb, eqb}
+use borrow.Author.Tests.{eq-eqb, ne-eqb, le-leb, lt-leb, le-ltb, lt-ltb}
 use Rattle.format.specs.Lists.{_>>=_, null, span}
 use Rattle.format.specs.Octets.{blank}
 use Rattle.format.specs.Field.{Field}
 use Rattle.format.specs.Grammar.{FieldLine, Qualifier, headerLine, fieldLine}
 use Rattle.format.specs.Types.{Meaning, unknown, forbidden, means, meaning}
-use Rattle.format.specs.Judge.{Description, Progress, afterHeader, Verdict, faulty, goesOn, withField, ofMeaning, ofFieldLine, ofHeader, contentLine, ignored, lineVerdict}
+use Rattle.format.specs.Judge.{Description, Progress, afterHeader, Verdict, faulty, goesOn, withField, ofMeaning, ofFieldLine, ofHeader, asSet, contentLine, ignored, lineVerdict}
 use Rattle.octets.specs.Octets.{inClass, partIn, frontEnd}
 use Rattle.octets.specs.declared.Class.the-variants.{Blank}
 use Rattle.octets.proofs.Slices.{front-rest, front-within}
@@ -59,6 +60,28 @@ module _ (s : List ℕ) (t e : ℕ) (h : HeaderLine) (g : headerIn s t e h ≡ h
   pub good-header : {x : HeaderShape} → h ≡ IsHeader x → 1 ≤ x .number → x .number ≤ 65535
       → goesOn (afterHeader (record { header = record { typeName = partIn s t (x .«name_end»); typeNo = x .number; headerText = partIn s (x .«text_at») e }; fields = [] })) ≡ ofHeader (headerLine e (slice t e s))
   good-header {x} q k l = rw (← g, q, le-leb 1 (x .number) k, le-leb (x .number) 65535 l)
+
+-- where a field line begins, as a test tells it
+module _ (at t : ℕ) where
+  pub file-out : at ≤ t → not (eqb t at) ≡ not (leb t at)
+  file-out l = by (decLe t at)
+    where
+      by : Dec (t ≤ at) → not (eqb t at) ≡ not (leb t at)
+      by (yes h) = rw (eq-eqb t at (omega arith), le-leb t at h)
+      by (no h) = rw (ne-eqb t at (λ q. omega arith), lt-leb t at (omega arith))
+
+  pub stored-out : at ≤ t → not (not (eqb t at)) ≡ not (ltb at t)
+  stored-out l = by (decLe t at)
+    where
+      by : Dec (t ≤ at) → not (not (eqb t at)) ≡ not (ltb at t)
+      by (yes h) = rw (eq-eqb t at (omega arith), le-ltb at t h)
+      by (no h) = rw (ne-eqb t at (λ q. omega arith), lt-ltb at t (omega arith))
+
+  pub set-in : (inFile r : Bool) → asSet inFile (not (eqb t at)) ≡ not r → r ≡ false → (v w : Verdict) → v ≡ cond (asSet inFile (not (eqb t at))) v w
+  set-in inFile r g h v w = rw (g, h)
+
+  pub set-out : (inFile r : Bool) → asSet inFile (not (eqb t at)) ≡ not r → r ≡ true → (v w : Verdict) → w ≡ cond (asSet inFile (not (eqb t at))) v w
+  set-out inFile r g h v w = rw (g, h)
 
 -- field lines: the verdict on a line of a given shape, by what its type and qualifiers mean
 abbrev lineOf : List ℕ → ℕ → ℕ → FieldParts → List Qualifier → FieldLine
@@ -137,14 +160,14 @@ module _ (s : List ℕ) (at e t : ℕ) (l : at ≤ e) (k : e ≤ length s) (q : 
   rest-line = sym (front-rest (inClass Blank) s at e) ∙ ap (λ j. slice j e s) (sym q)
 
   -- the definition's verdict on it
-  line-is : (p : Progress) → lineVerdict p (partIn s at e) ≡ cond (ignored (slice t e s)) (goesOn p) (contentLine p (not (eqb t at)) e (slice t e s))
-  line-is p = rw (line-end, rest-line, no-front)
+  line-is : (inFile : Bool) (p : Progress) → lineVerdict inFile p (partIn s at e) ≡ cond (ignored (slice t e s)) (goesOn p) (contentLine inFile p (not (eqb t at)) e (slice t e s))
+  line-is inFile p = rw (line-end, rest-line, no-front)
 
-  pub line-ignored : (p : Progress) → ignored (slice t e s) ≡ true → goesOn p ≡ lineVerdict p (partIn s at e)
-  line-ignored p h = sym (line-is p ∙ rw h)
+  pub line-ignored : (inFile : Bool) (p : Progress) → ignored (slice t e s) ≡ true → goesOn p ≡ lineVerdict inFile p (partIn s at e)
+  line-ignored inFile p h = sym (line-is inFile p ∙ rw h)
 
-  pub line-read : (p : Progress) (v : Verdict) → ignored (slice t e s) ≡ false → v ≡ contentLine p (not (eqb t at)) e (slice t e s) → v ≡ lineVerdict p (partIn s at e)
-  line-read p v h r = r ∙ sym (line-is p ∙ rw h)
+  pub line-read : (inFile : Bool) (p : Progress) (v : Verdict) → ignored (slice t e s) ≡ false → v ≡ contentLine inFile p (not (eqb t at)) e (slice t e s) → v ≡ lineVerdict inFile p (partIn s at e)
+  line-read inFile p v h r = r ∙ sym (line-is inFile p ∙ rw h)
 
 -- the shape of a field line
 module _ (s : List ℕ) (t e : ℕ) (f : LineField) (g : fieldLineIn s t e f ≡ fieldLine e (slice t e s)) (d : Description) where

@@ -8,7 +8,7 @@ ghost use mathlib.Core.Bool.{not, cond, _||_};
 ghost use mathlib.Core.List.{List};
 ghost use Rattle.format.specs.Field.{tail, Symbol};
 ghost use Rattle.format.specs.Grammar.{headerLine, fieldLine};
-ghost use Rattle.format.specs.Judge.{Description, afterHeader, faulty, ofHeader, ofFieldLine, lineVerdict};
+ghost use Rattle.format.specs.Judge.{Description, afterHeader, faulty, ofHeader, ofFieldLine, asSet, lineVerdict};
 ghost use Rattle.octets.specs.Octets.{partIn};
 ghost use Rattle.stanza_grammar.specs.Grammar.{fieldLineIn, Places};
 ghost use Rattle.stanza_grammar.specs.declared.LineField.the-variants.{IsField};
@@ -118,12 +118,23 @@ fn field_meant(s: &[u8], i: usize, e: usize, x: FieldParts) -> FieldVerdict
     }
 }
 
-// The verdict on the field line from `at` to e, whose first nonblank is at i.
-fn field_verdict(s: &[u8], at: usize, i: usize, e: usize) -> FieldVerdict
-    requires { ⌜ (at ≤ i) × (i ≤ e) × (e ≤ length (now s)) × (length (now s) ≤ 8192) ⌝ }
-    ensures { λ r. ⌜ VerdictWithin (now (s .entry)) r × ((d : Description) → fieldVerdict (now (s .entry)) d r ≡ cond (not (eqb i at)) (ofFieldLine d (fieldLine e (slice i e (now (s .entry))))) (faulty 2)) ⌝ }
+// Whether the field line from `at`, whose first nonblank is at i, begins as it must not: in a file without a blank, stored with one.
+fn is_out(in_file: bool, at: usize, i: usize) -> bool
+    requires { ⌜ at ≤ i ⌝ }
+    ensures { λ r. ⌜ asSet «in_file» (not (eqb i at)) ≡ not r ⌝ }
 {
-    if i <= at {
+    if in_file {
+        return i <= at;
+    }
+    at < i
+}
+
+// The verdict on the field line from `at` to e, whose first nonblank is at i.
+fn field_verdict(s: &[u8], in_file: bool, at: usize, i: usize, e: usize) -> FieldVerdict
+    requires { ⌜ (at ≤ i) × (i ≤ e) × (e ≤ length (now s)) × (length (now s) ≤ 8192) ⌝ }
+    ensures { λ r. ⌜ VerdictWithin (now (s .entry)) r × ((d : Description) → fieldVerdict (now (s .entry)) d r ≡ cond (asSet «in_file» (not (eqb i at))) (ofFieldLine d (fieldLine e (slice i e (now (s .entry))))) (faulty 2)) ⌝ }
+{
+    if is_out(in_file, at, i) {
         return FieldVerdict::BadField(2);
     }
     let f = stanza_grammar::field_line(s, i, e);
@@ -174,9 +185,10 @@ fn same_name(s: &[u8], x: u16, y: u16, a: usize, e: usize) -> bool
     false
 }
 
-// What the line from at to e does after n fields. `header_seen` and `tail_seen` say what came before.
+// What the line from at to e, of a file or stored, does after n fields. `header_seen` and `tail_seen` say what came before.
 pub fn line_step(
     s: &[u8],
+    in_file: bool,
     at: usize,
     e: usize,
     header_seen: bool,
@@ -187,14 +199,14 @@ pub fn line_step(
 ) -> Step
     requires { ⌜ (at ≤ e) × (e ≤ length (now s)) × (length (now s) ≤ 8192) × (n ≤ length (now names)) × (n ≤ length (now ends)) ⌝ }
     ensures { λ r. ⌜ Due (now (s .entry)) «header_seen» n r × ((d : Description) → Stands (now (s .entry)) d «tail_seen» (now (names .entry)) (now (ends .entry)) n
-        → stepOf (now (s .entry)) (progressOf «header_seen» d) r ≡ lineVerdict (progressOf «header_seen» d) (partIn (now (s .entry)) at e)) ⌝ }
+        → stepOf (now (s .entry)) (progressOf «header_seen» d) r ≡ lineVerdict «in_file» (progressOf «header_seen» d) (partIn (now (s .entry)) at e)) ⌝ }
 {
     let i = octets::skip(s, at, e, Class::Blank);
     if ignored(s, i, e) {
         return Step::Skip;
     }
     if header_seen {
-        let f = field_verdict(s, at, i, e);
+        let f = field_verdict(s, in_file, at, i, e);
         return field_step(s, f, tail_seen, names, ends, n);
     }
     let h = header_verdict(s, at, i, e);

@@ -22,8 +22,7 @@ returns c =
     let c6 = c2 .before .before .before .before in (
       tt,
       λ d st. line-ignored (c6 .args .s .now) (c6 .args .at) (c6 .args .e) (c2 .skip .result) (c6 .pre .0) (c6 .pre .1) (c2 .skip .ensures)
-          _
-          (sym (c .before .ignored .ensures) ∙ c .if1 .taken),
+          (c6 .args .in-file) _ (sym (c .before .ignored .ensures) ∙ c .if1 .taken),
     )
 
 field-verdict-requires : tie.Need-field-verdict-requires
@@ -45,7 +44,7 @@ returns-2 c =
     let c9 = c5 .before .before .before .before in (
       due _ _ (c .field-step .result) _ (c2 .if2 .taken) (c .field-step .ensures .0),
       λ d st. rw (c2 .if2 .taken)
-          (line-read (c9 .args .s .now) (c9 .args .at) (c9 .args .e) (c5 .skip .result) (c9 .pre .0) (c9 .pre .1) (c5 .skip .ensures) _ _
+          (line-read (c9 .args .s .now) (c9 .args .at) (c9 .args .e) (c5 .skip .result) (c9 .pre .0) (c9 .pre .1) (c5 .skip .ensures) (c9 .args .in-file) _ _
           (sym (c4 .ignored .ensures) ∙ c3 .if1 .left) (c .field-step .ensures .1 d st ∙ c .before .field-verdict .ensures .1 d)),
     )
 
@@ -69,7 +68,7 @@ returns-3 c =
     let c11 = c7 .before .before .before .before in (
       tt,
       λ d st. rw (c4 .if2 .left)
-          (line-read (c11 .args .s .now) (c11 .args .at) (c11 .args .e) (c7 .skip .result) (c11 .pre .0) (c11 .pre .1) (c7 .skip .ensures) _ _
+          (line-read (c11 .args .s .now) (c11 .args .at) (c11 .args .e) (c7 .skip .result) (c11 .pre .0) (c11 .pre .1) (c7 .skip .ensures) (c11 .args .in-file) _ _
           (sym (c6 .ignored .ensures) ∙ c5 .if1 .left) (rw (c .before .h .given .1) at (c3 .header-verdict .ensures))),
     )
 
@@ -83,7 +82,7 @@ returns-4 c =
     let c11 = c7 .before .before .before .before in (
       c4 .if2 .left,
       λ d st. rw (c4 .if2 .left)
-          (line-read (c11 .args .s .now) (c11 .args .at) (c11 .args .e) (c7 .skip .result) (c11 .pre .0) (c11 .pre .1) (c7 .skip .ensures) _ _
+          (line-read (c11 .args .s .now) (c11 .args .at) (c11 .args .e) (c7 .skip .result) (c11 .pre .0) (c11 .pre .1) (c7 .skip .ensures) (c11 .args .in-file) _ _
           (sym (c6 .ignored .ensures) ∙ c5 .if1 .left) (rw (c .before .h2 .given .1) at (c3 .header-verdict .ensures))),
     )
 
