@@ -4,34 +4,30 @@ use mathlib.Core.Path.{_≡_, sym, _∙_}
 use mathlib.Core.List.{List}
 use native.Mathlib.Omega.{arith}
 use borrow.Author.Tests.{eq-eqb, ne-eqb}
-use Rattle.format.specs.Judge.{rejected, described, judged}
-use Rattle.format.specs.Entries.{judge}
+use Rattle.format.specs.Judge.{Judged, rejected, described}
+use Rattle.format.specs.Stored.{Lent}
+use Rattle.format.specs.Entries.{judgeOf}
 use Rattle.format.proofs.Judge.{judges}
 use Rattle.stanza_judge.specs.declared.Outline.{Outline}
-use Rattle.stanza_judge.specs.Stanza.{Outlined}
+use Rattle.stanza_judge.specs.Stanza.{OutlinedAs, Outlined}
+use Rattle.entry.specs.declared.Reply.{Reply}
+use Rattle.entry.specs.Entries.{Replies}
 
-module _ {s codes : List ℕ} {o : Outline} (q : Outlined s codes o) where
-  pub accepted : o .number ≡ 0 → judged s ≡ described (q .found)
+module _ {j : Judged} {s codes : List ℕ} {o : Outline} (q : OutlinedAs j s codes o) where
+  pub accepted : o .number ≡ 0 → j ≡ described (q .found)
   accepted h = sym (q .judges) ∙ rw (eq-eqb (o .number) 0 h)
 
-  pub accepted-count : o .number ≡ 0 → o .count ≤ 64
-  accepted-count h = omega (arith, judges s (q .found) (accepted h) .most-fields, q .many)
-
-  pub accepted-number : o .number ≡ 0 → 0 ≡ judge s .number
-  unfolding judge
-  accepted-number h = rw (accepted h)
-
-  pub accepted-place : o .number ≡ 0 → o .count ≡ judge s .place
-  unfolding judge
-  accepted-place h = rw (accepted h) (sym (q .many))
-
-  pub refused : (o .number ≡ 0 → ⊥) → judged s ≡ rejected (o .number) (o .line)
+  pub refused : (o .number ≡ 0 → ⊥) → j ≡ rejected (o .number) (o .line)
   refused h = sym (q .judges) ∙ rw (ne-eqb (o .number) 0 h)
 
-  pub refused-number : (o .number ≡ 0 → ⊥) → o .number ≡ judge s .number
-  unfolding judge
-  refused-number h = rw (refused h)
+module _ (l : Lent) {s codes : List ℕ} {o : Outline} (q : Outlined l s codes o) where
+  pub accepted-count : o .number ≡ 0 → o .count ≤ 64
+  accepted-count h = omega (arith, judges l (q .found) (accepted q h) .most-fields, q .many)
 
-  pub refused-place : (o .number ≡ 0 → ⊥) → o .line ≡ judge s .place
-  unfolding judge
-  refused-place h = rw (refused h)
+  pub accepted-replies : (r : Reply) → o .number ≡ 0 → r .number ≡ 0 → r .place ≡ o .count → Replies r (judgeOf l)
+  unfolding judgeOf
+  accepted-replies r h n p = rw (accepted q h) (record { numbers = n; places = p ∙ sym (q .many) })
+
+  pub refused-replies : (r : Reply) → (o .number ≡ 0 → ⊥) → r .number ≡ o .number → r .place ≡ o .line → Replies r (judgeOf l)
+  unfolding judgeOf
+  refused-replies r h n p = rw (refused q h) (record { numbers = n; places = p })

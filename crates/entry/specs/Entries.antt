@@ -9,7 +9,8 @@ use Rattle.format.specs.Field.{Kind}
 use Rattle.format.specs.Token.{tokens}
 use Rattle.format.specs.Catalogue.{Entry, TypeName}
 use Rattle.format.specs.Run.{shown, readField, Parts, parts, partsOf, maxRdata, textOfParts, readRun}
-use Rattle.format.specs.Entries.{Answer, done, orRefusal, ofParts, ifRoom, room, Outcome, outcome, print, printWith, read, readWith, judge}
+use Rattle.format.specs.Entries.{Answer, done, orRefusal, ofParts, ifRoom, room, Outcome, outcome, print, printOf, printWith, printStored, read, readOf, readWith, readStored, judge, judgeStored}
+use Rattle.format.specs.Stored.{Lent}
 use Rattle.entry.specs.declared.Reply.{Reply}
 
 -- an answer has the outcome's number, and its place or count
@@ -39,6 +40,23 @@ PrintWithPromise stanza first many entries names rdata out at r after = Leaves r
 
 abbrev pub ReadWithPromise : (stanza : List ℕ) (first many : ℕ) (entries : List Entry) (names origin text out : List ℕ) (at : ℕ) → Reply → List ℕ → Type 0
 ReadWithPromise stanza first many entries names origin text out at r after = Leaves r after (readWith stanza first many entries names origin text out at)
+
+-- the same of a stored description (document 02, 4), with the edition that the caller names
+abbrev pub JudgeStoredPromise : (txt : List ℕ) (edition : ℕ) → Reply → Type 0
+JudgeStoredPromise txt edition r = Replies r (judgeStored txt edition)
+
+abbrev pub PrintStoredPromise : (txt : List ℕ) (first many edition : ℕ) (rdata out : List ℕ) (at : ℕ) → Reply → List ℕ → Type 0
+PrintStoredPromise txt first many edition rdata out at r after = Leaves r after (printStored txt first many edition rdata out at)
+
+abbrev pub ReadStoredPromise : (txt : List ℕ) (first many edition : ℕ) (origin text out : List ℕ) (at : ℕ) → Reply → List ℕ → Type 0
+ReadStoredPromise txt first many edition origin text out at r after = Leaves r after (readStored txt first many edition origin text out at)
+
+-- all these at once: of a description however it is lent, with a catalogue
+abbrev pub PrintOfPromise : (l : Lent) (first many : ℕ) (entries : List Entry) (names rdata out : List ℕ) (at : ℕ) → Reply → List ℕ → Type 0
+PrintOfPromise l first many entries names rdata out at r after = Leaves r after (printOf l first many entries names rdata out at)
+
+abbrev pub ReadOfPromise : (l : Lent) (first many : ℕ) (entries : List Entry) (names origin text out : List ℕ) (at : ℕ) → Reply → List ℕ → Type 0
+ReadOfPromise l first many entries names origin text out at r after = Leaves r after (readOf l first many entries names origin text out at)
 
 -- the answer in 64 bits: its number in the upper 32, its place or count in the lower
 abbrev pub unpacked : ℕ → Reply

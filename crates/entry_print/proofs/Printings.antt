@@ -12,7 +12,8 @@ use Rattle.format.specs.Octets.{Octets}
 use Rattle.format.specs.Field.{Kind, tail}
 use Rattle.format.specs.Catalogue.{Entry, TypeName, Catalogued, badEntry, known, catalogued}
 use Rattle.format.specs.Run.{shown, refused, parts, partsOf, textOfParts, textOf}
-use Rattle.format.specs.Entries.{done, refusal, ofCatalogue, printingWith}
+use Rattle.format.specs.Stored.{Lent}
+use Rattle.format.specs.Entries.{done, refusal, ofCatalogue, printingOf}
 use Rattle.format.specs.Demands.{tailsLast, soundKind, soundNames}
 use Rattle.format.proofs.Field.{isBitmap}
 use Rattle.format.proofs.Run.{no-tail}
@@ -88,25 +89,25 @@ pub no-answer : (ns : List TypeName) (ks : List Kind) (xs : List ℕ) (n i : ℕ
 no-answer ns ks xs n i e = rw e
 
 -- printing, refusal by refusal
-module _ (es : List Entry) (names : List ℕ) where
-  pub print-long : (s : List ℕ) (first many : ℕ) (xs : List ℕ) → 65535 < length xs → printingWith s first many es names xs ≡ refusal 1 0
-  unfolding printingWith
-  print-long s first many xs h = rw (lt-leb (length xs) 65535 h)
+module _ (l : Lent) (es : List Entry) (names : List ℕ) where
+  pub print-long : (first many : ℕ) (xs : List ℕ) → 65535 < length xs → printingOf l first many es names xs ≡ refusal 1 0
+  unfolding printingOf
+  print-long first many xs h = rw (lt-leb (length xs) 65535 h)
 
-  module _ {s codes : List ℕ} {o : Outline} (q : Outlined s codes o) where
-    pub print-rejected : (first many : ℕ) (xs : List ℕ) → length xs ≤ 65535 → 0 < o .number → printingWith s first many es names xs ≡ refusal (o .number) (o .line)
-    unfolding printingWith
+  module _ {s codes : List ℕ} {o : Outline} (q : Outlined l s codes o) where
+    pub print-rejected : (first many : ℕ) (xs : List ℕ) → length xs ≤ 65535 → 0 < o .number → printingOf l first many es names xs ≡ refusal (o .number) (o .line)
+    unfolding printingOf
     print-rejected first many xs h n = rw (le-leb (length xs) 65535 h, not-judged q (λ z. omega arith))
 
     module _ (n : o .number ≡ 0) where
-      pub print-no-run : (first many : ℕ) (xs : List ℕ) → length xs ≤ 65535 → false ≡ leb 1 first && leb (first - 1 + many) (o .count) → printingWith s first many es names xs ≡ refusal 6 0
-      unfolding printingWith
-      print-no-run first many xs h r = rw (le-leb (length xs) 65535 h, accepted q n, kinds-length q n, ← r)
+      pub print-no-run : (first many : ℕ) (xs : List ℕ) → length xs ≤ 65535 → false ≡ leb 1 first && leb (first - 1 + many) (o .count) → printingOf l first many es names xs ≡ refusal 6 0
+      unfolding printingOf
+      print-no-run first many xs h r = rw (le-leb (length xs) 65535 h, accepted q n, kinds-length q, ← r)
 
       pub print-runs : (first many : ℕ) → true ≡ leb 1 first && leb (first - 1 + many) (o .count) → (xs : List ℕ) → length xs ≤ 65535
-          → printingWith s first many es names xs ≡ ofCatalogue (catalogued names es) (λ ns. runText ns (kindsFrom s (fieldsOf codes) (first - 1) many) xs)
-      unfolding printingWith
-      print-runs first many r xs h = rw (le-leb (length xs) 65535 h, accepted q n, kinds-length q n, ← r, run-kinds q n first many r)
+          → printingOf l first many es names xs ≡ ofCatalogue (catalogued names es) (λ ns. runText ns (kindsFrom s (fieldsOf codes) (first - 1) many) xs)
+      unfolding printingOf
+      print-runs first many r xs h = rw (le-leb (length xs) 65535 h, accepted q n, kinds-length q, ← r, run-kinds q first many r)
 
 -- the room that a text needs: 0 if it fits, else its length
 pub fitting-needs : (room : ℕ) (t : List ℕ) → length t ≤ room → length t ≤ 1048576 → Needs room 0 t

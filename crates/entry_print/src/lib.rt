@@ -12,7 +12,8 @@ ghost use Rattle.format.specs.Demands.{soundNames};
 ghost use Rattle.stanza_form.specs.Code.{fieldsOf};
 ghost use Rattle.run_wire.specs.Run.{kindsFrom, UsableRun};
 ghost use Rattle.run_print.specs.Printing.{Accepted};
-ghost use Rattle.entry.specs.Entries.{Leaves, PrintPromise, PrintWithPromise, withRoom, runText};
+ghost use Rattle.stanza_stored.specs.Stored.{lentAs};
+ghost use Rattle.entry.specs.Entries.{Leaves, PrintPromise, PrintWithPromise, PrintStoredPromise, PrintOfPromise, withRoom, runText};
 ghost use Rattle.catalogue.specs.Entries.{Listed, namesOf, entriesAt};
 ghost use Rattle.entry_print.specs.Needs.{Needs};
 use entry::Reply;
@@ -135,8 +136,40 @@ fn print_listed(
 }
 
 // Prints RDATA under `length` fields of a description, starting at `first`, with the names of types in a catalogue: its entries
-// as numbers, and the text that they point into. The answer is 0 and the number of octets of the text, which stands in `out`
-// from `at` on; or a refusal's number and place, with `out` as it was.
+// as numbers, and the text that they point into. The description is lent as a file, which has no edition, or as stored strings of
+// an edition. The answer is 0 and the number of octets of the text, which stands in `out` from `at` on; or a refusal's number and
+// place, with `out` as it was.
+pub fn print_lent(
+    s: &[u8],
+    first: usize,
+    length: usize,
+    entries: &[u64],
+    names: &[u8],
+    rdata: &[u8],
+    out: &mut [u8],
+    at: usize,
+    in_file: bool,
+    edition: usize,
+) -> Reply
+    ensures { λ r. ⌜ PrintOfPromise (lentAs «in_file» edition (now (s .entry))) first length (entriesAt (now (entries .entry))) (now (names .entry)) (now (rdata .entry)) (now (out .entry)) at r (now (out .exit)) ⌝ }
+{
+    if 65535 < rdata.len() {
+        return refused(1, 0);
+    }
+    let mut codes = [0u64; 64];
+    let outline = stanza_stored::judged(s, in_file, edition, &mut codes);
+    let n = outline.number;
+    if 0 < n {
+        return refused(n as u32, outline.line as u32);
+    }
+    let count = outline.count;
+    if entry::is_run(first, length, count) {
+        return print_listed(s, &codes, first - 1, length, entries, names, rdata, out, at);
+    }
+    refused(6, 0)
+}
+
+// The same of a description in a file.
 pub fn print_with(
     stanza: &[u8],
     first: usize,
@@ -149,30 +182,18 @@ pub fn print_with(
 ) -> Reply
     ensures { λ r. ⌜ PrintWithPromise (now (stanza .entry)) first length (entriesAt (now (entries .entry))) (now (names .entry)) (now (rdata .entry)) (now (out .entry)) at r (now (out .exit)) ⌝ }
 {
-    if 65535 < rdata.len() {
-        return refused(1, 0);
-    }
-    let mut codes = [0u64; 64];
-    let outline = stanza_judge::judged_outline(stanza, &mut codes);
-    let n = outline.number;
-    if 0 < n {
-        return refused(n as u32, outline.line as u32);
-    }
-    let count = outline.count;
-    if entry::is_run(first, length, count) {
-        return print_listed(
-            stanza,
-            &codes,
-            first - 1,
-            length,
-            entries,
-            names,
-            rdata,
-            out,
-            at,
-        );
-    }
-    refused(6, 0)
+    print_lent(
+        stanza,
+        first,
+        length,
+        entries,
+        names,
+        rdata,
+        out,
+        at,
+        true,
+        13,
+    )
 }
 
 // The same with no catalogue: every type prints as `TYPE` and its number.
@@ -187,7 +208,7 @@ pub fn print(
     ensures { λ r. ⌜ PrintPromise (now (stanza .entry)) first length (now (rdata .entry)) (now (out .entry)) at r (now (out .exit)) ⌝ }
 {
     let none = [0u64; 1];
-    print_with(
+    print_lent(
         stanza,
         first,
         length,
@@ -196,5 +217,34 @@ pub fn print(
         rdata,
         out,
         at,
+        true,
+        13,
+    )
+}
+
+// The same of a stored description: counted strings, of the edition that the caller names.
+pub fn print_stored(
+    txt: &[u8],
+    first: usize,
+    length: usize,
+    edition: usize,
+    rdata: &[u8],
+    out: &mut [u8],
+    at: usize,
+) -> Reply
+    ensures { λ r. ⌜ PrintStoredPromise (now (txt .entry)) first length edition (now (rdata .entry)) (now (out .entry)) at r (now (out .exit)) ⌝ }
+{
+    let none = [0u64; 1];
+    print_lent(
+        txt,
+        first,
+        length,
+        &none[0..0],
+        &txt[0..0],
+        rdata,
+        out,
+        at,
+        false,
+        edition,
     )
 }

@@ -5,12 +5,14 @@ ghost use mathlib.Core.Bool.{true};
 ghost use lib.ListN.{length};
 ghost use Rattle.format.specs.Name.{isWireName};
 ghost use Rattle.format.specs.Catalogue.{catalogued};
+ghost use Rattle.format.specs.Stored.{Lent, asFile};
 ghost use Rattle.format.specs.Entries.{ofCatalogue};
 ghost use Rattle.stanza_form.specs.Code.{fieldsOf};
 ghost use Rattle.stanza_judge.specs.Stanza.{Outlined};
+ghost use Rattle.stanza_stored.specs.Stored.{lentAs};
 ghost use Rattle.catalogue.specs.Entries.{entriesAt};
 ghost use Rattle.run_wire.specs.Run.{kindsFrom, UsableRun};
-ghost use Rattle.entry.specs.Entries.{Leaves, ReadPromise, ReadWithPromise, withRoom, runOctets};
+ghost use Rattle.entry.specs.Entries.{Leaves, ReadPromise, ReadWithPromise, ReadStoredPromise, ReadOfPromise, withRoom, runOctets};
 use entry::Reply;
 use entry::refused;
 use field_wire::Take;
@@ -51,7 +53,7 @@ fn read_listed(
     entry_room::read_run(s, codes, first, many, entries, names, origin, t, out, at)
 }
 
-// Reads a text under a stanza that is already judged, with a catalogue.
+// Reads a text under a description that is already judged, however it was lent, with a catalogue.
 fn read_under(
     s: &[u8],
     outline: Outline,
@@ -65,8 +67,8 @@ fn read_under(
     out: &mut [u8],
     at: usize,
 ) -> Reply
-    requires { ⌜ Outlined (now s) (now codes) outline × (length (now t) ≤ 1048576) ⌝ }
-    ensures { λ r. ⌜ ReadWithPromise (now (s .entry)) first many (entriesAt (now (entries .entry))) (now (names .entry)) (now (origin .entry)) (now (t .entry)) (now (out .entry)) at r (now (out .exit)) ⌝ }
+    requires { ⌜ ((l : Lent) × Outlined l (now s) (now codes) outline) × (outline .number ≡ 0 → length (now s) ≤ 8192) × (length (now t) ≤ 1048576) ⌝ }
+    ensures { λ r. ⌜ ((l : Lent) → Outlined l (now (s .entry)) (now (codes .entry)) outline → ReadOfPromise l first many (entriesAt (now (entries .entry))) (now (names .entry)) (now (origin .entry)) (now (t .entry)) (now (out .entry)) at r (now (out .exit))) ⌝ }
 {
     let n = outline.number;
     if 0 < n {
@@ -92,7 +94,7 @@ fn read_under(
     refused(6, 0)
 }
 
-// The same with no catalogue.
+// The same of a stanza, with no catalogue.
 pub fn read_judged(
     s: &[u8],
     outline: Outline,
@@ -104,7 +106,7 @@ pub fn read_judged(
     out: &mut [u8],
     at: usize,
 ) -> Reply
-    requires { ⌜ Outlined (now s) (now codes) outline × (length (now t) ≤ 1048576) ⌝ }
+    requires { ⌜ Outlined (asFile (now s)) (now s) (now codes) outline × (length (now t) ≤ 1048576) ⌝ }
     ensures { λ r. ⌜ ReadPromise (now (s .entry)) first many (now (origin .entry)) (now (t .entry)) (now (out .entry)) at r (now (out .exit)) ⌝ }
 {
     let none = [0u64; 1];
@@ -124,8 +126,45 @@ pub fn read_judged(
 }
 
 // Reads a text under `length` fields of a description, starting at `first`; names without a final dot are under the origin, and
-// types may have the names in a catalogue: its entries as numbers, and the text that they point into. The answer is 0 and the
-// number of octets of the RDATA, which stand in `out` from `at` on; or a refusal's number and place, with `out` as it was.
+// types may have the names in a catalogue: its entries as numbers, and the text that they point into. The description is lent as a
+// file, which has no edition, or as stored strings of an edition. The answer is 0 and the number of octets of the RDATA, which stand
+// in `out` from `at` on; or a refusal's number and place, with `out` as it was.
+pub fn read_lent(
+    s: &[u8],
+    first: usize,
+    length: usize,
+    entries: &[u64],
+    names: &[u8],
+    origin: &[u8],
+    text: &[u8],
+    out: &mut [u8],
+    at: usize,
+    in_file: bool,
+    edition: usize,
+) -> Reply
+    ensures { λ r. ⌜ ReadOfPromise (lentAs «in_file» edition (now (s .entry))) first length (entriesAt (now (entries .entry))) (now (names .entry)) (now (origin .entry)) (now (text .entry)) (now (out .entry)) at r (now (out .exit)) ⌝ }
+{
+    if 1048576 < text.len() {
+        return refused(1, 0);
+    }
+    let mut codes = [0u64; 64];
+    let outline = stanza_stored::judged(s, in_file, edition, &mut codes);
+    read_under(
+        s,
+        outline,
+        &codes,
+        first,
+        length,
+        entries,
+        names,
+        origin,
+        text,
+        out,
+        at,
+    )
+}
+
+// The same of a description in a file.
 pub fn read_with(
     stanza: &[u8],
     first: usize,
@@ -139,15 +178,8 @@ pub fn read_with(
 ) -> Reply
     ensures { λ r. ⌜ ReadWithPromise (now (stanza .entry)) first length (entriesAt (now (entries .entry))) (now (names .entry)) (now (origin .entry)) (now (text .entry)) (now (out .entry)) at r (now (out .exit)) ⌝ }
 {
-    if 1048576 < text.len() {
-        return refused(1, 0);
-    }
-    let mut codes = [0u64; 64];
-    let outline = stanza_judge::judged_outline(stanza, &mut codes);
-    read_under(
+    read_lent(
         stanza,
-        outline,
-        &codes,
         first,
         length,
         entries,
@@ -156,6 +188,8 @@ pub fn read_with(
         text,
         out,
         at,
+        true,
+        13,
     )
 }
 
@@ -172,7 +206,7 @@ pub fn read(
     ensures { λ r. ⌜ ReadPromise (now (stanza .entry)) first length (now (origin .entry)) (now (text .entry)) (now (out .entry)) at r (now (out .exit)) ⌝ }
 {
     let none = [0u64; 1];
-    read_with(
+    read_lent(
         stanza,
         first,
         length,
@@ -182,5 +216,36 @@ pub fn read(
         text,
         out,
         at,
+        true,
+        13,
+    )
+}
+
+// The same of a stored description: counted strings, of the edition that the caller names.
+pub fn read_stored(
+    txt: &[u8],
+    first: usize,
+    length: usize,
+    edition: usize,
+    origin: &[u8],
+    text: &[u8],
+    out: &mut [u8],
+    at: usize,
+) -> Reply
+    ensures { λ r. ⌜ ReadStoredPromise (now (txt .entry)) first length edition (now (origin .entry)) (now (text .entry)) (now (out .entry)) at r (now (out .exit)) ⌝ }
+{
+    let none = [0u64; 1];
+    read_lent(
+        txt,
+        first,
+        length,
+        &none[0..0],
+        &txt[0..0],
+        origin,
+        text,
+        out,
+        at,
+        false,
+        edition,
     )
 }

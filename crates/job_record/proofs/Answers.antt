@@ -9,7 +9,8 @@ use lib.ListN.{length, take, drop}
 use lib.Seq.{take-at}
 use borrow.Author.Tests.{le-leb}
 use Rattle.format.specs.Judge.{judged}
-use Rattle.format.specs.Entries.{Answer, done, refusal, reading, ifRoom, room, outcome, stored, read, readWith}
+use Rattle.format.specs.Stored.{asFile}
+use Rattle.format.specs.Entries.{Answer, done, refusal, reading, ifRoom, room, outcome, stored, read, readOf}
 use Rattle.format.specs.Job.{answerLine, fieldCount}
 use Rattle.job_line.proofs.Answers.{Short, reading-short}
 use Rattle.stanza_judge.specs.declared.Outline.{Outline}
@@ -50,17 +51,17 @@ module _ (a : Answer) (h : Short a) (out : List ℕ) (big : 65535 ≤ length out
         rw (f, z) (take-at t (drop (0 + length t) out) (length t) refl)
 
 -- Under a judged stanza, the number of fields that were counted gives each record's answer.
-pub counted-answer : {s codes : List ℕ} {o : Outline} → Outlined s codes o → (origin t : List ℕ) → length t ≤ 1048576 → reading s 1 (o .count) origin t ≡ reading s 1 (fieldCount (judged s)) origin t
+pub counted-answer : {s codes : List ℕ} {o : Outline} → Outlined (asFile s) s codes o → (origin t : List ℕ) → length t ≤ 1048576 → reading s 1 (o .count) origin t ≡ reading s 1 (fieldCount (judged s)) origin t
 counted-answer {s} {codes} {o} q origin t h = by (o .number) refl
   where
     by : (n : ℕ) → o .number ≡ n → reading s 1 (o .count) origin t ≡ reading s 1 (fieldCount (judged s)) origin t
     by zero z = ap (λ k. reading s 1 k origin t) (sym (ap fieldCount (accepted q z) ∙ q .many))
     by (suc n) z =
         let p : 0 < o .number = omega arith in
-        read-rejected [] [] q origin t h 1 (o .count) p ∙ sym (read-rejected [] [] q origin t h 1 (fieldCount (judged s)) p)
+        read-rejected (asFile s) [] [] q origin t h 1 (o .count) p ∙ sym (read-rejected (asFile s) [] [] q origin t h 1 (fieldCount (judged s)) p)
 
 -- So each record's line is the line for what reading answered and left.
-module _ {s codes : List ℕ} {o : Outline} (h : Outlined s codes o) (origin t : List ℕ) (l : length t ≤ 1048576) (out : List ℕ) (big : 65535 ≤ length out)
+module _ {s codes : List ℕ} {o : Outline} (h : Outlined (asFile s) s codes o) (origin t : List ℕ) (l : length t ≤ 1048576) (out : List ℕ) (big : 65535 ≤ length out)
     (r : Reply) (after : List ℕ) (w : Leaves r after (read s 1 (o .count) origin t out 0)) where
   answer : Answer
   answer = reading s 1 (o .count) origin t
@@ -74,12 +75,12 @@ module _ {s codes : List ℕ} {o : Outline} (h : Outlined s codes o) (origin t :
   short = reading-short s 1 (o .count) origin t
 
   leaves : Leaves r after (outcome out 0 (ifRoom (room out 0) answer))
-  unfolding answer readWith
+  unfolding answer readOf
   leaves = w
 
   found : r .number ≡ 0 → (xs : List ℕ) × (answer ≡ done xs) × (length xs ≤ room out 0)
   unfolding answer
-  found z = zero-done answer (read-told s 1 (o .count) origin t) out 0 (sym (leaves .numbers) ∙ z)
+  found z = zero-done answer (read-told (asFile s) 1 (o .count) [] [] origin t) out 0 (sym (leaves .numbers) ∙ z)
 
   pub record-place : r .number ≡ 0 → r .place ≤ 65535
   record-place z = done-short answer short out big (r .place) after (found z .0) (found z .1) (leaves .places) (leaves .octets)

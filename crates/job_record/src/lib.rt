@@ -1,6 +1,7 @@
 // Writes the line that answers a record of a job, whose stanza is judged once for all records.
 ghost use Prim.Native.Nat.{_^_, _≤_, _<_};
 ghost use lib.ListN.{length};
+ghost use Rattle.format.specs.Stored.{asFile};
 ghost use Rattle.stanza_judge.specs.Stanza.{Outlined};
 ghost use Rattle.buffer.specs.Writing.{Wrote};
 ghost use Rattle.job_record.specs.Answer.{lineUnder};
@@ -19,7 +20,7 @@ pub fn put_record(
     t: &[u8],
     rdata: &mut [u8],
 ) -> usize
-    requires { ⌜ (at < 2 ^ 31) × Outlined (now s) (now codes) outline × (length (now t) ≤ 1048576) × (65535 ≤ length (now rdata)) ⌝ }
+    requires { ⌜ (at < 2 ^ 31) × Outlined (asFile (now s)) (now s) (now codes) outline × (length (now t) ≤ 1048576) × (65535 ≤ length (now rdata)) ⌝ }
     ensures { λ r. ⌜ Wrote (now (out .entry)) (now (out .exit)) at r (lineUnder (now (s .entry)) (now (origin .entry)) (now (t .entry))) ⌝ }
 {
     let r = entry_read::read_judged(s, outline, codes, 1, outline.count, origin, t, rdata, 0);

@@ -8,6 +8,7 @@ use native.Mathlib.Omega.{arith}
 use lib.ListN.{length, take, drop}
 use lib.Seq.{slice, sets-eq, take-at}
 use Rattle.format.specs.Lists.{flatMap, flat}
+use Rattle.format.specs.Stored.{asFile}
 use Rattle.format.specs.Job.{written, job}
 use Rattle.octets.proofs.Slices.{lent}
 use Rattle.stanza_judge.specs.declared.Outline.{Outline}
@@ -34,10 +35,10 @@ pub form-bad : (j buffer : List ℕ) {f : JobForm} → Forms j buffer f → f �
 form-bad j buffer {f} h e = rw e at h
 
 -- the parts of a job that are lent to a call
-pub outlined-part : (j : List ℕ) (from to : ℕ) (codes : List ℕ) (o : Outline) → from ≤ to → Outlined (take (to - from) (drop from j)) codes o → Outlined (slice from to j) codes o
+pub outlined-part : (j : List ℕ) (from to : ℕ) (codes : List ℕ) (o : Outline) → from ≤ to → Outlined (asFile (take (to - from) (drop from j))) (take (to - from) (drop from j)) codes o → Outlined (asFile (slice from to j)) (slice from to j) codes o
 outlined-part j from to codes o h q = rw (lent j from to h) at q
 
-pub outlined-lent : (j : List ℕ) (from to : ℕ) (codes : List ℕ) (o : Outline) → from ≤ to → Outlined (slice from to j) codes o → Outlined (take (to - from) (drop from j)) codes o
+pub outlined-lent : (j : List ℕ) (from to : ℕ) (codes : List ℕ) (o : Outline) → from ≤ to → Outlined (asFile (slice from to j)) (slice from to j) codes o → Outlined (asFile (take (to - from) (drop from j))) (take (to - from) (drop from j)) codes o
 outlined-lent j from to codes o h q = rw (lent j from to h) q
 
 pub line-lent : (j g : List ℕ) (from to end m e : ℕ) → from ≤ to → m ≤ e

@@ -7,6 +7,7 @@ use mathlib.Core.Option.{none}
 use lib.ListN.{length, take}
 use lib.Seq.{slice}
 use Rattle.format.specs.Lists.{flatMap, flat}
+use Rattle.format.specs.Stored.{asFile}
 use Rattle.format.specs.Job.{recordLine, written, job}
 use Rattle.stanza_judge.specs.Stanza.{Outlined}
 use Rattle.buffer.specs.Writing.{Wrote}
@@ -23,7 +24,7 @@ formOf b = cond (b .good) (Good (b .places)) Bad
 -- the form is read, and the stanza is judged
 pub record Begins (j : List ℕ) (b : Job) : Type 0 where
   pub form : Forms j (b .origin) (formOf b)
-  pub judged : Outlined (slice (b .places .from) (b .places .to) j) (b .codes) (b .outline)
+  pub judged : Outlined (asFile (slice (b .places .from) (b .places .to) j)) (slice (b .places .from) (b .places .to) j) (b .codes) (b .outline)
 
 -- what is still to be written, from the record at `at` on
 abbrev pub leftAt : List ℕ → Job → ℕ → List ℕ
