@@ -25,8 +25,9 @@ use Rattle.format.specs.Bitmap.{bitsOf, octetsFrom, windowOctets, beforeZeros, 
 use Rattle.format.specs.Time.{momentOf, readTime}
 use Rattle.format.specs.Catalogue.{Entry, TypeName, Catalogued, badEntry, known, catalogued, typeNumberIn, readTypeIn}
 use Rattle.format.specs.Run.{Got, noToken, badToken, got, gotOr, bareOf, oneToken, oneBare, joinedBares, readField, Parts, refused, parts, withFirst, maxRdata, afterReading, readRun}
-use Rattle.format.specs.Judge.{Judged, rejected, described, judged}
-use Rattle.format.specs.Entries.{Answer, done, refusal, maxText, orRefusal, ofStanza, ofParts, isRun, run, ofCatalogue, readingWith}
+use Rattle.format.specs.Judge.{Judged, rejected, described}
+use Rattle.format.specs.Stored.{Lent, judgedOf}
+use Rattle.format.specs.Entries.{Answer, done, refusal, maxText, orRefusal, ofStanza, ofParts, isRun, run, ofCatalogue, readingOf}
 use Rattle.format.proofs.Lists.{and-left, and-right, below-append}
 use Rattle.format.proofs.Digits.{digits-below, number-bound}
 use Rattle.format.proofs.Base.{bits-below}
@@ -417,12 +418,12 @@ parts-done : (r : Parts) → Flat r → Done (ofParts r (λ ps. orRefusal 11 (le
 parts-done (refused n i) h = tt
 parts-done (parts ps) h = or-done 11 (leb (length (flat ps)) maxRdata) (done (flat ps)) h
 
-reading-done : (es : List Entry) (names stanza : List ℕ) (first many : ℕ) (origin text : List ℕ) → Octets origin → Done (readingWith stanza first many es names origin text)
-unfolding readingWith
-reading-done es names s first many o t b =
-    or-done 1 (leb (length t) maxText) _ (stanza-done (judged s) _ (λ ks. or-done 6 (isRun first many ks) _ (or-done 7 (isWireName o) _
+reading-done : (es : List Entry) (names : List ℕ) (l : Lent) (first many : ℕ) (origin text : List ℕ) → Octets origin → Done (readingOf l first many es names origin text)
+unfolding readingOf
+reading-done es names l first many o t b =
+    or-done 1 (leb (length t) maxText) _ (stanza-done (judgedOf l) _ (λ ks. or-done 6 (isRun first many ks) _ (or-done 7 (isWireName o) _
     (names-done (catalogued names es) _ (λ c.
     parts-done (readRun (read-here c o b) (run first many ks) (tokens t)) (run-flat c o b (run first many ks) (tokens t) (scan-written between t)))))))
 
-pub read-octets : (es : List Entry) (names stanza : List ℕ) (first many : ℕ) (origin text xs : List ℕ) → Octets origin → readingWith stanza first many es names origin text ≡ done xs → Octets xs
-read-octets es names s first many o t xs b e = rw e at (reading-done es names s first many o t b)
+pub read-octets : (es : List Entry) (names : List ℕ) (l : Lent) (first many : ℕ) (origin text xs : List ℕ) → Octets origin → readingOf l first many es names origin text ≡ done xs → Octets xs
+read-octets es names l first many o t xs b e = rw e at (reading-done es names l first many o t b)
