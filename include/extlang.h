@@ -189,6 +189,64 @@ uint64_t extlang_read_named(const uint8_t *stanza, size_t stanza_len,
                             const uint8_t *text, size_t text_len,
                             uint8_t *out, size_t out_len, uint64_t at);
 
+/*
+ * Descriptions as the DNS stores them. The next three functions do what
+ * extlang_judge, extlang_print and extlang_read do, and are handed the RDATA of a
+ * TXT record where those are handed a stanza: strings, each after its count. The
+ * first is exactly RRTYPE=1. Each of the others is a line of the stanza without
+ * its leading blanks. A string that is blank, or whose first nonblank is #, is
+ * ignored; any other that starts with a blank breaks the grammar. No file has to
+ * be made, and the same lines as a file give the same answers.
+ *
+ * The edition is that of the draft by which the description is stored. 13 is the
+ * only one taken.
+ *
+ * Judges a stored description. Any octets may be handed in.
+ *
+ * Number 0: accepted; the lower half counts its fields, 1 to 64.
+ * Number 1: it has more than 8,192 octets, counts and first string included; the
+ *           place is 0.
+ * Number 16: the edition is not 13; the place is 0.
+ * Number 8: a string is cut short: its count says more than is left; the place
+ *           is its number.
+ * Number 14: the first string is not RRTYPE=1, or there is none; the place is 1.
+ * Number 2, 3, 4, 5: as extlang_judge; the place is the number of the first
+ *           faulty string, or 0 if there is no header or no field line.
+ *
+ * Strings are numbered from 1, which is RRTYPE=1, and ignored ones count. If
+ * several apply, the first in this order is given: 1, 16, 8, 14, the strings.
+ */
+uint64_t extlang_judge_stored(const uint8_t *txt, size_t txt_len, uint64_t edition);
+
+/*
+ * Prints as extlang_print does, under a stored description.
+ *
+ * The numbers are those of extlang_print, and in the place of the stanza's
+ * refusals those of extlang_judge_stored. So 8 has two meanings here: a string of
+ * the description is cut short, or the RDATA ends before a field is complete.
+ * extlang_judge_stored tells which: a description that it accepts is whole.
+ *
+ * Out must not overlap the description or the RDATA.
+ */
+uint64_t extlang_print_stored(const uint8_t *txt, size_t txt_len,
+                              uint64_t first, uint64_t length, uint64_t edition,
+                              const uint8_t *rdata, size_t rdata_len,
+                              uint8_t *out, size_t out_len, uint64_t at);
+
+/*
+ * Reads as extlang_read does, under a stored description.
+ *
+ * The numbers are those of extlang_read, and in the place of the stanza's refusals
+ * those of extlang_judge_stored, as in extlang_print_stored.
+ *
+ * Out must not overlap the description, the origin or the text.
+ */
+uint64_t extlang_read_stored(const uint8_t *txt, size_t txt_len,
+                             uint64_t first, uint64_t length, uint64_t edition,
+                             const uint8_t *origin, size_t origin_len,
+                             const uint8_t *text, size_t text_len,
+                             uint8_t *out, size_t out_len, uint64_t at);
+
 #ifdef __cplusplus
 }
 #endif

@@ -1,7 +1,7 @@
 // The public entries for C.
 ghost use Prim.Native.Nat.{_≤_};
 ghost use lib.ListN.{length, take};
-ghost use Rattle.entry.specs.Entries.{JudgePromise, PrintPromise, PrintWithPromise, ReadPromise, ReadWithPromise, unpacked};
+ghost use Rattle.entry.specs.Entries.{JudgePromise, JudgeStoredPromise, PrintPromise, PrintWithPromise, PrintStoredPromise, ReadPromise, ReadWithPromise, ReadStoredPromise, unpacked};
 ghost use Rattle.catalogue.specs.Entries.{entriesAt};
 ghost use Rattle.catalogue_pack.specs.Packed.{entriesOf};
 use catalogue_pack::Entry;
@@ -149,4 +149,56 @@ pub extern "C" fn extlang_read_named(
     let mut raw = [0u64; 513];
     let n = catalogue_pack::packed(entries, &mut raw);
     read_of(stanza, first, length, &raw, n, names, origin, text, out, at)
+}
+
+// Judges a stored description: `entry::judge_stored`, its answer in 64 bits.
+#[no_mangle]
+pub extern "C" fn extlang_judge_stored(txt: &[u8], edition: u64) -> u64
+    ensures { λ r. ⌜ JudgeStoredPromise (now (txt .entry)) edition (unpacked r) ⌝ }
+{
+    let r = entry::judge_stored(txt, edition as usize);
+    entry::packed(r)
+}
+
+// Prints RDATA under a stored description: `entry_print::print_stored`, its answer in 64 bits.
+#[no_mangle]
+pub extern "C" fn extlang_print_stored(
+    txt: &[u8],
+    first: u64,
+    length: u64,
+    edition: u64,
+    rdata: &[u8],
+    out: &mut [u8],
+    at: u64,
+) -> u64
+    ensures { λ r. ⌜ PrintStoredPromise (now (txt .entry)) first length edition (now (rdata .entry)) (now (out .entry)) at (unpacked r) (now (out .exit)) ⌝ }
+{
+    let from = first as usize;
+    let many = length as usize;
+    let draft = edition as usize;
+    let place = at as usize;
+    let r = entry_print::print_stored(txt, from, many, draft, rdata, out, place);
+    entry::packed(r)
+}
+
+// Reads a text under a stored description: `entry_read::read_stored`, its answer in 64 bits.
+#[no_mangle]
+pub extern "C" fn extlang_read_stored(
+    txt: &[u8],
+    first: u64,
+    length: u64,
+    edition: u64,
+    origin: &[u8],
+    text: &[u8],
+    out: &mut [u8],
+    at: u64,
+) -> u64
+    ensures { λ r. ⌜ ReadStoredPromise (now (txt .entry)) first length edition (now (origin .entry)) (now (text .entry)) (now (out .entry)) at (unpacked r) (now (out .exit)) ⌝ }
+{
+    let from = first as usize;
+    let many = length as usize;
+    let draft = edition as usize;
+    let place = at as usize;
+    let r = entry_read::read_stored(txt, from, many, draft, origin, text, out, place);
+    entry::packed(r)
 }
