@@ -2,18 +2,21 @@
 //
 //     J STANZA                                                -> NUMBER PLACE
 //     JC STANZA                                               -> NUMBER PLACE
+//     JS TXT EDITION                                          -> NUMBER PLACE
 //     P STANZA FIRST LENGTH RDATA ROOM                        -> NUMBER PLACE TEXT
 //     PC STANZA FIRST LENGTH CATALOGUE NAMES RDATA ROOM       -> NUMBER PLACE TEXT
+//     PS TXT EDITION FIRST LENGTH RDATA ROOM                  -> NUMBER PLACE TEXT
 //     R STANZA FIRST LENGTH ORIGIN TEXT ROOM                  -> NUMBER PLACE RDATA
 //     RC STANZA FIRST LENGTH CATALOGUE NAMES ORIGIN TEXT ROOM -> NUMBER PLACE RDATA
+//     RS TXT EDITION FIRST LENGTH ORIGIN TEXT ROOM            -> NUMBER PLACE RDATA
 //     W JOB                                                   -> LINES
 //
 // PLACE is the count where NUMBER is 0, and the last word is '-' on a refusal. CATALOGUE has 8 octets for each entry, big-endian:
 // 4 for the type number, 2 for where its name starts in NAMES, 2 for how long it is; with a tail of fewer than 8 the line is no
-// request. J, P and R have an empty one. LINES are those that the program job writes for a JOB on its standard input. Octets are in hex of
-// either case, '-' for none, and numbers decimal, of at most 64 bits; one space parts two words. A line
-// that is no request, or has more than 2,200,000 octets, answers '?'. The last line may lack its LF. If a read fails, the line that
-// is not whole has no answer.
+// request. All lines but PC and RC have an empty one. TXT is a description as the DNS stores it. LINES are those that the program
+// job writes for a JOB on its standard input. Octets are in hex of either case, '-' for none, and numbers decimal, of at most 64
+// bits; one space parts two words. A line that is no request, or has more than 2,200,000 octets, answers '?'. The last line may
+// lack its LF. If a read fails, the line that is not whole has no answer.
 ghost use Prim.Native.Nat.{_≤_};
 ghost use lib.ListN.{length};
 ghost use Rattle.probe_request.specs.Words.{Within};

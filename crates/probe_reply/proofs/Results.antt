@@ -9,11 +9,12 @@ use lib.ListN.{length, take, drop, length-append}
 use lib.Seq.{take-at}
 use borrow.Author.Tests.{eq-eqb, ne-eqb}
 use Rattle.format.specs.Catalogue.{Entry}
-use Rattle.format.specs.Entries.{Answer, done, refusal, ifRoom, room, Outcome, outcome, printingWith, readingWith, printWith, readWith}
+use Rattle.format.specs.Entries.{Answer, done, refusal, ifRoom, room, Outcome, outcome, printingOf, readingOf, printOf, printWith, readOf, readWith}
+use Rattle.format.specs.Stored.{Lent}
 use Rattle.catalogue.proofs.Cut.{print-cut, read-cut}
 use Rattle.entry.specs.declared.Reply.{Reply}
 use Rattle.entry.specs.Entries.{Replies, Leaves}
-use Rattle.entry.proofs.Numbers.{Told, print-with-told, read-with-told}
+use Rattle.entry.proofs.Numbers.{Told, print-told, read-told}
 use Rattle.probe_reply.specs.Replies.{judgedLine, resultLine}
 use Rattle.probe_reply.specs.Reply.{answerLine, outcomeLine, resultOf}
 
@@ -53,28 +54,30 @@ module _ (a : Answer) (h : Told a) (out after : List ℕ) (r : Reply) (w : Leave
       by (done t) k q p o = rw (p, o) (omega (arith, length-append t (drop (0 + length t) out)))
       by (refusal n i) k q p o = absurd (true≢false (sym (eq-eqb n 0 q) ∙ k))
 
--- with the first 513 entries of a catalogue, which are all that is looked at
-module _ (s : List ℕ) (first many : ℕ) (es few : List Entry) (names : List ℕ) (h : few ≡ take 513 es) (out after : List ℕ) (r : Reply) where
-  module _ (xs : List ℕ) (w : Leaves r after (printWith s first many few names xs out 0)) where
-    all-printed : Leaves r after (printWith s first many es names xs out 0)
-    all-printed = rw (h, print-cut s first many es names xs out 0) at w
-
+-- printing and reading, of a description however it is lent
+module _ (l : Lent) (first many : ℕ) (es : List Entry) (names : List ℕ) (out after : List ℕ) (r : Reply) where
+  module _ (xs : List ℕ) (w : Leaves r after (printOf l first many es names xs out 0)) where
     pub print-within : r .number ≡ 0 → r .place ≤ length after
-    unfolding printWith
-    print-within z = place-within (printingWith s first many es names xs) (print-with-told s first many es names xs) out after r all-printed z
+    unfolding printOf
+    print-within z = place-within (printingOf l first many es names xs) (print-told l first many es names xs) out after r w z
 
-    pub print-answered : resultLine (r .number) (r .place) (resultOf (r .number) (r .place) after) ≡ answerLine (ifRoom (length out) (printingWith s first many es names xs))
-    unfolding printWith
-    print-answered = answered (printingWith s first many es names xs) (print-with-told s first many es names xs) out after r all-printed
+    pub print-answered : resultLine (r .number) (r .place) (resultOf (r .number) (r .place) after) ≡ answerLine (ifRoom (length out) (printingOf l first many es names xs))
+    unfolding printOf
+    print-answered = answered (printingOf l first many es names xs) (print-told l first many es names xs) out after r w
 
-  module _ (origin text : List ℕ) (w : Leaves r after (readWith s first many few names origin text out 0)) where
-    all-read : Leaves r after (readWith s first many es names origin text out 0)
-    all-read = rw (h, read-cut s first many es names origin text out 0) at w
-
+  module _ (origin text : List ℕ) (w : Leaves r after (readOf l first many es names origin text out 0)) where
     pub read-within : r .number ≡ 0 → r .place ≤ length after
-    unfolding readWith
-    read-within z = place-within (readingWith s first many es names origin text) (read-with-told s first many es names origin text) out after r all-read z
+    unfolding readOf
+    read-within z = place-within (readingOf l first many es names origin text) (read-told l first many es names origin text) out after r w z
 
-    pub read-answered : resultLine (r .number) (r .place) (resultOf (r .number) (r .place) after) ≡ answerLine (ifRoom (length out) (readingWith s first many es names origin text))
-    unfolding readWith
-    read-answered = answered (readingWith s first many es names origin text) (read-with-told s first many es names origin text) out after r all-read
+    pub read-answered : resultLine (r .number) (r .place) (resultOf (r .number) (r .place) after) ≡ answerLine (ifRoom (length out) (readingOf l first many es names origin text))
+    unfolding readOf
+    read-answered = answered (readingOf l first many es names origin text) (read-told l first many es names origin text) out after r w
+
+-- the first 513 entries of a catalogue are all that is looked at
+module _ (s : List ℕ) (first many : ℕ) (es few : List Entry) (names : List ℕ) (h : few ≡ take 513 es) (out after : List ℕ) (r : Reply) where
+  pub all-printed : (xs : List ℕ) → Leaves r after (printWith s first many few names xs out 0) → Leaves r after (printWith s first many es names xs out 0)
+  all-printed xs w = rw (h, print-cut s first many es names xs out 0) at w
+
+  pub all-read : (origin text : List ℕ) → Leaves r after (readWith s first many few names origin text out 0) → Leaves r after (readWith s first many es names origin text out 0)
+  all-read origin text w = rw (h, read-cut s first many es names origin text out 0) at w

@@ -1,7 +1,7 @@
 -- The lines that answer requests:
---     J and JC -> NUMBER PLACE
---     P and PC -> NUMBER PLACE TEXT
---     R and RC -> NUMBER PLACE RDATA
+--     J, JC and JS -> NUMBER PLACE
+--     P, PC and PS -> NUMBER PLACE TEXT
+--     R, RC and RS -> NUMBER PLACE RDATA
 use Prim.Native.Nat.{ℕ}
 use mathlib.Core.List.{List, [], _∷_, _++_}
 use Rattle.format.specs.Octets.{ascii}

@@ -7,7 +7,8 @@ use mathlib.Core.Option.{Option, none, some}
 use lib.ListN.{length, take}
 use lib.Dec.{eqb}
 use Rattle.format.specs.Octets.{ascii}
-use Rattle.format.specs.Entries.{Answer, done, refusal, maxText, printingWith, readingWith, ifRoom, Outcome, judge}
+use Rattle.format.specs.Entries.{Answer, done, refusal, maxText, printingOf, readingOf, ifRoom, Outcome, judgeOf}
+use Rattle.format.specs.Stored.{Lent, asFile, asStored}
 use Rattle.format.specs.Job.{job}
 use Rattle.probe_request.specs.Request.{Asked}
 use Rattle.probe_reply.specs.Entries.{entriesIn}
@@ -29,18 +30,22 @@ jobLine j = octetsText (job j) ++ ascii "\n"
 abbrev pub roomOf : ℕ → ℕ
 roomOf n = min n maxText
 
--- a line that names no catalogue has an empty one
-abbrev pub printingOf : Asked → Answer
-printingOf a = printingWith (a .stanza) (a .first) (a .many) (entriesIn (a .entries)) (a .names) (a .octets)
+-- the description that a line lends
+abbrev pub lentIn : Asked → Lent
+lentIn a = cond (a .stored) (asStored (a .edition) (a .stanza)) (asFile (a .stanza))
 
-abbrev pub readingOf : Asked → Answer
-readingOf a = readingWith (a .stanza) (a .first) (a .many) (entriesIn (a .entries)) (a .names) (a .origin) (a .octets)
+-- a line that names no catalogue has an empty one
+abbrev pub askedPrinting : Asked → Answer
+askedPrinting a = printingOf (lentIn a) (a .first) (a .many) (entriesIn (a .entries)) (a .names) (a .octets)
+
+abbrev pub askedReading : Asked → Answer
+askedReading a = readingOf (lentIn a) (a .first) (a .many) (entriesIn (a .entries)) (a .names) (a .origin) (a .octets)
 
 abbrev pub lineOf : Asked → List ℕ
 lineOf a =
-    cond (eqb (a .letter) (code "J")) (outcomeLine (judge (a .stanza)))
-    (cond (eqb (a .letter) (code "P")) (answerLine (ifRoom (roomOf (a .room)) (printingOf a)))
-    (cond (eqb (a .letter) (code "R")) (answerLine (ifRoom (roomOf (a .room)) (readingOf a)))
+    cond (eqb (a .letter) (code "J")) (outcomeLine (judgeOf (lentIn a)))
+    (cond (eqb (a .letter) (code "P")) (answerLine (ifRoom (roomOf (a .room)) (askedPrinting a)))
+    (cond (eqb (a .letter) (code "R")) (answerLine (ifRoom (roomOf (a .room)) (askedReading a)))
     (cond (eqb (a .letter) (code "W")) (jobLine (a .stanza)) unknownLine)))
 
 -- "A line that is no request .. answers '?'."

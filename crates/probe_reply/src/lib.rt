@@ -1,9 +1,11 @@
 // Answers requests.
 pub mod entries;
 pub mod line;
+pub mod stored;
 
 ghost use Prim.Native.Nat.{_^_, _≤_};
 ghost use mathlib.Core.Path.{_≡_};
+ghost use mathlib.Core.Bool.{false};
 ghost use lib.ListN.{length};
 ghost use Rattle.format.specs.Entries.{ifRoom, printingWith, readingWith};
 ghost use Rattle.format.specs.Entries.{judge as Entries·judge};
@@ -16,6 +18,7 @@ use crate::entries::numbers;
 use crate::line::put_judged;
 use crate::line::put_result;
 use crate::line::put_unknown;
+use crate::stored::put_stored;
 use probe_request::Request;
 
 // Answers a request to judge.
@@ -89,9 +92,9 @@ fn read(
     put_reply(out, reply.number, reply.place, rdata)
 }
 
-// Answers any request except a job.
-pub fn put_answer(octets: &[u8], q: Request, text: &mut [u8], out: &mut [u8]) -> usize
-    requires { ⌜ Within (length (now octets)) q × (q .letter ≡ 87 → ⊥) × (length (now text) ≡ 1048576) ⌝ }
+// Answers any request with a description in a file.
+fn put_filed(octets: &[u8], q: Request, text: &mut [u8], out: &mut [u8]) -> usize
+    requires { ⌜ Within (length (now octets)) q × (q .letter ≡ 87 → ⊥) × (length (now text) ≡ 1048576) × (q .stored ≡ false) ⌝ }
     ensures { λ r. ⌜ Wrote (now (out .entry)) (now (out .exit)) 0 r (replyTo (asked q (now (octets .entry)))) × (r ≤ 2097176) ⌝ }
 {
     let a = q.stanza.from;
@@ -134,4 +137,15 @@ pub fn put_answer(octets: &[u8], q: Request, text: &mut [u8], out: &mut [u8]) ->
         );
     }
     put_unknown(out)
+}
+
+// Answers any request except a job.
+pub fn put_answer(octets: &[u8], q: Request, text: &mut [u8], out: &mut [u8]) -> usize
+    requires { ⌜ Within (length (now octets)) q × (q .letter ≡ 87 → ⊥) × (length (now text) ≡ 1048576) ⌝ }
+    ensures { λ r. ⌜ Wrote (now (out .entry)) (now (out .exit)) 0 r (replyTo (asked q (now (octets .entry)))) × (r ≤ 2097176) ⌝ }
+{
+    if q.stored {
+        return put_stored(octets, q, text, out);
+    }
+    put_filed(octets, q, text, out)
 }

@@ -15,9 +15,9 @@ use Rattle.format.specs.Digits.{digitValue}
 use Rattle.format.specs.Number.{below}
 use Rattle.octets.proofs.Numbers.{valueIn, valueFrom, value-each, digit-on, digit-low, digit-high, nothing-left}
 use Rattle.octets.proofs.Slices.{next, none as no-octet}
-use Rattle.probe_request.specs.Request.{numberOf}
+use Rattle.probe_request.specs.Request.{numberOf, said}
 use Rattle.probe_request.specs.declared.Span.{Span}
-use Rattle.probe_request.specs.Words.{textAt, NextWord, Counts}
+use Rattle.probe_request.specs.Words.{textAt, wordsAt, NextWord, Counts}
 use Rattle.probe_request.proofs.Words.{word-says}
 
 -- a value that is too large stays so, whatever digits follow
@@ -61,5 +61,5 @@ module _ (l : List ℕ) (from to i v : ℕ) (t : to ≤ length l) (h : valueFrom
       pub great : 2 ^ 64 ≤ v * 10 + (getD l i 0 - 48) → numberOf (slice from to l) ≡ none
       great g = cut ∙ ap (below (2 ^ 64)) (digit-on v (getD l i 0) (slice (i + 1) to l) a b) ∙ too-great (2 ^ 64) (v * 10 + (getD l i 0 - 48)) (slice (i + 1) to l) g
 
-pub counts : (l : List ℕ) (end : ℕ) (w : Span) (g : Bool) (v : ℕ) → NextWord l end w → numberOf (textAt l w) ≡ provided g v → Counts l end (record { good = g; value = v; end = w .to })
+pub counts : (l : List ℕ) (end : ℕ) (w : Span) (g : Bool) (v : ℕ) → NextWord l end w → numberOf (textAt l w) ≡ provided g v → Counts (said numberOf (wordsAt l end)) l end (record { good = g; value = v; end = w .to })
 counts l end w g v h e = record { reads = word-says l numberOf refl end w h g v e; after = omega (arith, h .after, h .ordered); within = h .within }

@@ -4,9 +4,10 @@ ghost use mathlib.Core.Bool.{false, cond};
 ghost use Prim.Native.Nat.{_-_, _^_, _<_, _≤_, min};
 ghost use lib.ListN.{length, take, drop};
 ghost use lib.Seq.{slice};
+ghost use Rattle.format.specs.Octets.{among};
 ghost use Rattle.octets.specs.Octets.{lineEnd};
 ghost use Rattle.buffer.specs.Writing.{Values};
-ghost use Rattle.probe_request.specs.Request.{octetsOf, said, oneWord, originWord, runWords, byLetter, requestOf};
+ghost use Rattle.probe_request.specs.Request.{octetsOf, numberOf, said, editionWord, wholeWords, originWord, runWords, byLetter, marks, requestOf};
 ghost use Rattle.probe_request.specs.Words.{Within, asked, wordsAt, NextWord, Spells, Counts, Runs, Lists};
 use buffer::Value;
 use buffer::least;
@@ -20,11 +21,13 @@ pub struct Span {
     pub to: usize,
 }
 
-// What a line asks for, by its letter, which is 0 if it is no request. A job stands in the place of a stanza; the entries of a
-// catalogue are the octets of their word.
+// What a line asks for, by its letter, which is 0 if it is no request. A stored description and a job stand in the place of a
+// stanza; the entries of a catalogue are the octets of their word.
 pub struct Request {
     pub letter: u8,
+    pub stored: bool,
     pub stanza: Span,
+    pub edition: usize,
     pub first: usize,
     pub many: usize,
     pub entries: Span,
@@ -52,6 +55,7 @@ struct Count {
 struct Run {
     good: bool,
     to: usize,
+    edition: usize,
     first: usize,
     many: usize,
     end: usize,
@@ -139,7 +143,7 @@ fn no_number(end: usize) -> Count
 // Reads the number, of at most 64 bits, that the digits of the next word spell.
 fn next_number(line: &[u8], end: usize) -> Count
     requires { ⌜ end ≤ length (now line) ⌝ }
-    ensures { λ r. ⌜ Counts (now (line .entry)) end r ⌝ }
+    ensures { λ r. ⌜ Counts (said numberOf (wordsAt (now (line .entry)) end)) (now (line .entry)) end r ⌝ }
 {
     let word = next_word(line, end);
     let from = word.from;
@@ -168,12 +172,27 @@ fn next_number(line: &[u8], end: usize) -> Count
     }
 }
 
-// Reads a catalogue, if the line may name one: whole entries, of 8 octets each, and the text of the names.
-fn next_catalogue(line: &[u8], named: bool, end: usize, out: &mut [u8], at: usize) -> Listed
-    requires { ⌜ (end ≤ length (now line)) × (length (now line) ≤ 2 ^ 22) × (at ≤ 2 ^ 22) ⌝ }
-    ensures { λ r. ⌜ Lists named (now (line .entry)) end (now (out .entry)) (now (out .exit)) at r ⌝ }
+// Reads the edition, which only the line of a stored description names.
+fn next_edition(line: &[u8], mark: u8, end: usize) -> Count
+    requires { ⌜ end ≤ length (now line) ⌝ }
+    ensures { λ r. ⌜ Counts (editionWord mark (wordsAt (now (line .entry)) end)) (now (line .entry)) end r ⌝ }
 {
-    if named {
+    if mark == b'S' {
+        return next_number(line, end);
+    }
+    Count {
+        good: true,
+        value: 0,
+        end: end,
+    }
+}
+
+// Reads a catalogue, if the line may name one: whole entries, of 8 octets each, and the text of the names.
+fn next_catalogue(line: &[u8], mark: u8, end: usize, out: &mut [u8], at: usize) -> Listed
+    requires { ⌜ (end ≤ length (now line)) × (length (now line) ≤ 2 ^ 22) × (at ≤ 2 ^ 22) ⌝ }
+    ensures { λ r. ⌜ Lists mark (now (line .entry)) end (now (out .entry)) (now (out .exit)) at r ⌝ }
+{
+    if mark == b'C' {
         let e = next_octets(line, end, out, at);
         let n = next_octets(line, e.end, out, e.to);
         let whole = (e.to - at) % 8 == 0;
@@ -215,17 +234,21 @@ fn letter_if(good: bool, letter: u8) -> u8
 }
 
 // Reads a request to judge, or a job, whose first word ends at `end`.
-fn read_one(line: &[u8], end: usize, octets: &mut [u8], letter: u8) -> Request
+fn read_whole(line: &[u8], end: usize, mark: u8, octets: &mut [u8], letter: u8) -> Request
     requires { ⌜ (end ≤ length (now line)) × (length (now line) ≤ 2200000) × (1100000 ≤ length (now octets)) × (0 < letter) ⌝ }
-    ensures { λ r. ⌜ Within (length (now (octets .entry))) r × (asked r (now (octets .exit)) ≡ oneWord letter (wordsAt (now (line .entry)) end)) ⌝ }
+    ensures { λ r. ⌜ Within (length (now (octets .entry))) r × (asked r (now (octets .exit)) ≡ wholeWords mark letter (wordsAt (now (line .entry)) end)) ⌝ }
 {
     let word = next_octets(line, end, octets, 0);
+    let edition = next_edition(line, mark, word.end);
+    let good = word.good & edition.good;
     Request {
-        letter: letter_if(word.good & (word.end == line.len()), letter),
+        letter: letter_if(good & (edition.end == line.len()), letter),
+        stored: mark == b'S',
         stanza: Span {
             from: 0,
             to: word.to,
         },
+        edition: edition.value,
         first: 0,
         many: 0,
         entries: Span { from: 0, to: 0 },
@@ -236,40 +259,44 @@ fn read_one(line: &[u8], end: usize, octets: &mut [u8], letter: u8) -> Request
     }
 }
 
-// Reads the stanza and the run of a request.
-fn next_run(line: &[u8], end: usize, octets: &mut [u8]) -> Run
+// Reads the stanza, or a stored description and its edition, and the run of a request.
+fn next_run(line: &[u8], mark: u8, end: usize, octets: &mut [u8]) -> Run
     requires { ⌜ (end ≤ length (now line)) × (length (now line) ≤ 2200000) ⌝ }
-    ensures { λ r. ⌜ Runs (now (line .entry)) end (now (octets .entry)) (now (octets .exit)) r ⌝ }
+    ensures { λ r. ⌜ Runs mark (now (line .entry)) end (now (octets .entry)) (now (octets .exit)) r ⌝ }
 {
     let s = next_octets(line, end, octets, 0);
-    let first = next_number(line, s.end);
+    let edition = next_edition(line, mark, s.end);
+    let first = next_number(line, edition.end);
     let many = next_number(line, first.end);
     Run {
-        good: s.good & first.good & many.good,
+        good: s.good & edition.good & first.good & many.good,
         to: s.to,
+        edition: edition.value,
         first: first.value,
         many: many.value,
         end: many.end,
     }
 }
 
-// Reads a request to print or to read, which may name a catalogue, and whose first word ends at `end`.
-fn read_run(line: &[u8], end: usize, named: bool, octets: &mut [u8], letter: u8) -> Request
+// Reads a request to print or to read, whose first word ends at `end`.
+fn read_run(line: &[u8], end: usize, mark: u8, octets: &mut [u8], letter: u8) -> Request
     requires { ⌜ (end ≤ length (now line)) × (length (now line) ≤ 2200000) × (1100000 ≤ length (now octets)) × (0 < letter) ⌝ }
-    ensures { λ r. ⌜ Within (length (now (octets .entry))) r × (asked r (now (octets .exit)) ≡ runWords named letter (wordsAt (now (line .entry)) end)) ⌝ }
+    ensures { λ r. ⌜ Within (length (now (octets .entry))) r × (asked r (now (octets .exit)) ≡ runWords mark letter (wordsAt (now (line .entry)) end)) ⌝ }
 {
-    let run = next_run(line, end, octets);
-    let c = next_catalogue(line, named, run.end, octets, run.to);
+    let run = next_run(line, mark, end, octets);
+    let c = next_catalogue(line, mark, run.end, octets, run.to);
     let o = next_origin(line, letter, c.end, octets, c.to);
     let t = next_octets(line, o.end, octets, o.to);
     let room = next_number(line, t.end);
     let good = run.good & c.good & o.good & t.good & room.good;
     Request {
         letter: letter_if(good & (room.end == line.len()), letter),
+        stored: mark == b'S',
         stanza: Span {
             from: 0,
             to: run.to,
         },
+        edition: run.edition,
         first: run.first,
         many: run.many,
         entries: Span {
@@ -298,7 +325,9 @@ fn no_request() -> Request
 {
     Request {
         letter: 0,
+        stored: false,
         stanza: Span { from: 0, to: 0 },
+        edition: 0,
         first: 0,
         many: 0,
         entries: Span { from: 0, to: 0 },
@@ -309,27 +338,34 @@ fn no_request() -> Request
     }
 }
 
-// Reads a request by its letter; `named` if C stands after it, and `end` is where its first word ends.
-fn read_by(line: &[u8], end: usize, named: bool, octets: &mut [u8], letter: u8) -> Request
+// Reads a request by its letter and the mark after it; `end` is where its first word ends.
+fn read_by(line: &[u8], end: usize, mark: u8, octets: &mut [u8], letter: u8) -> Request
     requires { ⌜ (end ≤ length (now line)) × (length (now line) ≤ 2200000) × (1100000 ≤ length (now octets)) ⌝ }
-    ensures { λ r. ⌜ Within (length (now (octets .entry))) r × (asked r (now (octets .exit)) ≡ byLetter named letter (wordsAt (now (line .entry)) end)) ⌝ }
+    ensures { λ r. ⌜ Within (length (now (octets .entry))) r × (asked r (now (octets .exit)) ≡ byLetter mark letter (wordsAt (now (line .entry)) end)) ⌝ }
 {
     if letter == b'J' {
-        return read_one(line, end, octets, letter);
+        return read_whole(line, end, mark, octets, letter);
     }
     if letter == b'P' {
-        return read_run(line, end, named, octets, letter);
+        return read_run(line, end, mark, octets, letter);
     }
     if letter == b'R' {
-        return read_run(line, end, named, octets, letter);
+        return read_run(line, end, mark, octets, letter);
     }
-    if named {
+    if mark != b' ' {
         return no_request();
     }
     if letter == b'W' {
-        return read_one(line, end, octets, letter);
+        return read_whole(line, end, mark, octets, letter);
     }
     no_request()
+}
+
+// Whether an octet after a letter marks a line.
+fn is_mark(b: u8) -> bool
+    ensures { λ r. ⌜ r ≡ among b marks ⌝ }
+{
+    (b == b'C') | (b == b'S')
 }
 
 // Reads what a line, without its LF, asks for. The octets of its words are stored one after another.
@@ -343,16 +379,17 @@ pub fn read(line: &[u8], octets: &mut [u8]) -> Request
     if LONGEST < line.len() {
         return no_request();
     }
-    if line[1] == b' ' {
-        return read_by(line, 1, false, octets, line[0]);
-    }
-    if line[1] != b'C' {
-        return no_request();
+    let mark = line[1];
+    if mark == b' ' {
+        return read_by(line, 1, mark, octets, line[0]);
     }
     if line[2] != b' ' {
         return no_request();
     }
-    read_by(line, 2, true, octets, line[0])
+    if is_mark(mark) {
+        return read_by(line, 2, mark, octets, line[0]);
+    }
+    no_request()
 }
 
 // The place of the first LF from i on, or the length if there is none.

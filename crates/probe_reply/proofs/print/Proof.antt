@@ -1,7 +1,8 @@
+use Rattle.format.specs.Stored.{asFile}
 use Rattle.buffer.proofs.Laws.{wrote-text}
 use Rattle.probe_reply.specs.Entries.{entriesIn}
 use Rattle.probe_reply.proofs.Numbers.{lent-entries}
-use Rattle.probe_reply.proofs.Results.{print-within, print-answered}
+use Rattle.probe_reply.proofs.Results.{print-within, print-answered, all-printed}
 use native.Mathlib.Omega.{arith}
 use borrow.Author.Needs.{needs}
 use Rattle.probe_reply.proofs.print.Statement.{statement}
@@ -14,8 +15,11 @@ put-reply-requires : tie.Need-put-reply-requires
 put-reply-requires c κs =
     let c4 = c .before .before .before .before in
     let c8 = c4 .before .before .before .before in
-    let c16 = c8 .before .before .before .before .before .before .before .before in
-    (λ z. print-within _ (c16 .args .first) (c16 .args .many) (entriesIn (c16 .args .catalogue .now)) _ _ (lent-entries _ (c8 .numbers .result) _ (c8 .numbers .ensures .1)) _ _ (c4 .print-with .result) _ (c4 .print-with .ensures) z, omega (arith, c16 .pre))
+    let c16 = c8 .before .before .before .before .before .before .before .before in (
+      λ z. print-within (asFile _) (c16 .args .first) (c16 .args .many) (entriesIn (c16 .args .catalogue .now)) _ _ _ (c4 .print-with .result) _
+          (all-printed _ (c16 .args .first) (c16 .args .many) (entriesIn (c16 .args .catalogue .now)) _ _ (lent-entries _ (c8 .numbers .result) _ (c8 .numbers .ensures .1)) _ _ (c4 .print-with .result) _ (c4 .print-with .ensures)) z,
+      omega (arith, c16 .pre),
+    )
 
 returns : tie.Need-returns
 returns c =
@@ -23,7 +27,8 @@ returns c =
     let c7 = c2 .before .before .before .before .before in
     let c11 = c7 .before .before .before .before in
     let c19 = c11 .before .before .before .before .before .before .before .before in
-    wrote-text _ _ (print-answered _ (c19 .args .first) (c19 .args .many) (entriesIn (c19 .args .catalogue .now)) _ _ (lent-entries _ (c11 .numbers .result) _ (c11 .numbers .ensures .1)) _ _ (c7 .print-with .result) _ (c7 .print-with .ensures))
+    wrote-text _ _ (print-answered (asFile _) (c19 .args .first) (c19 .args .many) (entriesIn (c19 .args .catalogue .now)) _ _ _ (c7 .print-with .result) _
+    (all-printed _ (c19 .args .first) (c19 .args .many) (entriesIn (c19 .args .catalogue .now)) _ _ (lent-entries _ (c11 .numbers .result) _ (c11 .numbers .ensures .1)) _ _ (c7 .print-with .result) _ (c7 .print-with .ensures)))
     (c2 .put-reply .ensures)
 
 pub print-spec : {M : Type 1} → statement M

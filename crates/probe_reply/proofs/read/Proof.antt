@@ -1,7 +1,8 @@
+use Rattle.format.specs.Stored.{asFile}
 use Rattle.buffer.proofs.Laws.{wrote-text}
 use Rattle.probe_reply.specs.Entries.{entriesIn}
 use Rattle.probe_reply.proofs.Numbers.{lent-entries}
-use Rattle.probe_reply.proofs.Results.{read-within, read-answered}
+use Rattle.probe_reply.proofs.Results.{read-within, read-answered, all-read}
 use native.Mathlib.Omega.{arith}
 use borrow.Author.Needs.{needs}
 use Rattle.probe_reply.proofs.read.Statement.{statement}
@@ -14,8 +15,11 @@ put-reply-requires : tie.Need-put-reply-requires
 put-reply-requires c κs =
     let c4 = c .before .before .before .before in
     let c8 = c4 .before .before .before .before in
-    let c17 = c8 .before .before .before .before .before .before .before .before .before in
-    (λ z. read-within _ (c17 .args .first) (c17 .args .many) (entriesIn (c17 .args .catalogue .now)) _ _ (lent-entries _ (c8 .numbers .result) _ (c8 .numbers .ensures .1)) _ _ (c4 .read-with .result) _ _ (c4 .read-with .ensures) z, omega (arith, c17 .pre))
+    let c17 = c8 .before .before .before .before .before .before .before .before .before in (
+      λ z. read-within (asFile _) (c17 .args .first) (c17 .args .many) (entriesIn (c17 .args .catalogue .now)) _ _ _ (c4 .read-with .result) _ _
+          (all-read _ (c17 .args .first) (c17 .args .many) (entriesIn (c17 .args .catalogue .now)) _ _ (lent-entries _ (c8 .numbers .result) _ (c8 .numbers .ensures .1)) _ _ (c4 .read-with .result) _ _ (c4 .read-with .ensures)) z,
+      omega (arith, c17 .pre),
+    )
 
 returns : tie.Need-returns
 returns c =
@@ -23,7 +27,8 @@ returns c =
     let c7 = c2 .before .before .before .before .before in
     let c11 = c7 .before .before .before .before in
     let c20 = c11 .before .before .before .before .before .before .before .before .before in
-    wrote-text _ _ (read-answered _ (c20 .args .first) (c20 .args .many) (entriesIn (c20 .args .catalogue .now)) _ _ (lent-entries _ (c11 .numbers .result) _ (c11 .numbers .ensures .1)) _ _ (c7 .read-with .result) _ _ (c7 .read-with .ensures))
+    wrote-text _ _ (read-answered (asFile _) (c20 .args .first) (c20 .args .many) (entriesIn (c20 .args .catalogue .now)) _ _ _ (c7 .read-with .result) _ _
+    (all-read _ (c20 .args .first) (c20 .args .many) (entriesIn (c20 .args .catalogue .now)) _ _ (lent-entries _ (c11 .numbers .result) _ (c11 .numbers .ensures .1)) _ _ (c7 .read-with .result) _ _ (c7 .read-with .ensures)))
     (c2 .put-reply .ensures)
 
 pub read-spec : {M : Type 1} → statement M

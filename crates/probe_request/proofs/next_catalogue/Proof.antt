@@ -1,4 +1,5 @@
 use Rattle.probe_request.proofs.Requests.{catalogue-read, no-catalogue}
+use borrow.Author.Tests.{ne-eqb}
 use borrow.Author.Needs.{needs}
 use Rattle.probe_request.proofs.next_catalogue.Statement.{statement}
 use Rattle.probe_request.proofs.next_catalogue.Tie as tie
@@ -15,7 +16,7 @@ returns c =
 returns-2 : tie.Need-returns-2
 returns-2 c =
     let c3 = c .before .before .before in
-    rw (c .if1 .left) (no-catalogue _ _ _ _ (c3 .pre .0))
+    no-catalogue _ (c3 .args .mark) _ _ _ (c3 .pre .0) (ne-eqb _ _ (c .if1 .left))
 
 pub next-catalogue-spec : {M : Type 1} → statement M
 next-catalogue-spec =

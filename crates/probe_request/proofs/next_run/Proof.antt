@@ -5,14 +5,21 @@ use Rattle.probe_request.proofs.next_run.Tie as tie
 
 returns : tie.Need-returns
 returns c =
-    let c3 = c .before .before .before in
-    let c4 = c3 .before in
-    let c7 = c4 .before .before .before in
-    let c11 = c7 .before .before .before .before in
-    front-read _ (c11 .args .end) _ _ (c7 .next-octets .result) (c7 .next-octets .ensures) (c4 .next-number .result) (c3 .next-number2 .result)
-    (c4 .next-number .ensures) (c3 .next-number2 .ensures)
+    let c4 = c .before .before .before .before in
+    let c5 = c4 .before in
+    let c6 = c5 .before in
+    let c9 = c6 .before .before .before in
+    let c13 = c9 .before .before .before .before in
+    front-read _ (c13 .args .end) (c13 .args .mark) _ _ (c9 .next-octets .result) (c9 .next-octets .ensures) (c6 .next-edition .result) (c5 .next-number .result) (c4 .next-number2 .result)
+    (c6 .next-edition .ensures) (c5 .next-number .ensures) (c4 .next-number2 .ensures)
 
 pub next-run-spec : {M : Type 1} → statement M
 next-run-spec =
     tie.close
-    (tie.spec (λ c κs. search needs) (λ c κs. search needs) (λ c κs. search needs) (λ c. search needs) returns)
+    (tie.spec
+    (λ c κs. search needs)
+    (λ c κs. search needs)
+    (λ c κs. search needs)
+    (λ c κs. search needs)
+    (λ c. search needs)
+    returns)

@@ -1,5 +1,5 @@
 use mathlib.Core.Path.{_∙_}
-use Rattle.probe_request.proofs.Requests.{run-fits, run-read}
+use Rattle.probe_request.proofs.Requests.{no-listed, run-fits, run-read}
 use native.Mathlib.Omega.{arith}
 use borrow.Author.Needs.{needs}
 use Rattle.probe_request.proofs.read_run.Statement.{statement}
@@ -56,15 +56,15 @@ returns c =
     let c18 = c14 .before .before .before .before in
     let c22 = c18 .before .before .before .before in
     let c26 = c22 .before .before .before .before in
-    let f = run-fits _ (c26 .args .end) (c26 .args .named) _ _ _ _ _ (c26 .args .letter) (c .letter-if .result) (c26 .pre .1) (c26 .pre .2) (c22 .next-run .result)
+    let f = run-fits _ (c26 .args .end) (c26 .args .mark) _ _ _ _ _ (c26 .args .letter) (c .letter-if .result) (c26 .pre .1) (c26 .pre .2) (c22 .next-run .result)
     (c22 .next-run .ensures) (c18 .next-catalogue .result) (c18 .next-catalogue .ensures) (c14 .next-origin .result) (c10 .next-octets .result) (c7 .next-number .result)
     (c14 .next-origin .ensures) (c10 .next-octets .ensures) (c7 .next-number .ensures) in
     let i = c18 .next-catalogue .ensures .from in
     let j = c18 .next-catalogue .ensures .on in
     let a = c14 .next-origin .ensures .from in
     let b = c10 .next-octets .ensures .from in (
-      ((omega arith, omega arith), (i, omega arith), (j, omega arith), (a, omega arith), (b, f)),
-      run-read _ (c26 .args .end) (c26 .args .named) _ _ _ _ _ (c26 .args .letter) (c .letter-if .result) (c26 .pre .1) (c26 .pre .2) (c22 .next-run .result)
+      ((omega arith, omega arith), (i, omega arith), (j, omega arith), (a, omega arith), (b, f), no-listed (c18 .next-catalogue .result) (c18 .next-catalogue .ensures)),
+      run-read _ (c26 .args .end) (c26 .args .mark) _ _ _ _ _ (c26 .args .letter) (c .letter-if .result) (c26 .pre .1) (c26 .pre .2) (c22 .next-run .result)
           (c22 .next-run .ensures) (c18 .next-catalogue .result) (c18 .next-catalogue .ensures) (c14 .next-origin .result) (c10 .next-octets .result) (c7 .next-number .result)
           (c14 .next-origin .ensures) (c10 .next-octets .ensures) (c7 .next-number .ensures) (c26 .pre .3) (c .letter-if .ensures),
     )
