@@ -21,6 +21,7 @@ mod print;
 pub mod probe;
 mod read;
 mod stanza;
+mod stored;
 mod strings;
 mod text;
 mod time;
@@ -103,7 +104,17 @@ impl Answer {
 /// Judges one stanza: 0 and "for judging alone, the field count", or the number
 /// and place of its refusal.
 pub fn judge(stanza: &[u8]) -> (u8, u64) {
-    match Stanza::judge(stanza) {
+    count_or_refusal(Stanza::judge(stanza))
+}
+
+/// The same of a description as the DNS stores it: TXT data of an edition
+/// (document 02, request 4).
+pub fn judge_stored(txt: &[u8], edition: u64) -> (u8, u64) {
+    count_or_refusal(stored::judge(txt, edition))
+}
+
+fn count_or_refusal(stanza: Result<Stanza, Refusal>) -> (u8, u64) {
+    match stanza {
         Ok(stanza) => (0, stanza.fields().len() as u64),
         Err(refusal) => (refusal.number, refusal.place),
     }
@@ -126,18 +137,46 @@ pub fn read_with(
     text: &[u8],
     room: u64,
 ) -> Answer {
-    // "Order: 1; the first faulty stanza line […]; the place-0 case of 2; 6;
-    // 7 (text reading only); fields left to right with 8 or 9; 10; 11; 12."
-    // Document 02, request 3: "13, […] after 7 (after 6 when printing)".
     let read = || {
         within_limit(text, TEXT_LIMIT)?;
-        let stanza = Stanza::judge(stanza)?;
-        let run = stanza.run(first, length)?;
-        let origin = name::whole(origin).ok_or(Refusal::new(7, 0))?;
-        let catalogue = Catalogue::judge(lent)?;
-        read::run(run, &catalogue, origin, text)
+        read_under(Stanza::judge(stanza)?, lent, first, length, origin, text)
     };
     Answer::within(room, read())
+}
+
+/// The same under a stored description, with the empty catalogue.
+pub fn read_stored(
+    txt: &[u8],
+    edition: u64,
+    first: u64,
+    length: u64,
+    origin: &[u8],
+    text: &[u8],
+    room: u64,
+) -> Answer {
+    let read = || {
+        within_limit(text, TEXT_LIMIT)?;
+        read_under(stored::judge(txt, edition)?, Lent::default(), first, length, origin, text)
+    };
+    Answer::within(room, read())
+}
+
+/// "Order: 1; the first faulty stanza line […]; the place-0 case of 2; 6; 7 (text
+/// reading only); fields left to right with 8 or 9; 10; 11; 12." Document 02,
+/// request 3: "13, […] after 7 (after 6 when printing)". Here what comes after the
+/// judging of the stanza.
+fn read_under(
+    stanza: Stanza,
+    lent: Lent,
+    first: u64,
+    length: u64,
+    origin: &[u8],
+    text: &[u8],
+) -> Result<Vec<u8>, Refusal> {
+    let run = stanza.run(first, length)?;
+    let origin = name::whole(origin).ok_or(Refusal::new(7, 0))?;
+    let catalogue = Catalogue::judge(lent)?;
+    read::run(run, &catalogue, origin, text)
 }
 
 /// Turns RDATA into text under the run of `length` fields from field `first`.
@@ -149,12 +188,31 @@ pub fn print(stanza: &[u8], first: u64, length: u64, rdata: &[u8], room: u64) ->
 pub fn print_with(lent: Lent, stanza: &[u8], first: u64, length: u64, rdata: &[u8], room: u64) -> Answer {
     let print = || {
         within_limit(rdata, RDATA_LIMIT)?;
-        let stanza = Stanza::judge(stanza)?;
-        let run = stanza.run(first, length)?;
-        let catalogue = Catalogue::judge(lent)?;
-        print::run(run, &catalogue, rdata)
+        print_under(Stanza::judge(stanza)?, lent, first, length, rdata)
     };
     Answer::within(room, print())
+}
+
+/// The same under a stored description, with the empty catalogue.
+pub fn print_stored(txt: &[u8], edition: u64, first: u64, length: u64, rdata: &[u8], room: u64) -> Answer {
+    let print = || {
+        within_limit(rdata, RDATA_LIMIT)?;
+        print_under(stored::judge(txt, edition)?, Lent::default(), first, length, rdata)
+    };
+    Answer::within(room, print())
+}
+
+/// The order is that of reading, without 7.
+fn print_under(
+    stanza: Stanza,
+    lent: Lent,
+    first: u64,
+    length: u64,
+    rdata: &[u8],
+) -> Result<Vec<u8>, Refusal> {
+    let run = stanza.run(first, length)?;
+    let catalogue = Catalogue::judge(lent)?;
+    print::run(run, &catalogue, rdata)
 }
 
 /// 1: input over its limit, at place 0.

@@ -15,6 +15,8 @@ const USAGE: &str = "usage: independent MODE
   salt-requests N SEED      N random request lines about X[C], to print and to read
   catalogue-requests N SEED N random request lines with a lent catalogue, to print and to
                             read, a few to judge
+  stored-requests N SEED    N random request lines with a stored description, a third each
+                            to judge, to print and to read
   limit-requests            the large request lines
   job-requests N SEED DIR   N random jobs as files 000000.job, 000001.job, ... in DIR";
 
@@ -45,6 +47,7 @@ fn generate_requests(mode: &str, count: u64, seed: u64, rest: &[&str]) -> io::Re
         ("read-requests", []) => write_lines(generate::read_requests(count, seed)),
         ("salt-requests", []) => write_lines(generate::salt_requests(count, seed)),
         ("catalogue-requests", []) => write_lines(generate::catalogue_requests(count, seed)),
+        ("stored-requests", []) => write_lines(generate::stored_requests(count, seed)),
         ("job-requests", [directory]) => {
             let directory = Path::new(directory);
             std::fs::create_dir_all(directory)?;

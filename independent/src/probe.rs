@@ -15,6 +15,14 @@
 //! RC STANZA FIRST LENGTH CATALOGUE NAMES ORIGIN TEXT ROOM -> NUMBER PLACE RDATA
 //! ```
 //!
+//! Request 4 has them with a description as the DNS stores it:
+//!
+//! ```text
+//! JS TXT EDITION                               -> NUMBER PLACE
+//! PS TXT EDITION FIRST LENGTH RDATA ROOM       -> NUMBER PLACE TEXT
+//! RS TXT EDITION FIRST LENGTH ORIGIN TEXT ROOM -> NUMBER PLACE RDATA
+//! ```
+//!
 //! Words are parted by exactly one space. Octets are in hex, either case in,
 //! upper case out, `-` for none; numbers are decimal, unsigned, 64 bits. PLACE
 //! is the count where NUMBER is 0; LINES are what the job program writes for JOB.
@@ -23,7 +31,8 @@
 //! does one whose CATALOGUE ends inside an entry.
 
 use crate::base::{print_hex, read_hex};
-use crate::{job, judge, print, print_with, read, read_with, Answer, Entry, Lent};
+use crate::{job, judge, judge_stored, print, print_stored, print_with, read, read_stored, read_with};
+use crate::{Answer, Entry, Lent};
 
 /// The longest request line, without its LF.
 pub const LINE_LIMIT: usize = 2_200_000;
@@ -39,10 +48,7 @@ fn try_answer(line: &[u8]) -> Option<Vec<u8>> {
     }
     let words: Vec<&[u8]> = line.split(|&octet| octet == b' ').collect();
     match words[..] {
-        [b"J" | b"JC", stanza] => {
-            let (number, place) = judge(&octets(stanza)?);
-            Some(format!("{number} {place}").into_bytes())
-        }
+        [b"J" | b"JC", stanza] => Some(judge_line(judge(&octets(stanza)?))),
         [b"P", stanza, first, length, rdata, room] => Some(answer_line(print(
             &octets(stanza)?,
             number(first)?,
@@ -75,6 +81,24 @@ fn try_answer(line: &[u8]) -> Option<Vec<u8>> {
             &octets(text)?,
             number(room)?,
         ))),
+        [b"JS", txt, edition] => Some(judge_line(judge_stored(&octets(txt)?, number(edition)?))),
+        [b"PS", txt, edition, first, length, rdata, room] => Some(answer_line(print_stored(
+            &octets(txt)?,
+            number(edition)?,
+            number(first)?,
+            number(length)?,
+            &octets(rdata)?,
+            number(room)?,
+        ))),
+        [b"RS", txt, edition, first, length, origin, text, room] => Some(answer_line(read_stored(
+            &octets(txt)?,
+            number(edition)?,
+            number(first)?,
+            number(length)?,
+            &octets(origin)?,
+            &octets(text)?,
+            number(room)?,
+        ))),
         [b"W", word] => {
             let mut line = Vec::new();
             push_octets(&job(&octets(word)?), &mut line);
@@ -82,6 +106,10 @@ fn try_answer(line: &[u8]) -> Option<Vec<u8>> {
         }
         _ => None,
     }
+}
+
+fn judge_line((number, place): (u8, u64)) -> Vec<u8> {
+    format!("{number} {place}").into_bytes()
 }
 
 fn answer_line(answer: Answer) -> Vec<u8> {
@@ -138,14 +166,12 @@ fn push_octets(octets: &[u8], line: &mut Vec<u8>) {
 
 /// The request line for judging.
 pub fn judge_request(stanza: &[u8]) -> Vec<u8> {
-    let mut line = b"J ".to_vec();
-    push_octets(stanza, &mut line);
-    line
+    asked("J", stanza)
 }
 
 /// The request line for printing.
 pub fn print_request(stanza: &[u8], first: u64, length: u64, rdata: &[u8], room: u64) -> Vec<u8> {
-    request("P", stanza, first, length, &[rdata], room)
+    of_run(asked("P", stanza), first, length, &[rdata], room)
 }
 
 /// The request line for reading.
@@ -157,14 +183,12 @@ pub fn read_request(
     text: &[u8],
     room: u64,
 ) -> Vec<u8> {
-    request("R", stanza, first, length, &[origin, text], room)
+    of_run(asked("R", stanza), first, length, &[origin, text], room)
 }
 
 /// The request line for judging, as it stands beside those with a catalogue.
 pub fn judge_with_request(stanza: &[u8]) -> Vec<u8> {
-    let mut line = b"JC ".to_vec();
-    push_octets(stanza, &mut line);
-    line
+    asked("JC", stanza)
 }
 
 /// The request line for printing with a catalogue.
@@ -176,7 +200,8 @@ pub fn print_with_request(
     rdata: &[u8],
     room: u64,
 ) -> Vec<u8> {
-    request("PC", stanza, first, length, &[&catalogue_octets(lent.entries), lent.names, rdata], room)
+    let words = [&catalogue_octets(lent.entries), lent.names, rdata];
+    of_run(asked("PC", stanza), first, length, &words, room)
 }
 
 /// The request line for reading with a catalogue.
@@ -189,7 +214,8 @@ pub fn read_with_request(
     text: &[u8],
     room: u64,
 ) -> Vec<u8> {
-    request("RC", stanza, first, length, &[&catalogue_octets(lent.entries), lent.names, origin, text], room)
+    let words = [&catalogue_octets(lent.entries), lent.names, origin, text];
+    of_run(asked("RC", stanza), first, length, &words, room)
 }
 
 fn catalogue_octets(entries: &[Entry]) -> Vec<u8> {
@@ -202,10 +228,52 @@ fn catalogue_octets(entries: &[Entry]) -> Vec<u8> {
     octets
 }
 
-/// A request line with the words between the run and the room.
-fn request(action: &str, stanza: &[u8], first: u64, length: u64, words: &[&[u8]], room: u64) -> Vec<u8> {
+/// The request line for judging a stored description.
+pub fn judge_stored_request(txt: &[u8], edition: u64) -> Vec<u8> {
+    asked_stored("JS", txt, edition)
+}
+
+/// The request line for printing under a stored description.
+pub fn print_stored_request(
+    txt: &[u8],
+    edition: u64,
+    first: u64,
+    length: u64,
+    rdata: &[u8],
+    room: u64,
+) -> Vec<u8> {
+    of_run(asked_stored("PS", txt, edition), first, length, &[rdata], room)
+}
+
+/// The request line for reading under a stored description.
+pub fn read_stored_request(
+    txt: &[u8],
+    edition: u64,
+    first: u64,
+    length: u64,
+    origin: &[u8],
+    text: &[u8],
+    room: u64,
+) -> Vec<u8> {
+    of_run(asked_stored("RS", txt, edition), first, length, &[origin, text], room)
+}
+
+/// The first words of a request line: what is asked, and the description.
+fn asked(action: &str, description: &[u8]) -> Vec<u8> {
     let mut line = format!("{action} ").into_bytes();
-    push_octets(stanza, &mut line);
+    push_octets(description, &mut line);
+    line
+}
+
+fn asked_stored(action: &str, txt: &[u8], edition: u64) -> Vec<u8> {
+    let mut line = asked(action, txt);
+    line.extend_from_slice(format!(" {edition}").as_bytes());
+    line
+}
+
+/// The first words of a request line, then the run, the words between it and the
+/// room, and the room.
+fn of_run(mut line: Vec<u8>, first: u64, length: u64, words: &[&[u8]], room: u64) -> Vec<u8> {
     line.extend_from_slice(format!(" {first} {length} ").as_bytes());
     for word in words {
         push_octets(word, &mut line);

@@ -78,13 +78,22 @@ pub struct Stanza<'a> {
 
 impl<'a> Stanza<'a> {
     /// "Order: 1; the first faulty stanza line, and on it the lowest number;
-    /// the place-0 case of 2".
+    /// the place-0 case of 2". Here the lines of a file.
     pub fn judge(octets: &'a [u8]) -> Result<Self, Refusal> {
         within_limit(octets, STANZA_LIMIT)?;
+        Stanza::judge_lines(Lines::new(octets).zip(1..), true)
+    }
+
+    /// The same of lines and their numbers, without 1. Field lines are indented in
+    /// a file; where they are not, none starts with a blank.
+    pub fn judge_lines(
+        lines: impl Iterator<Item = (&'a [u8], u64)>,
+        indented: bool,
+    ) -> Result<Self, Refusal> {
         let mut fields: Vec<Kind> = Vec::new();
         let mut names = HashSet::new();
         let mut header_seen = false;
-        for (line, place) in Lines::new(octets).zip(1..) {
+        for (line, place) in lines {
             let refusal = |number| Refusal::new(number, place);
             if only_counts(line) {
                 continue;
@@ -95,7 +104,7 @@ impl<'a> Stanza<'a> {
                 header_seen = true;
                 continue;
             }
-            let parts = FieldLine::split(line).ok_or(refusal(GRAMMAR))?;
+            let parts = FieldLine::split(line, indented).ok_or(refusal(GRAMMAR))?;
             let name = parts.name.map(<[u8]>::to_ascii_lowercase);
             let kind = parts.kind().map_err(refusal)?;
             // "a field name twice (letters' case ignored); a field line after a
@@ -135,7 +144,7 @@ impl<'a> Stanza<'a> {
 
 /// "Blank lines and those whose first nonblank is `#` only count for
 /// numbering". "Blank means space or tab."
-fn only_counts(line: &[u8]) -> bool {
+pub fn only_counts(line: &[u8]) -> bool {
     line.iter().find(|&&octet| !is_blank(octet)).is_none_or(|&octet| octet == b'#')
 }
 
@@ -180,10 +189,11 @@ struct FieldLine<'a> {
 impl<'a> FieldLine<'a> {
     /// "A field line starts with one or more spaces or tabs, then type,
     /// optional `[` qualifiers `]` parted by single commas, optional `:` and
-    /// name, optional blank and free text."
-    fn split(line: &'a [u8]) -> Option<Self> {
+    /// name, optional blank and free text." Where it is not indented, the blanks
+    /// at its start are missing, and any there break the grammar.
+    fn split(line: &'a [u8], indented: bool) -> Option<Self> {
         let mut scan = Scan { rest: line };
-        if scan.while_in(is_blank).is_empty() {
+        if scan.while_in(is_blank).is_empty() == indented {
             return None;
         }
         let word = scan.word()?;

@@ -107,6 +107,24 @@ fn salts() {
     }
 }
 
+/// Every refusal that there is with a stored description, judging apart from
+/// converting, and a few lines as long as one may be.
+#[test]
+fn stored() {
+    let only = |letter: u8| generate::stored_requests(30_000, 17).filter(move |line| line[0] == letter);
+    let (numbers, _) = tally(only(b'J'));
+    has(&numbers, &[(1, 20), (2, 800), (3, 100), (4, 100), (5, 10), (8, 200), (14, 200), (16, 100)]);
+    let described = [(1, 20), (2, 150), (3, 50), (4, 50), (6, 100), (14, 80), (16, 100)];
+    for (letter, more) in [
+        (b'P', &[(8, 500), (9, 300), (10, 300), (12, 300)][..]),
+        (b'R', &[(7, 100), (8, 100), (9, 1_000), (10, 200), (12, 300)]),
+    ] {
+        let (numbers, long) = tally(only(letter));
+        has(&numbers, &[&described, more].concat());
+        assert!(long < 1_000, "{long}");
+    }
+}
+
 /// One or more X[C] among 1 to 6 fields of every kind.
 #[test]
 fn salt_stanzas() {
@@ -226,6 +244,8 @@ fn the_same_seed_gives_the_same() {
     assert!(generate::judge_requests(200, 9).eq(generate::judge_requests(200, 9)));
     assert!(generate::salt_requests(200, 9).eq(generate::salt_requests(300, 9).take(200)));
     assert!(!generate::salt_requests(200, 9).eq(generate::salt_requests(200, 10)));
+    assert!(generate::stored_requests(200, 9).eq(generate::stored_requests(300, 9).take(200)));
+    assert!(!generate::stored_requests(200, 9).eq(generate::stored_requests(200, 10)));
     assert_eq!(generate::job(9, 3), generate::job(9, 3));
 }
 

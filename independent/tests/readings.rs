@@ -37,6 +37,6 @@ fn every_example_gives_its_answer() {
             wrong.push(format!("{} -> {}, not {}", short(request), short(&given), short(expected)));
         }
     }
-    assert_eq!(count, 280);
+    assert_eq!(count, 312);
     assert!(wrong.is_empty(), "{} wrong:\n{}", wrong.len(), wrong.join("\n"));
 }

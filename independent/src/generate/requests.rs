@@ -45,7 +45,7 @@ pub fn any_stanza(random: &mut Random) -> Vec<u8> {
 }
 
 /// Mostly good: the stanza of a conversion.
-fn mostly_good_stanza(random: &mut Random) -> Vec<u8> {
+pub fn mostly_good_stanza(random: &mut Random) -> Vec<u8> {
     match random.below(400) {
         0 => stanzas::over_long(random),
         1..=20 => stanzas::faulty(random),
@@ -107,11 +107,8 @@ pub fn room(random: &mut Random, needed: u64) -> u64 {
     }
 }
 
-fn printing(random: &mut Random) -> Vec<u8> {
-    let octets = mostly_good_stanza(random);
-    let stanza = Stanza::judge(&octets).ok();
-    let (first, length) = run(random, stanza.as_ref().map_or(1, |stanza| stanza.fields().len()));
-    let fields = fields_of(&stanza, first, length);
+/// The octets of a run, perhaps damaged.
+pub fn rdata(random: &mut Random, fields: &[Kind]) -> Vec<u8> {
     let mut rdata = Vec::new();
     for kind in fields {
         values::value(kind, random, &mut rdata);
@@ -127,6 +124,15 @@ fn printing(random: &mut Random) -> Vec<u8> {
         }
         _ => {}
     }
+    rdata
+}
+
+fn printing(random: &mut Random) -> Vec<u8> {
+    let octets = mostly_good_stanza(random);
+    let stanza = Stanza::judge(&octets).ok();
+    let (first, length) = run(random, stanza.as_ref().map_or(1, |stanza| stanza.fields().len()));
+    let fields = fields_of(&stanza, first, length);
+    let rdata = rdata(random, fields);
     let answer = print(&octets, first, length, &rdata, u64::MAX);
     let needed = empty_salts::first_on_the_wire(fields, &rdata).unwrap_or(answer.place);
     print_request(&octets, first, length, &rdata, room(random, needed))
