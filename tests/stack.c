@@ -7,9 +7,9 @@
 
 #include "../examples/types.h"
 
-enum { STACK = 1 << 20, FILL = 0xA5, ROOM = 1 << 20, NAMES = 512, NAME = 63 };
+enum { STACK = 1 << 20, FILL = 0xA5, ROOM = 1 << 20, NAMES = 512, NAME = 63, EDITION = 13 };
 /* each way to read stands before the one to print what it has read */
-enum { NONE, JUDGE, READ, PRINT, READ_NAMED, PRINT_NAMED, READ_LONG, PRINT_LONG, WAYS };
+enum { NONE, JUDGE, READ, PRINT, READ_NAMED, PRINT_NAMED, READ_LONG, PRINT_LONG, JUDGE_STORED, READ_STORED, PRINT_STORED, WAYS };
 
 struct call {
     int way;
@@ -22,7 +22,9 @@ static uint8_t long_names[NAMES * NAME];
 static struct extlang_entry long_entries[NAMES];
 static char word[2001], types[4001], symbols[8192];
 static const uint8_t root[] = {0};
-static uint64_t answer;
+static uint8_t txt[8192];
+static size_t txt_len;
+static uint64_t answer, fields;
 
 /* the arguments that the ways of one direction share */
 #define RUN s, n, 1, fields
@@ -31,12 +33,38 @@ static uint64_t answer;
 #define PUBLISHED extlang_types, EXTLANG_TYPES, extlang_type_names, EXTLANG_TYPE_NAMES
 #define LONG long_entries, NAMES, long_names, sizeof long_names
 
+/* the description as the DNS stores it, its length; 0 if a line is over 255 octets after its leading blanks, and so has no stored form */
+static size_t stored(const char *stanza)
+{
+    static const char tag[] = "\x08RRTYPE=1";
+    size_t end = sizeof tag - 1;
+    memcpy(txt, tag, end);
+    for (const char *line = stanza; *line; line += strcspn(line, "\n") + 1) {
+        line += strspn(line, " \t");
+        size_t n = strcspn(line, "\n");
+        if (n > 255)
+            return 0;
+        txt[end] = (uint8_t)n;
+        memcpy(txt + end + 1, line, n);
+        end += n + 1;
+    }
+    return end;
+}
+
+/* what the ways need of a description, outside the stack that is looked at */
+static void prepare(const struct call *c)
+{
+    fields = extlang_place(extlang_judge((const uint8_t *)c->stanza, strlen(c->stanza)));
+    txt_len = stored(c->stanza);
+}
+
 static void *make(void *argument)
 {
     const struct call *c = argument;
     const uint8_t *s = (const uint8_t *)c->stanza;
     size_t n = strlen(c->stanza);
-    uint64_t fields = extlang_place(extlang_judge(s, n));
+    if (c->way == JUDGE)
+        extlang_judge(s, n);
     if (c->way == READ)
         answer = extlang_read(RUN, TEXT);
     if (c->way == PRINT)
@@ -49,6 +77,12 @@ static void *make(void *argument)
         answer = extlang_read_named(RUN, LONG, TEXT);
     if (c->way == PRINT_LONG)
         answer = extlang_print_named(RUN, LONG, RDATA);
+    if (c->way == JUDGE_STORED)
+        extlang_judge_stored(txt, txt_len, EDITION);
+    if (c->way == READ_STORED)
+        answer = extlang_read_stored(txt, txt_len, 1, fields, EDITION, TEXT);
+    if (c->way == PRINT_STORED)
+        answer = extlang_print_stored(txt, txt_len, 1, fields, EDITION, RDATA);
     return NULL;
 }
 
@@ -83,6 +117,7 @@ int main(void)
     static const char *names[] = {
         "", "judging", "reading", "printing", "reading with the published names", "printing with the published names",
         "reading with 512 names of 63 octets", "printing with 512 names of 63 octets",
+        "judging a stored description", "reading under one", "printing under one",
     };
     /* texts that go through the longer array */
     memset(word, 'a', sizeof word - 1);
@@ -114,13 +149,15 @@ int main(void)
         {NONE, symbols, "a0001b"},
     };
     /* once here, so that the loader has found every function of the C library before a stack is looked at */
+    prepare(&calls[0]);
     for (int way = JUDGE; way < WAYS; way++) {
         calls[0].way = way;
         make(&calls[0]);
     }
     size_t most[WAYS] = {0}, own = depth(nothing, NULL), last = sizeof calls / sizeof *calls - 1;
-    for (size_t i = 0; i <= last; i++)
-        for (int way = JUDGE; way < WAYS; way++) {
+    for (size_t i = 0; i <= last; i++) {
+        prepare(&calls[i]);
+        for (int way = JUDGE; way < (txt_len ? WAYS : JUDGE_STORED); way++) {
             calls[i].way = way;
             size_t d = depth(make, &calls[i]) - own;
             if (way > JUDGE && extlang_number(answer) != 0)
@@ -130,5 +167,8 @@ int main(void)
             else if (most[way] < d)
                 most[way] = d;
         }
+    }
+    for (int way = JUDGE_STORED; way < WAYS; way++)
+        printf("%s %zu\n", names[way], most[way]);
     return 0;
 }
