@@ -9,7 +9,7 @@ use lib.ListN.{length, take}
 use lib.Dec.{ltb}
 use borrow.Author.Tests.{le-ltb}
 use Rattle.format.specs.Catalogue.{Entry, TypeName, Catalogued, entryAfter, afterEntry, cataloguedFrom, catalogued}
-use Rattle.format.specs.Entries.{printingWith, printWith, readingWith, readWith}
+use Rattle.format.specs.Entries.{printingOf, printOf, printWith, readingOf, readOf, readWith}
 
 longer : (l : List TypeName) (n : TypeName) → length (l ++ n ∷ []) ≡ suc (length l)
 longer [] n = refl
@@ -34,10 +34,10 @@ cut-513 names es = from-cut 512 [] names es refl
 -- so printing and reading with the first 513 entries are those with all
 pub print-cut : (stanza : List ℕ) (first len : ℕ) (es : List Entry) (names rdata out : List ℕ) (at : ℕ)
     → printWith stanza first len (take 513 es) names rdata out at ≡ printWith stanza first len es names rdata out at
-unfolding printWith printingWith
+unfolding printOf printingOf
 print-cut stanza first len es names rdata out at = rw (cut-513 names es) refl
 
 pub read-cut : (stanza : List ℕ) (first len : ℕ) (es : List Entry) (names origin text out : List ℕ) (at : ℕ)
     → readWith stanza first len (take 513 es) names origin text out at ≡ readWith stanza first len es names origin text out at
-unfolding readWith readingWith
+unfolding readOf readingOf
 read-cut stanza first len es names origin text out at = rw (cut-513 names es) refl

@@ -17,7 +17,7 @@ use Rattle.format.specs.Name.{isWireName}
 use Rattle.format.specs.Judge.{Judged, rejected, described, judged}
 use Rattle.format.specs.Run.{readField, Parts, refused, parts, maxRdata, readRun}
 use Rattle.format.specs.Catalogue.{cataloguedFrom}
-use Rattle.format.specs.Entries.{Answer, done, refusal, maxText, orRefusal, ofStanza, ofParts, isRun, run, reading, readingWith}
+use Rattle.format.specs.Entries.{Answer, done, refusal, maxText, orRefusal, ofStanza, ofParts, isRun, run, reading, readingOf}
 use Rattle.format.specs.Job.{Job, answerLine, fieldCount, recordLine}
 use Rattle.format.proofs.Number.{decimal-10}
 use Rattle.format.proofs.Hex.{hex-length}
@@ -61,7 +61,7 @@ flat-short xs true h = leb-true (length xs) maxRdata h
 flat-short xs false h = tt
 
 pub reading-short : (s : List ℕ) (first many : ℕ) (origin text : List ℕ) → Short (reading s first many origin text)
-unfolding readingWith cataloguedFrom
+unfolding readingOf cataloguedFrom
 reading-short s first many origin text =
     or-short 1 (leb (length text) maxText) _ (stanza-short (judged s) _ (λ ks.
     or-short 6 (isRun first many ks) _ (or-short 7 (isWireName origin) _ (
