@@ -13,7 +13,7 @@ use buffer::{Value, put};
 use octets::Number;
 
 // The forms of a part: two hex digits, a number 0 to 255, a group of 1 to 4 hex digits.
-#[derive(Drop)]
+#[derive(Clone, Copy)]
 pub enum PartForm {
     Pair,
     Small,

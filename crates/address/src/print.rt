@@ -66,7 +66,7 @@ pub fn groups(out: &mut [u8], at: usize, p: &[u8], i: usize, e: usize) -> usize
 }
 
 // A run of zero groups: the place of its first octet, and its number of groups.
-#[derive(Drop)]
+#[derive(Clone, Copy)]
 struct ZeroRun {
     at: usize,
     count: usize,

@@ -79,7 +79,7 @@ fn base64(out: &mut [u8], at: usize, t: &[u8], i: usize) -> Value
 }
 
 // What a reader of all tokens answers: no token is left; a rule is broken; or the octets are stored up to a place.
-#[derive(Drop)]
+#[derive(Clone, Copy)]
 pub enum Got {
     Missing,
     Fault,

@@ -1,5 +1,7 @@
 // Reads digits of w bits into octets, k digits into g octets. An alphabet gives the number of each character; a character with
 // the number `skip` is left out.
+#![tactic(auto)]
+
 ghost use Rattle.std.specs.Prelude.{ℕ, ◌+◌, ◌*◌, ◌^◌, ◌<◌, ◌≤◌, ◌≡◌, length, get_or};
 ghost use Rattle.std.proofs.Math.Seq.{slice};
 ghost use Rattle.format.specs.Digits.{digits};
@@ -11,7 +13,7 @@ use buffer::{Value, put};
 use digits::put_octets;
 
 // Digits that were read up to `at`: how many there are, and the number that they make.
-#[derive(Drop)]
+#[derive(Clone, Copy)]
 pub struct Digits {
     pub at: usize,
     pub count: usize,
@@ -19,7 +21,7 @@ pub struct Digits {
 }
 
 // Whole groups were read, and their octets stored up to `end`; then fewer digits than a group were read, up to `at`.
-#[derive(Drop)]
+#[derive(Clone, Copy)]
 pub struct Front {
     pub at: usize,
     pub end: usize,

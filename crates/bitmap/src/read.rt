@@ -14,7 +14,7 @@ use rrtype::read::Front;
 use tokens::Next;
 
 // The next type: none is left; its number and where its token ends; or a fault, a token that is no type.
-#[derive(Drop)]
+#[derive(Clone, Copy)]
 enum NextType {
     End,
     Found(u64, usize),
@@ -96,7 +96,7 @@ fn next_type(types: &[u64], names: &[u8], t: &[u8], i: usize) -> NextType
 }
 
 // How filling a picture ended: with a fault, a token that was no type; or with all types, and the picture's top.
-#[derive(Drop)]
+#[derive(Clone, Copy)]
 enum Filled {
     Fault,
     Top(usize),

@@ -1,5 +1,7 @@
 // A picture of 256 windows of 32 octets: one bit for each type, set if the picture holds the type. No window from `top` on
 // holds any.
+#![tactic(auto)]
+
 ghost use Rattle.std.specs.Prelude.{ℕ, ◌^◌, ◌<◌, ◌≤◌, ◌≡◌, List, [], ◌∷◌, ◌++◌, length};
 ghost use Rattle.format.specs.Lists.{all_of};
 ghost use Rattle.format.specs.Bitmap.{without_last_zeros, block_of, blocks};

@@ -1,10 +1,12 @@
 // Writers of text. Each stores its text at a place in the buffer, drops what does not fit, and returns the place after the
 // whole text: on an empty buffer it measures.
+#![tactic(auto)]
+
 ghost use Rattle.std.specs.Prelude.{◌≡◌, [], ◌∷◌, ◌+◌, ◌-◌, ◌/◌, ◌^◌, ◌<◌, ◌≤◌, min, length, set};
 ghost use Rattle.buffer.specs.Writing.{Wrote};
 
 // What a reader makes of a token: a fault if it has no value; or the place after the value's octets, which are stored.
-#[derive(Drop)]
+#[derive(Clone, Copy)]
 pub enum Value {
     Fault,
     Upto(usize),

@@ -1,5 +1,7 @@
 // A catalogue of type names that is not refused: each entry a number that holds the type's number and where its name lies in a
 // lent text. The type with a number, and the type with a name.
+#![tactic(auto)]
+
 ghost use Rattle.std.specs.Prelude.{◌≤◌, ◌≡◌, length};
 ghost use Rattle.std.proofs.Math.Seq.{slice};
 ghost use Rattle.octets.specs.Octets.{number_of};

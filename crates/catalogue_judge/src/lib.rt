@@ -1,4 +1,6 @@
 // The first bad entry of a catalogue of type names.
+#![tactic(auto)]
+
 ghost use Rattle.std.specs.Prelude.{suc, ◌≤◌, ◌<◌, min, ◌≡◌, false, cond, length, get_or, take, eqb};
 ghost use Rattle.std.proofs.Math.Seq.{slice};
 ghost use Rattle.format.specs.Lists.{any_of};

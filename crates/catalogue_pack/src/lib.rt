@@ -1,11 +1,13 @@
 // Lent entries of a catalogue as the numbers that the catalogue's rooms take: from parallel slices, and from a slice of structs.
+#![tactic(auto)]
+
 ghost use Rattle.std.specs.Prelude.{◌<◌, ◌≡◌, length, set};
 ghost use Rattle.catalogue_pack.specs.Place.{Rising, PlaceOf};
 ghost use Rattle.catalogue_pack.specs.Packed.{entry_of, entries_of, parallel, pack_of, Fitting, Packed};
 
 // A type number, and where its name lies in a lent text. 8 octets; C's struct extlang_entry.
 #[repr(C)]
-#[derive(Drop)]
+#[derive(Clone, Copy)]
 pub struct Entry {
     pub number: u32,
     pub start: u16,

@@ -1,4 +1,6 @@
 // Writers of decimal and hex digits, and of the octets of a number.
+#![tactic(auto)]
+
 ghost use Rattle.std.specs.Prelude.{◌≡◌, map, ◌-◌, ◌^◌, ◌<◌, ◌≤◌};
 ghost use Rattle.format.specs.Digits.{digits, lower_digit};
 ghost use Rattle.format.specs.Number.{decimal, fixed_decimal};

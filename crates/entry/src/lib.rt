@@ -1,4 +1,6 @@
 // The answers of the public entries, judging, and what printing and reading share.
+#![tactic(auto)]
+
 ghost use Rattle.std.specs.Prelude.{ℕ, ◌+◌, ◌-◌, ◌≤◌, ◌≡◌, ◌&&◌, List, leb};
 ghost use Rattle.format.specs.Stored.{Lent};
 ghost use Rattle.format.specs.Entries.{judge_of};
@@ -8,7 +10,7 @@ ghost use Rattle.entry.specs.Entries.{Replies, JudgePromise, JudgeStoredPromise,
 use stanza_judge::Outline;
 
 // An answer: 0 and a count, or a refusal's number and place.
-#[derive(Drop)]
+#[derive(Clone, Copy)]
 pub struct Reply {
     pub number: u32,
     pub place: u32,

@@ -1,5 +1,7 @@
 // Printing and reading with a lent catalogue whose entries are parallel slices: type numbers, and where each name starts in the
 // lent text and how long it is. There are as many entries as the shortest slice has.
+#![tactic(auto)]
+
 ghost use Rattle.entry.specs.Entries.{PrintWithPromise, ReadWithPromise};
 ghost use Rattle.catalogue_pack.specs.Packed.{parallel};
 

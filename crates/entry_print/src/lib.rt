@@ -1,4 +1,6 @@
 // Printing: the refusals in their order, and the text if there is room for it.
+#![tactic(auto)]
+
 ghost use Rattle.std.specs.Prelude.{ℕ, ◌+◌, ◌≤◌, ◌≡◌, true, List, length};
 ghost use Rattle.format.specs.Octets.{Octets};
 ghost use Rattle.format.specs.Entries.{done, of_catalogue};

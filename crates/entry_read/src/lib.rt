@@ -1,4 +1,6 @@
 // Reading: the refusals in their order, and the octets if there is room for them.
+#![tactic(auto)]
+
 ghost use Rattle.std.specs.Prelude.{◌≤◌, ◌≡◌, true, length};
 ghost use Rattle.format.specs.Name.{is_wire_name};
 ghost use Rattle.format.specs.Catalogue.{catalogued};

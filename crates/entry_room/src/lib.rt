@@ -1,4 +1,6 @@
 // Reads a text under a run of fields into a lent buffer, if there is room.
+#![tactic(auto)]
+
 ghost use Rattle.std.specs.Prelude.{◌-◌, ◌≤◌, ◌≡◌, true, length};
 ghost use Rattle.format.specs.Name.{is_wire_name};
 ghost use Rattle.stanza_form.specs.Code.{fields_of};

@@ -6,7 +6,7 @@ ghost use Rattle.format.specs.Token.{unescaped_from, slash, one_digit};
 ghost use Rattle.escape.specs.Escapes.{items_by, EndsWithin};
 
 // The octet of an escape and the place after it, or a fault.
-#[derive(Drop)]
+#[derive(Clone, Copy)]
 pub enum Escape {
     Fault,
     Octet(u8, usize),

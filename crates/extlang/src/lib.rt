@@ -1,4 +1,6 @@
 // The public entries for C.
+#![tactic(auto)]
+
 ghost use Rattle.std.specs.Prelude.{◌≤◌, length, take};
 ghost use Rattle.entry.specs.Entries.{JudgePromise, JudgeStoredPromise, PrintPromise, PrintWithPromise, PrintStoredPromise, ReadPromise, ReadWithPromise, ReadStoredPromise, unpacked};
 ghost use Rattle.catalogue.specs.Entries.{entries_at};

@@ -1,4 +1,6 @@
 // Reads one field from its tokens.
+#![tactic(auto)]
+
 pub mod value;
 
 ghost use Rattle.std.specs.Prelude.{ℕ, ◌^◌, ◌<◌, ◌≤◌, ◌≡◌, true, List, [], length, drop};
@@ -20,7 +22,7 @@ use tokens::{Next, next_token};
 
 // What a field makes of the tokens that are left: none is there; a rule is broken; or its octets are stored up to a place, and
 // the tokens from a place in the text on are left.
-#[derive(Drop)]
+#[derive(Clone, Copy)]
 pub enum FieldRead {
     Missing,
     Fault,

@@ -1,4 +1,6 @@
 // Takes one field off the wire, jumping by the lengths that it gives.
+#![tactic(auto)]
+
 ghost use Rattle.std.specs.Prelude.{ℕ, ◌-◌, ◌≤◌, length, ◌≡◌, false, List};
 ghost use Rattle.std.proofs.Math.Seq.{slice};
 ghost use Rattle.format.specs.Wire.{taken, count, label_length, to_the_end, string_count, window};
@@ -9,7 +11,7 @@ ghost use Rattle.field_wire.specs.Wire.{taken_in};
 use stanza_form::{Form, Shape};
 
 // What a field takes: octets are absent; one breaks its rule; or it takes a number of octets.
-#[derive(Drop)]
+#[derive(Clone, Copy)]
 pub enum Take {
     Missing,
     Fault,

@@ -1,6 +1,8 @@
 // The program: reads a job from standard input, and writes the line that answers each of its records. Nothing is answered before
 // all is read, and an input that could not be read is a bad job: what came before the failure may look like a whole one. Why a job
 // is bad is told on standard error.
+#![tactic(auto)]
+
 ghost use Rattle.std.specs.Prelude.{◌≤◌, length};
 ghost use Rattle.job.specs.Room.{Enough};
 

@@ -9,7 +9,7 @@ use job_form::lines::{Section, line_end, read_section};
 use job_form::origin::read_origin;
 
 // The first fault of a job: none; or the number of its line, from 1, and why. The number is 0 if no line is at fault.
-#[derive(Drop)]
+#[derive(Clone, Copy)]
 pub enum Fault {
     NoFault,
     At(u32, Reason),

@@ -13,7 +13,7 @@ use stanza_words::same;
 const DOTTED: usize = 65536;
 
 // See specs/Fault.antt.
-#[derive(Drop)]
+#[derive(Clone, Copy)]
 pub enum Reason {
     TooLong,
     NoCount,

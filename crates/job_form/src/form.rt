@@ -7,7 +7,7 @@ use crate::origin::read_origin;
 use buffer::Value;
 
 // Where a job's stanza stands, how many octets of the lent buffer its origin takes, and where its records begin.
-#[derive(Drop)]
+#[derive(Clone, Copy)]
 pub struct Places {
     pub from: usize,
     pub to: usize,
@@ -16,21 +16,21 @@ pub struct Places {
 }
 
 // The form of a job: it is broken; or the job's places.
-#[derive(Drop)]
+#[derive(Clone, Copy)]
 pub enum JobForm {
     Bad,
     Good(Places),
 }
 
 // The last section: none; or where its lines begin.
-#[derive(Drop)]
+#[derive(Clone, Copy)]
 enum Last {
     NoLast,
     From(usize),
 }
 
 // What follows the stanza: nothing that keeps the form; or the number of the origin's octets and where the records begin.
-#[derive(Drop)]
+#[derive(Clone, Copy)]
 enum Rest {
     NoRest,
     Found(usize, usize),

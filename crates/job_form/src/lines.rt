@@ -5,14 +5,14 @@ ghost use Rattle.job_form.specs.Lines.{NextLine, Skips, Sections};
 use octets::Number;
 
 // The answer to skipping lines: there are too few; or the place after them.
-#[derive(Drop)]
+#[derive(Clone, Copy)]
 pub enum Skipped {
     Short,
     To(usize),
 }
 
 // A section: none; or where its lines begin, the place after them, and their number.
-#[derive(Drop)]
+#[derive(Clone, Copy)]
 pub enum Section {
     Bad,
     Lines(usize, usize, u64),

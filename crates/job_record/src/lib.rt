@@ -1,4 +1,6 @@
 // Writes the line that answers a record of a job, whose stanza is judged once for all records.
+#![tactic(auto)]
+
 ghost use Rattle.std.specs.Prelude.{◌^◌, ◌≤◌, ◌<◌, length};
 ghost use Rattle.format.specs.Stored.{as_file};
 ghost use Rattle.stanza_judge.specs.Stanza.{Outlined};

@@ -1,4 +1,6 @@
 // Answers a job in turns: the stanza is judged once, and each turn writes the lines of as many records as there is room for.
+#![tactic(auto)]
+
 ghost use Rattle.std.specs.Prelude.{◌≤◌, ◌≡◌, true, length};
 ghost use Rattle.job_turns.specs.Job.{Begins, Turns};
 
@@ -12,7 +14,7 @@ use stanza_judge::Outline;
 const RDATA: usize = 65535;
 
 // A job: whether it keeps the form, its places, its origin, its judged stanza, and the codes of its fields.
-#[derive(Drop)]
+#[derive(Clone, Copy)]
 pub struct Job {
     pub good: bool,
     pub places: Places,
@@ -22,7 +24,7 @@ pub struct Job {
 }
 
 // A turn: how many octets it wrote, whether records are left, and where they begin.
-#[derive(Drop)]
+#[derive(Clone, Copy)]
 pub struct Turn {
     pub taken: usize,
     pub more: bool,

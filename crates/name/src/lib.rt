@@ -1,3 +1,5 @@
 // N: domain names.
+#![tactic(auto)]
+
 pub mod print;
 pub mod read;

@@ -10,7 +10,7 @@ use escape::read::Escape;
 
 // How a label ends: with a fault; at a dot, with the places after the dot in the text and after the label in the buffer; or at
 // the end of the text, with the place after the label in the buffer.
-#[derive(Drop)]
+#[derive(Clone, Copy)]
 enum LabelEnd {
     Fault,
     Dot(usize, usize),

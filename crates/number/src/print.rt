@@ -14,7 +14,7 @@ use octets::Class;
 use stanza_words::Found;
 
 // Where a symbol's name begins and ends, or nothing.
-#[derive(Drop)]
+#[derive(Clone, Copy)]
 pub enum Spelling {
     At(usize, usize),
     Nothing,

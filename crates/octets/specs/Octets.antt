@@ -7,7 +7,7 @@ use Rattle.format.specs.Lists.{span}
 use Rattle.format.specs.Octets.{blank, digit, letter, alphanumeric, name_octet, in_range}
 use Rattle.format.specs.Field.{Part}
 use Rattle.octets.specs.declared.Class.{Class}
-use Rattle.octets.specs.declared.Class.TheVariants.{NotNewline, Blank, Digit, Letter, Alphanumeric, NameOctet, NotBracket, NotComma, FreeText, NotBlank}
+use Rattle.octets.specs.declared.Class.TheVariants.{NotNewline, Blank, Digit, Letter, Alphanumeric, NameOctet, NotBracket, NotComma, FreeText}
 use Rattle.octets.specs.declared.Number.{Number}
 use Rattle.octets.specs.declared.Number.TheVariants.{Value, Fault}
 
@@ -22,7 +22,6 @@ in_class NameOctet x = name_octet x
 in_class NotBracket x = not (eqb x (code "]"))
 in_class NotComma x = not (eqb x (code ","))
 in_class FreeText x = in_range 0x20 0xFE x
-in_class NotBlank x = not (blank x)
 
 -- the end of the longest run of octets that pass the test, from i on and not past e
 abbrev pub front_end : (ℕ → Bool) → List ℕ → ℕ → ℕ → ℕ

@@ -1,4 +1,6 @@
 // Octets in a slice: their classes, the longest run of a class, and decimal numbers.
+#![tactic(auto)]
+
 pub mod integer;
 
 ghost use Rattle.std.specs.Prelude.{◌+◌, ◌-◌, ◌≤◌, length, leb, ◌&&◌, [], ◌∷◌, ◌≡◌};
@@ -10,7 +12,7 @@ ghost use Rattle.octets.specs.Octets.{in_class, line_end, first_or, number_of};
 ghost use Rattle.octets.specs.declared.Class.TheVariants.{NotNewline, FreeText};
 
 // The classes of octets in a stanza; see specs/Octets.antt.
-#[derive(Drop)]
+#[derive(Clone, Copy)]
 pub enum Class {
     NotNewline,
     Blank,
@@ -21,11 +23,10 @@ pub enum Class {
     NotBracket,
     NotComma,
     FreeText,
-    NotBlank,
 }
 
 // A decimal number, or none; see specs/Octets.antt.
-#[derive(Drop)]
+#[derive(Clone, Copy)]
 pub enum Number {
     Value(u64),
     Fault,
@@ -112,12 +113,6 @@ pub fn is_in(c: Class, b: u8) -> bool
                 return false;
             }
             b <= 254
-        }
-        Class::NotBlank => {
-            if b == b' ' {
-                return false;
-            }
-            b != b'\t'
         }
     }
 }

@@ -1,4 +1,6 @@
 // Whether two parts of a text are the same, found by sorting them.
+#![tactic(auto)]
+
 ghost use Rattle.std.specs.Prelude.{ℕ, ◌+◌, ◌≤◌, ◌<◌, length, drop, ◌≡◌, List, ◌++◌, map};
 ghost use Rattle.std.proofs.Math.Seq.{slice};
 ghost use Rattle.format.specs.Lists;
@@ -14,7 +16,7 @@ pub fn part(i: usize, e: usize) -> u32
 }
 
 // How two parts stand to one another.
-#[derive(Drop)]
+#[derive(Clone, Copy)]
 pub enum Order {
     Less,
     Same,

@@ -17,6 +17,8 @@
 // job writes for a JOB on its standard input. Octets are in hex of either case, '-' for none, and numbers decimal, of at most 64
 // bits; one space parts two words. A line that is no request, or has more than 2,200,000 octets, answers '?'. The last line may
 // lack its LF. If a read fails, the line that is not whole has no answer.
+#![tactic(auto)]
+
 ghost use Rattle.std.specs.Prelude.{◌≤◌, length};
 ghost use Rattle.probe_request.specs.Words.{Within};
 
@@ -43,7 +45,7 @@ const ROOM: usize = 2097176;
 const LINES: usize = 262148;
 
 // Between two reads: how many octets are kept of a line that is not whole yet, and whether answering goes on.
-#[derive(Drop)]
+#[derive(Clone, Copy)]
 struct State {
     kept: usize,
     going: bool,

@@ -1,4 +1,6 @@
 // Answers requests.
+#![tactic(auto)]
+
 pub mod entries;
 pub mod line;
 pub mod stored;

@@ -1,4 +1,6 @@
 // The request lines of the program probe, and their words.
+#![tactic(auto)]
+
 ghost use Rattle.std.specs.Prelude.{◌≡◌, false, cond, ◌-◌, ◌^◌, ◌<◌, ◌≤◌, min, length, take, drop};
 ghost use Rattle.std.proofs.Math.Seq.{slice};
 ghost use Rattle.format.specs.Octets.{among};
@@ -13,7 +15,7 @@ use buffer::{Value, least};
 const LONGEST: usize = 2200000;
 
 // Where a word stands in its line, or where the octets that it spells stand in a buffer.
-#[derive(Drop)]
+#[derive(Clone, Copy)]
 pub struct Span {
     pub from: usize,
     pub to: usize,
@@ -21,7 +23,7 @@ pub struct Span {
 
 // What a line asks for, by its letter, which is 0 if it is no request. A stored description and a job stand in the place of a
 // stanza; the entries of a catalogue are the octets of their word.
-#[derive(Drop)]
+#[derive(Clone, Copy)]
 pub struct Request {
     pub letter: u8,
     pub stored: bool,
@@ -37,7 +39,7 @@ pub struct Request {
 }
 
 // Where the octets that a word spells end in the buffer, and where the word ends.
-#[derive(Drop)]
+#[derive(Clone, Copy)]
 struct Spelled {
     good: bool,
     to: usize,
@@ -45,7 +47,7 @@ struct Spelled {
 }
 
 // The number that a word spells, and where the word ends.
-#[derive(Drop)]
+#[derive(Clone, Copy)]
 struct Count {
     good: bool,
     value: usize,
@@ -53,7 +55,7 @@ struct Count {
 }
 
 // The words of a request up to its run of fields, and where they end; the stanza's octets end at `to`.
-#[derive(Drop)]
+#[derive(Clone, Copy)]
 struct Run {
     good: bool,
     to: usize,
@@ -64,7 +66,7 @@ struct Run {
 }
 
 // The words of a catalogue, and where they end; its entries' octets end at `middle`, and its names' at `to`.
-#[derive(Drop)]
+#[derive(Clone, Copy)]
 struct Listed {
     good: bool,
     middle: usize,

@@ -44,7 +44,7 @@ fn named_type(t: &[u8], i: usize) -> bool
 }
 
 // The end of some digits, and their number.
-#[derive(Drop)]
+#[derive(Clone, Copy)]
 struct Digits {
     end: usize,
     value: u64,
@@ -72,7 +72,7 @@ fn five_digits(t: &[u8], i: usize) -> Digits
 }
 
 // A type at the front of some octets: its number and where its digits end; or `Other`, none that is recognized.
-#[derive(Drop)]
+#[derive(Clone, Copy)]
 pub enum Front {
     Other,
     Found(u64, usize),

@@ -1,4 +1,6 @@
 // Reads a run of fields from the tokens of a text.
+#![tactic(auto)]
+
 ghost use Rattle.std.specs.Prelude.{◌≤◌, ◌≡◌, true, length, drop};
 ghost use Rattle.format.specs.Lists.{null};
 ghost use Rattle.format.specs.Token.{tokens};
@@ -13,7 +15,7 @@ use field_read::FieldRead;
 use tokens::{Next, next_token};
 
 // What a run makes of a text: a refusal's number and place; or the number of its octets, 65,536 standing for any over 65,535.
-#[derive(Drop)]
+#[derive(Clone, Copy)]
 pub enum RunRead {
     Refused(u32, u32),
     Done(usize),

@@ -1,4 +1,6 @@
 // Takes a run of fields off the wire.
+#![tactic(auto)]
+
 ghost use Rattle.std.specs.Prelude.{ℕ, ◌+◌, ◌≤◌, List, length};
 ghost use Rattle.stanza_form.specs.Code.{fields_of};
 ghost use Rattle.run_wire.specs.Run.{kinds_from, Checks};
@@ -6,7 +8,7 @@ ghost use Rattle.run_wire.specs.Run.{kinds_from, Checks};
 use field_wire::Take;
 
 // What a run makes of RDATA: its fields take all of it; or a refusal's number and place.
-#[derive(Drop)]
+#[derive(Clone, Copy)]
 pub enum Checked {
     Good,
     Refused(u32, u32),

@@ -1,4 +1,6 @@
 // Whether a name occurs twice among qualifiers, and symbols that are recognized in one pass.
+#![tactic(auto)]
+
 ghost use Rattle.std.specs.Prelude.{◌-◌, ◌≤◌, ◌<◌, length, ◌≡◌, true, false};
 ghost use Rattle.std.proofs.Math.Seq.{slice};
 ghost use Rattle.stanza_words.specs.Qualifiers.{any_in, twice_in};
@@ -8,7 +10,7 @@ ghost use Rattle.stanza_words.specs.declared.Test.TheVariants.{NotSymbol};
 use stanza_words::begins_name;
 
 // What stands between commas: a symbol, with the end of its name, its own end and its number; or anything else.
-#[derive(Drop)]
+#[derive(Clone, Copy)]
 pub enum Piece {
     Other,
     Symbol(usize, usize, u64),

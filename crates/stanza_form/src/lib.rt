@@ -1,5 +1,7 @@
 // The forms of fields: the kinds of document 01 without their symbols. This room says what is true of each form: how it lies on
 // the wire, its number in a code, and the word of its type.
+#![tactic(auto)]
+
 ghost use Rattle.std.specs.Prelude.{◌+◌, ◌*◌, ◌≤◌, length, ◌≡◌, [], ◌∷◌};
 ghost use Rattle.std.proofs.Math.Seq.{slice};
 ghost use Rattle.format.specs.Octets.{same_octets};
@@ -9,7 +11,7 @@ ghost use Rattle.stanza_form.specs.Code.{field_with, field_at};
 
 // A form of field. The first three hold an octet: the number of octets of an integer or an EUI, or the marks C, A, L, O of a
 // name as 1, 2, 4, 8. The tails come last. In this order one comparison tells either group.
-#[derive(Drop)]
+#[derive(Clone, Copy)]
 pub enum Form {
     Int(u8),
     Eui(u8),
@@ -30,7 +32,7 @@ pub enum Form {
 }
 
 // A field of a description: its form, where its qualifiers lie, and, while the stanza is judged, where its free text lies.
-#[derive(Drop)]
+#[derive(Clone, Copy)]
 pub struct FieldDesc {
     pub form: Form,
     pub qualifiers_at: u16,
@@ -41,7 +43,7 @@ pub struct FieldDesc {
 
 // The shapes on the wire: a fixed number of octets; the labels of a name; a count and its octets; counted strings to the end;
 // octets to the end; the windows of a bitmap.
-#[derive(Drop)]
+#[derive(Clone, Copy)]
 pub enum Shape {
     Octets,
     Labels,
@@ -59,7 +61,7 @@ pub fn is_optional(marks: u8) -> bool
 }
 
 // The layout of a form: its shape, and the number of octets, the least count, or the marks of a name.
-#[derive(Drop)]
+#[derive(Clone, Copy)]
 pub struct Layout {
     pub shape: Shape,
     pub parameter: u8,
@@ -220,7 +222,7 @@ pub fn field(c: u64) -> FieldDesc
 }
 
 // A field type: unknown; an integer, which takes symbols; one that takes no qualifier; or R, N, S, X.
-#[derive(Drop)]
+#[derive(Clone, Copy)]
 pub enum FieldType {
     NoType,
     Int1,

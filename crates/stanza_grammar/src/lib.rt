@@ -1,4 +1,6 @@
 // The grammar of a header and of a field line, without that of its qualifiers.
+#![tactic(auto)]
+
 ghost use Rattle.std.specs.Prelude.{◌≤◌, length, ◌≡◌};
 ghost use Rattle.std.proofs.Math.Seq.{slice};
 ghost use Rattle.format.specs.Lists.{provided};
@@ -25,7 +27,7 @@ ghost use Rattle.stanza_grammar.specs.Parts.{
 use octets::{Class, Number};
 
 // A header: the end of its name, its number, and where its free text begins.
-#[derive(Drop)]
+#[derive(Clone, Copy)]
 pub struct HeaderShape {
     pub name_end: usize,
     pub number: u64,
@@ -33,14 +35,14 @@ pub struct HeaderShape {
 }
 
 // A line by the grammar of headers: no header, or one.
-#[derive(Drop)]
+#[derive(Clone, Copy)]
 pub enum HeaderLine {
     NoHeader,
     IsHeader(HeaderShape),
 }
 
 // A field line: the end of its type, its qualifiers (none if both places are equal), its name, and where its free text begins.
-#[derive(Drop)]
+#[derive(Clone, Copy)]
 pub struct FieldParts {
     pub type_end: usize,
     pub qualifiers_at: usize,
@@ -51,35 +53,35 @@ pub struct FieldParts {
 }
 
 // A line by the grammar of field lines: no field, or one.
-#[derive(Drop)]
+#[derive(Clone, Copy)]
 pub enum LineField {
     NoField,
     IsField(FieldParts),
 }
 
 // A place in a line, or none.
-#[derive(Drop)]
+#[derive(Clone, Copy)]
 enum Place {
     NoPlace,
     At(usize),
 }
 
 // The end of the digits and their number, or none.
-#[derive(Drop)]
+#[derive(Clone, Copy)]
 enum Digits {
     NoDigits,
     UpTo(usize, u64),
 }
 
 // Where the qualifiers begin and end (equal if there are none), and where the rest begins.
-#[derive(Drop)]
+#[derive(Clone, Copy)]
 enum Brackets {
     Unclosed,
     Between(usize, usize, usize),
 }
 
 // A field's name: broken, or from one place to another (equal if there is none).
-#[derive(Drop)]
+#[derive(Clone, Copy)]
 enum Named {
     Broken,
     From(usize, usize),
@@ -111,7 +113,7 @@ fn name_end(s: &[u8], at: usize, end: usize) -> Place
 }
 
 // Where the free text of a line begins that has nothing else from i on: after one blank, or at the end if there is none.
-pub fn text_start(i: usize, end: usize) -> usize
+fn text_start(i: usize, end: usize) -> usize
     requires { i ≤ end }
     ensures { (result ≡ text_start i end) × (i ≤ result) × (result ≤ end) }
 {

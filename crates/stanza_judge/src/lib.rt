@@ -1,4 +1,6 @@
 // The judge of a stanza, in a file or stored, and the description that it finds.
+#![tactic(auto)]
+
 ghost use Rattle.std.specs.Prelude.{◌≤◌, ◌<◌, ◌≡◌, false, length};
 ghost use Rattle.format.specs.Stored.{as_file};
 ghost use Rattle.stanza_judge.specs.Stanza.{end_in, Whole, Begins, begun, outline_at, OutlinedAs, Outlined};
@@ -6,7 +8,7 @@ ghost use Rattle.stanza_judge.specs.Stanza.{end_in, Whole, Begins, begun, outlin
 use stanza_line::Step;
 
 // A judged description: 0, or a refusal's number and line; and how many fields were described.
-#[derive(Drop)]
+#[derive(Clone, Copy)]
 pub struct Outline {
     pub number: u8,
     pub line: u16,

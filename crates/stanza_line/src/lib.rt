@@ -1,4 +1,6 @@
 // A line of a stanza: what it does, given the lines before it.
+#![tactic(auto)]
+
 ghost use Rattle.std.specs.Prelude.{◌≤◌, length, eqb, ◌≡◌, not, cond, ◌||◌, List};
 ghost use Rattle.std.proofs.Math.Seq.{slice};
 ghost use Rattle.format.specs.Field.{tail, Symbol};
@@ -16,7 +18,7 @@ use stanza_grammar::{FieldParts, HeaderLine, LineField};
 use stanza_types::Meant;
 
 // The header: where its name lies, the type's number, and where the free text lies.
-#[derive(Drop)]
+#[derive(Clone, Copy)]
 pub struct HeaderDesc {
     pub name_at: u16,
     pub name_end: u16,
@@ -26,14 +28,14 @@ pub struct HeaderDesc {
 }
 
 // The verdict on a header line: a refusal's number, or the header.
-#[derive(Drop)]
+#[derive(Clone, Copy)]
 pub enum HeaderVerdict {
     BadHeader(u8),
     GoodHeader(HeaderDesc),
 }
 
 // A field, and where its name lies.
-#[derive(Drop)]
+#[derive(Clone, Copy)]
 pub struct NewField {
     pub field: FieldDesc,
     pub name_at: u16,
@@ -41,14 +43,14 @@ pub struct NewField {
 }
 
 // The verdict on a field line: a refusal's number, or the field.
-#[derive(Drop)]
+#[derive(Clone, Copy)]
 pub enum FieldVerdict {
     BadField(u8),
     GoodField(NewField),
 }
 
 // What a line does: nothing, a refusal, the header, or one more field.
-#[derive(Drop)]
+#[derive(Clone, Copy)]
 pub enum Step {
     Skip,
     Refuse(u8),
@@ -215,7 +217,7 @@ pub fn line_step(
 }
 
 // Whether a line is ignored: it is blank, or its first nonblank, at i, is `#`.
-pub fn ignored(s: &[u8], i: usize, e: usize) -> bool
+fn ignored(s: &[u8], i: usize, e: usize) -> bool
     requires { (i ≤ e) × (e ≤ length s.now) }
     ensures { result ≡ Rattle.format.specs.Judge.ignored (slice i e s.now) }
 {

@@ -1,4 +1,6 @@
 // The judge of a stored description: counted strings stand for the lines of a stanza.
+#![tactic(auto)]
+
 ghost use Rattle.std.specs.Prelude.{◌≤◌, ◌≡◌, length};
 ghost use Rattle.std.proofs.Math.Seq.{slice};
 ghost use Rattle.format.specs.Octets.{same_octets};
@@ -9,7 +11,7 @@ ghost use Rattle.stanza_stored.specs.Stored.{Checked, Starts, lent_as};
 use stanza_judge::Outline;
 
 // What is known before any line is judged: a refusal's number and place, or where the first line begins.
-#[derive(Drop)]
+#[derive(Clone, Copy)]
 enum Start {
     Refused(u8, u16),
     Lines(usize),

@@ -1,4 +1,6 @@
 // What a type and its qualifiers mean.
+#![tactic(auto)]
+
 ghost use Rattle.std.specs.Prelude.{ℕ, ◌≤◌, ◌<◌, ◌^◌, length, ◌≡◌, List, []};
 ghost use Rattle.std.proofs.Math.Seq.{slice};
 ghost use Rattle.std.proofs.Math.Option.{none, some};
@@ -11,7 +13,7 @@ use stanza_form::{FieldType, Form};
 use stanza_words::{Test, Words};
 
 // What a type and its qualifiers mean: they break the grammar, are unknown or not allowed, or make a kind of field.
-#[derive(Drop)]
+#[derive(Clone, Copy)]
 pub enum Meant {
     Malformed,
     Unknown,
@@ -20,7 +22,7 @@ pub enum Meant {
 }
 
 // What one letter makes of a type: a kind of field; or `Other`, which the exact tests judge.
-#[derive(Drop)]
+#[derive(Clone, Copy)]
 enum ByLetter {
     Other,
     Makes(Form),

@@ -1,4 +1,6 @@
 // The qualifiers of a field line: their grammar, and the tests made of them.
+#![tactic(auto)]
+
 ghost use Rattle.std.specs.Prelude.{◌-◌, ◌≤◌, length, leb, eqb, ◌≡◌, ◌&&◌, cond, [], ◌∷◌};
 ghost use Rattle.std.proofs.Math.Seq.{slice};
 ghost use Rattle.std.proofs.Math.Option.{none, some};
@@ -9,7 +11,7 @@ ghost use Rattle.octets.specs.Octets.{part_in};
 ghost use Rattle.stanza_words.specs.Qualifiers.{found_in, words_for, holds_of, any_in, same_by};
 
 // What a qualifier is by the grammar: none; a word; or a symbol, with the end of its name and its number.
-#[derive(Drop)]
+#[derive(Clone, Copy)]
 pub enum Found {
     Bad,
     Word,
@@ -17,7 +19,7 @@ pub enum Found {
 }
 
 // The words that a type takes; see specs/Qualifiers.antt.
-#[derive(Drop)]
+#[derive(Clone, Copy)]
 pub enum Words {
     Nothing,
     OnR,
@@ -27,7 +29,7 @@ pub enum Words {
 }
 
 // A test of a qualifier; see specs/Qualifiers.antt.
-#[derive(Drop)]
+#[derive(Clone, Copy)]
 pub enum Test {
     Malformed,
     Unknown,

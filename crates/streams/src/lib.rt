@@ -4,6 +4,8 @@
 // Proved: what an answer of `libc::read` means (`told`); and that what a function here answers is what answers that libc's contract
 // allows make of it, each judged by `told` (`Once`, `Reading`). That these are the answers that came is seen in its few lines, and
 // tested: tests/faults makes each read and each write fail. libc's contract says nothing of the octets that a call moves.
+#![tactic(auto)]
+
 ghost use Rattle.std.specs.Prelude.{◌<◌, ◌≤◌, ◌≡◌, length};
 ghost use Rattle.streams.specs.Reading.{told, Once, Reading};
 
@@ -11,7 +13,7 @@ use buffer::least;
 use libc::{STDERR_FILENO, STDOUT_FILENO};
 
 // What one read did: it met the end of the input; it failed; or it took so many octets.
-#[derive(Drop)]
+#[derive(Clone, Copy)]
 pub enum Read {
     End,
     Failed,
@@ -20,7 +22,7 @@ pub enum Read {
 
 // What all reads did: one failed, and nothing is known of the input; or these first octets of the buffer are the input, or its
 // start if they fill the buffer.
-#[derive(Drop)]
+#[derive(Clone, Copy)]
 pub enum Input {
     Failed,
     Whole(usize),

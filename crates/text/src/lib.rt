@@ -1,3 +1,5 @@
 // S, S[M] and S[X]: strings of octets.
+#![tactic(auto)]
+
 pub mod print;
 pub mod read;

@@ -72,7 +72,7 @@ fn cycles(d: u64) -> u64
 }
 
 // A year, counted from 1970, and a day of that year.
-#[derive(Drop)]
+#[derive(Clone, Copy)]
 struct YearDay {
     year: u64,
     day: u64,
@@ -96,7 +96,7 @@ fn year_of(d: u64) -> YearDay
 }
 
 // A month, counted from January 1970, and a day of that month.
-#[derive(Drop)]
+#[derive(Clone, Copy)]
 struct Day {
     month: u64,
     day: u64,

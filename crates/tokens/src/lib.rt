@@ -1,4 +1,6 @@
 // The tokens of a text, one after another.
+#![tactic(auto)]
+
 ghost use Rattle.std.specs.Prelude.{◌+◌, ◌<◌, ◌≤◌, ◌≡◌, length, drop};
 ghost use Rattle.std.proofs.Math.Seq.{slice};
 ghost use Rattle.format.specs.Lists.{all_of};
@@ -10,7 +12,7 @@ use octets::Class;
 
 // The next token: none is left; a bare one from i to e; a quoted one, whose octets between the quotes stand from i to e; or one
 // with a fault inside.
-#[derive(Drop)]
+#[derive(Clone, Copy)]
 pub enum Next {
     End,
     Bare(usize, usize),
