@@ -1,5 +1,5 @@
 -- Runs of parts that rise, and how two of them are merged.
-use Prim.Native.Nat.{ℕ, suc, ◌+◌, ◌-◌, ◌≤◌, ◌<◌}
+use Prim.Native.Nat.{ℕ, ◌+◌, ◌≤◌, ◌<◌}
 use mathlib.Core.Path.{◌≡◌, refl, sym, ap, ◌∙◌}
 use mathlib.Core.Bool.{Bool, true, false, ◌||◌}
 use mathlib.Core.List.Permᴰ
@@ -40,12 +40,18 @@ module _ (g : Bool) (s : List ℕ) where
   any_perm f (Permᴰ.swap {a = a} {b = b} {l = l} e₁ e₂) = rw (← e₁, ← e₂) (or_swap (f (part_of s a)) (f (part_of s b)) (any_of f (map (part_of s) l)))
   any_perm f (Permᴰ.trans d e) = any_perm f d ∙ any_perm f e
 
+  twice_swap : (a b : ℕ) (l : List ℕ) → twice (same_by g) (map (part_of s) (a ∷ b ∷ l)) ≡ twice (same_by g) (map (part_of s) (b ∷ a ∷ l))
+  twice_swap a b l =
+      rw (same_sym g (part_of s b) (part_of s a))
+      (or_cross (same_by g (part_of s a) (part_of s b)) (any_of (same_by g (part_of s a)) (map (part_of s) l)) (any_of (same_by g (part_of s b)) (map (part_of s) l)) (twice (same_by g) (map (part_of s) l)))
+
   pub twice_perm : {xs ys : List ℕ} → Permᴰ xs ys → twice (same_by g) (map (part_of s) xs) ≡ twice (same_by g) (map (part_of s) ys)
   twice_perm Permᴰ.nil = refl
   twice_perm (Permᴰ.cons {b = b} e d) = rw (e, any_perm (same_by g (part_of s b)) d, twice_perm d)
-  twice_perm (Permᴰ.swap {a = a} {b = b} {l = l} e₁ e₂) =
-      rw (← e₁, ← e₂, same_sym g (part_of s b) (part_of s a))
-      (or_cross (same_by g (part_of s a) (part_of s b)) (any_of (same_by g (part_of s a)) (map (part_of s) l)) (any_of (same_by g (part_of s b)) (map (part_of s) l)) (twice (same_by g) (map (part_of s) l)))
+  twice_perm (Permᴰ.swap {a = a} {b = b} {a' = a'} {l = l} e₁ e₂) =
+      twice_swap a b l
+      ∙ ap (λ (x : ℕ). twice (same_by g) (map (part_of s) (x ∷ a ∷ l))) e₂
+      ∙ ap (λ (x : ℕ). twice (same_by g) (map (part_of s) (a' ∷ x ∷ l))) e₁
   twice_perm (Permᴰ.trans d e) = twice_perm d ∙ twice_perm e
 
   -- a part and a later one that is the same

@@ -16,6 +16,13 @@ use Rattle.format.specs.Catalogue.{TypeName}
 use Rattle.format.specs.Run.{got, no_token, read_field, one_bare, one_token}
 use Rattle.format.specs.Text.{read_string, read_raw}
 use Rattle.format.specs.Name.{read_name}
+use Rattle.format.specs.Number.{read_integer}
+use Rattle.format.specs.Catalogue.{read_type_in}
+use Rattle.format.specs.Address.{read_a, read_aa, read_aaaa}
+use Rattle.format.specs.Base.{read_base32}
+use Rattle.format.specs.Hex.{read_counted_hex}
+use Rattle.format.specs.Eui.{read_eui}
+use Rattle.format.specs.Time.{read_time}
 use Rattle.format.specs.Types.{Takes, symbols, words, TypeRow, has_word, name_kind, string_kind, type_rows, takes_of}
 use Rattle.format.proofs.Field.{is_bitmap}
 use Rattle.stanza_form.specs.declared.Form.{Form}
@@ -110,22 +117,22 @@ one_raw o (t ∷ ts) = refl
 -- a kind that takes one token reads it by its rule
 pub reads_one : (c : List TypeName) (k : Kind) → takes_one (rule_of c k) ≡ true → (o : List ℕ) (ts : List Token) → read_field c k o ts ≡ read_by (rule_of c k) o ts
 unfolding read_field
-reads_one c (int w l) h o ts = one_bare_lem _ o ts
-reads_one c rrtype h o ts = one_bare_lem _ o ts
+reads_one c (int w l) h o ts = one_bare_lem (λ o. read_integer w l) o ts
+reads_one c rrtype h o ts = one_bare_lem (λ o. read_type_in c) o ts
 reads_one c bitmap h o ts = absurd (true≢false (sym h))
-reads_one c a4 h o ts = one_bare_lem _ o ts
-reads_one c aa h o ts = one_bare_lem _ o ts
-reads_one c aaaa h o ts = one_bare_lem _ o ts
+reads_one c a4 h o ts = one_bare_lem (λ o. read_a) o ts
+reads_one c aa h o ts = one_bare_lem (λ o. read_aa) o ts
+reads_one c aaaa h o ts = one_bare_lem (λ o. read_aaaa) o ts
 reads_one c (name m) h o ts = one_name m.optional o ts
 reads_one c str h o ts = one_string o ts
 reads_one c strs h o ts = absurd (true≢false (sym h))
 reads_one c raw h o ts = one_raw o ts
-reads_one c b32 h o ts = one_bare_lem _ o ts
+reads_one c b32 h o ts = one_bare_lem (λ o. read_base32) o ts
 reads_one c b64 h o ts = absurd (true≢false (sym h))
 reads_one c hex h o ts = absurd (true≢false (sym h))
-reads_one c hexc h o ts = one_bare_lem _ o ts
-reads_one c (eui w) h o ts = one_bare_lem _ o ts
-reads_one c time h o ts = one_bare_lem _ o ts
+reads_one c hexc h o ts = one_bare_lem (λ o. read_counted_hex) o ts
+reads_one c (eui w) h o ts = one_bare_lem (λ o. read_eui w) o ts
+reads_one c time h o ts = one_bare_lem (λ o. read_time) o ts
 
 -- the tags of the forms, but one
 abbrev skipping : ℕ → List ℕ → List ℕ

@@ -166,6 +166,7 @@ fn held_by(f: Form) -> u8
 }
 
 // The form with the number n, which holds `held`.
+#[tactic(auto, unfolding(crate::specs::Forms::form_at))]
 fn form_at(n: u8, held: u8) -> Form
     ensures { result ≡ form_at n held }
 {

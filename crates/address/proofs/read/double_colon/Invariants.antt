@@ -1,0 +1,12 @@
+use Prim.Native.Nat.{◌-◌, ◌≤◌}
+use mathlib.Core.Path.{sym, ◌∙◌}
+use Rattle.address.proofs.Doubled.{Passed, passed_none, passed_on, passed_found, passed_all}
+use borrow.Author.Rules.{rules}
+use Rattle.address.proofs.read.double_colon.Given as goal
+
+-- No double colon begins before j: the first one from j on is the first one of the whole text.
+abbrev pub invariant-loop-j : goal.invariant-loop-j
+invariant-loop-j l = (l.i ≤ l.j) × (l.j ≤ l.e) × Passed l.t l.i l.e l.j
+
+abbrev pub decreases-loop-j : goal.decreases-loop-j
+decreases-loop-j l = l.e - l.j

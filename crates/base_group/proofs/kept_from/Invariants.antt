@@ -1,0 +1,16 @@
+use mathlib.Core.Path.{sym}
+use borrow.Author.Tests.{eq-eqb, ne_eqb}
+use Rattle.octets.proofs.Slices.{front_on, front_off, front_end_lem}
+use Rattle.base_group.specs.Group.{left_out, kept_from}
+use mathlib.Core.Path.{◌≡◌, refl}
+use Prim.Native.Nat.{◌≤◌, ◌-◌}
+use mathlib.Core.Path.{◌∙◌}
+use borrow.Author.Rules.{rules}
+use Rattle.base_group.proofs.kept_from.Given as goal
+
+-- The octets from i to j are left out: the first place kept from j on is the first one kept from i on.
+abbrev pub invariant-loop-j : goal.invariant-loop-j
+invariant-loop-j l = (l.i ≤ l.j) × (l.j ≤ l.e) × (kept_from l.alphabet l.skip l.t l.j l.e ≡ kept_from l.alphabet l.skip l.t l.i l.e)
+
+abbrev pub decreases-loop-j : goal.decreases-loop-j
+decreases-loop-j l = l.e - l.j

@@ -1,0 +1,8 @@
+use Rattle.base_group.specs.Group.{letters}
+use borrow.Author.Rules.{rules}
+use Rattle.base_group.proofs.lettered.Goals as goal
+
+pub returns : goal.returns
+unfolding letters
+returns c =
+    c.octets.ensures

@@ -1,0 +1,13 @@
+use Rattle.base_group.proofs.Bits.{power_on, power_small, power_end}
+use mathlib.Core.Path.{◌≡◌, refl}
+use Prim.Native.Nat.{◌≤◌, ◌^◌, ◌-◌}
+use native.Mathlib.Omega.{arith}
+use borrow.Author.Rules.{rules}
+use Rattle.base_group.proofs.power.Given as goal
+
+-- p is 2 to the power k.
+abbrev pub invariant-loop-k : goal.invariant-loop-k
+invariant-loop-k l = (l.k ≤ l.z) × (l.p ≡ 2 ^ l.k)
+
+abbrev pub decreases-loop-k : goal.decreases-loop-k
+decreases-loop-k l = l.z - l.k

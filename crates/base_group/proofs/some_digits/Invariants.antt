@@ -1,0 +1,13 @@
+use Rattle.base_group.proofs.GroupDigits.{Taking, taking_none, taking_room, taking_next, taken}
+use mathlib.Core.Path.{subst}
+use Prim.Native.Nat.{◌≤◌, ◌-◌}
+use native.Mathlib.Omega.{arith}
+use borrow.Author.Rules.{rules}
+use Rattle.base_group.proofs.some_digits.Given as goal
+
+-- From i to j there are q digits, which make v; the octet at j, if there is one, is not left out.
+abbrev pub invariant-loop-q : goal.invariant-loop-q
+invariant-loop-q l = (l.q ≤ l.k) × Taking l.alphabet l.skip l.base l.t l.e l.i l.q l.v l.j
+
+abbrev pub decreases-loop-q : goal.decreases-loop-q
+decreases-loop-q l = l.k - l.q

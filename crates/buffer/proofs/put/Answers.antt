@@ -1,0 +1,7 @@
+use lib.Seq.{set_out}
+use mathlib.Core.Path.{sym}
+use borrow.Author.Rules.{rules}
+use Rattle.buffer.proofs.put.Goals as goal
+
+pub returns-else-i-out : goal.returns-else-i-out
+returns-else-i-out c = sym (set_out _ _ _ c.if-i-out.false)

@@ -1,0 +1,14 @@
+use Prim.Native.Nat.{◌-◌, ◌≤◌}
+use mathlib.Core.Path.{◌≡◌, refl, ◌∙◌}
+use lib.ListN.{length, get_or, length-set}
+use Rattle.catalogue_judge.proofs.Fronts.{Going, no_number, a_number, going_none, going_low, going_bad, going_on}
+use native.Mathlib.Omega.{arith}
+use borrow.Author.Rules.{rules}
+use Rattle.catalogue_judge.proofs.front_by.Given as goal
+
+-- The first i entries are good in themselves, and they rise up to `low`.
+abbrev pub invariant-loop-i : goal.invariant-loop-i
+invariant-loop-i l = (l.i ≤ l.n) × (length l.hashes ≡ length l.initial.hashes) × Going l.names l.entries l.hashes l.low l.i
+
+abbrev pub decreases-loop-i : goal.decreases-loop-i
+decreases-loop-i l = l.n - l.i

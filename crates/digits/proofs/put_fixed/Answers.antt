@@ -1,0 +1,22 @@
+use Rattle.digits.proofs.Decimal.{last_stored, all_stored}
+use Rattle.format.specs.Number.{fixed_decimal}
+use lib.Seq.{sets}
+use lib.ListN.{length}
+use mathlib.Core.Path.{◌≡◌, refl, ◌∙◌}
+use Prim.Native.Nat.{◌≤◌}
+use borrow.Author.Rules.{rules}
+use Rattle.digits.proofs.put_fixed.Goals as goal
+
+pub loop-k-init : goal.loop-k-init
+loop-k-init c = (search rules, refl, refl)
+
+pub loop-k-preserved : goal.loop-k-preserved
+loop-k-preserved c = (
+  search rules,
+  last_stored _ _ c.args.at c.loop-k.k c.loop-k.x c.loop-k-test.true c.put.ensures ∙ c.loop-k.invariant.1,
+  search rules,
+)
+
+pub returns : goal.returns
+returns c =
+    all_stored _ _ _ c.args.w _ c.loop-k.k c.loop-k.x c.loop-k-test.false c.loop-k.invariant.1

@@ -1,0 +1,12 @@
+use Rattle.escape.proofs.Escapes.{digit_low, digit_high, digit_between}
+use borrow.Author.Rules.{rules}
+use Rattle.escape.proofs.read.digit_value.Goals as goal
+
+pub returns-then-b-lt48 : goal.returns-then-b-lt48
+returns-then-b-lt48 c = digit_low _ c.if-b-lt48.true
+
+pub returns-then-b-gt57 : goal.returns-then-b-gt57
+returns-then-b-gt57 c = digit_high _ c.if-b-lt48.false c.if-b-gt57.true
+
+pub returns : goal.returns
+returns c = digit_between _ c.if-b-lt48.false c.if-b-gt57.false

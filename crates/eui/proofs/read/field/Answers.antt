@@ -1,0 +1,8 @@
+use lib.Seq.{slice}
+use Rattle.address.proofs.Addresses.{eui_parts}
+use borrow.Author.Rules.{rules}
+use Rattle.eui.proofs.read.field.Goals as goal
+
+pub returns : goal.returns
+returns c =
+    rw (eui_parts c.args.w (slice c.args.i c.args.e c.args.t.now)) at c.parts.ensures

@@ -1,0 +1,24 @@
+use mathlib.Core.Path.{refl}
+use Prim.Native.Nat.{◌+◌}
+use native.Mathlib.Omega.{arith}
+use borrow.Author.Rules.{rules}
+use Rattle.octets.proofs.integer.two.Goals as goal
+
+pub overflow_cast-hi : goal.overflow_cast-hi
+overflow_cast-hi c = omega (arith, c.type_inv.p c.args.i)
+
+pub overflow_cast-lo : goal.overflow_cast-lo
+overflow_cast-lo c =
+    omega (arith, c.type_inv.p (c.args.i + 1))
+
+pub overflow_mul-result : goal.overflow_mul-result
+overflow_mul-result c =
+    omega (arith, c.shared_slice_known-1.given c.args.i)
+
+pub overflow_add-result : goal.overflow_add-result
+overflow_add-result c =
+    omega (arith, c.shared_slice_known-1.given c.args.i, c.shared_slice_known-2-1.given (c.args.i + 1))
+
+pub returns : goal.returns
+returns c =
+    (refl, omega (arith, c.shared_slice_known-1.given c.args.i, c.shared_slice_known-2-1.given (c.args.i + 1)))

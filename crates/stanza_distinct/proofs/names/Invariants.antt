@@ -1,0 +1,16 @@
+use Prim.Native.Nat.{◌+◌, ◌-◌, ◌≤◌}
+use mathlib.Core.Path.{◌≡◌, refl}
+use lib.ListN.{length, length-set}
+use Rattle.stanza_words.proofs.Laws.{within, name_within}
+use Rattle.stanza_distinct.proofs.Stored.{Naming, names_next, names_last}
+use native.Mathlib.Omega.{arith}
+use borrow.Author.Rules.{rules}
+use Rattle.stanza_distinct.proofs.names.Given as goal
+
+-- The first n parts of the lists and the names from i to b are the names from a to b.
+abbrev pub invariant-loop-a : goal.invariant-loop-a
+invariant-loop-a l =
+    (l.i ≤ l.b) × (l.n + l.a ≤ l.i) × (length l.list ≡ length l.initial.list) × (length l.other ≡ length l.initial.other) × Naming l.s l.a l.b l.list l.other l.n l.i
+
+abbrev pub decreases-loop-a : goal.decreases-loop-a
+decreases-loop-a l = l.b - l.i

@@ -1,0 +1,7 @@
+use Rattle.stanza_form.proofs.Forms.{form_again}
+use borrow.Author.Rules.{rules}
+use Rattle.stanza_form.proofs.code.Goals as goal
+
+pub returns : goal.returns
+returns c =
+    rw (c.together.ensures, c.held_by-held.ensures, c.number_of-n.ensures, form_again c.args.form)

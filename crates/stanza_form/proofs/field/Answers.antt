@@ -1,0 +1,5 @@
+use borrow.Author.Rules.{rules}
+use Rattle.stanza_form.proofs.field.Goals as goal
+
+pub returns : goal.returns
+returns c = rw c.form_at.ensures

@@ -1,0 +1,26 @@
+use Rattle.stanza_judge.proofs.Outlines.{Judging, no_header, judging_start, line_begins, line_count_lem, line_within, turn_less, turn_skip, turn_head}
+use Rattle.stanza_judge.proofs.Outlines.{add_room, turn_add, turn_refuse, judging_end}
+use Rattle.stanza_judge.specs.Stanza.{begun}
+use Rattle.stanza_form.specs.Code.{fields_of}
+use Rattle.stanza_form.proofs.Codes.{without_texts, codes_many, coded_start, coded_more}
+use Rattle.stanza_form.specs.declared.FieldDesc.{FieldDesc}
+use Rattle.stanza_line.specs.declared.HeaderDesc.{HeaderDesc}
+use mathlib.Core.Path.{◌≡◌, ◌∙◌}
+use mathlib.Core.List.{List}
+use lib.ListN.{length}
+use Prim.Native.Nat.{◌+◌, ◌-◌}
+use native.Mathlib.Omega.{arith}
+use borrow.Author.Rules.{rules}
+use Rattle.stanza_judge.proofs.judged_lines.Given as goal
+
+-- If nothing is refused so far, judging the lines from `at` on gives the verdict on all lines; else the refusal is that
+-- verdict. The codes are those of the fields found so far.
+abbrev pub invariant-loop-at : goal.invariant-loop-at
+invariant-loop-at l =
+    (h : HeaderDesc) × (fs : List FieldDesc)
+    × Judging l.in_file (begun l.in_file l.s l.first l.before) l.s h fs l.names l.ends l.n l.header_seen l.tail_seen l.number l.place l.at l.line
+    × (fields_of l.codes ≡ without_texts fs)
+
+abbrev pub decreases-loop-at : goal.decreases-loop-at
+decreases-loop-at l =
+    length l.s + 1 - l.at

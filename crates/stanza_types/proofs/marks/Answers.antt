@@ -1,0 +1,6 @@
+use borrow.Author.Rules.{rules}
+use Rattle.stanza_types.proofs.marks.Goals as goal
+
+pub returns : goal.returns
+returns c =
+    rw (c.mark.ensures, c.mark-2.ensures, c.mark-3.ensures, c.mark-4.ensures)

@@ -1,0 +1,27 @@
+use Rattle.octets.proofs.Blocks.{all_next, all_none}
+use Rattle.text.specs.Plain.{plain_text}
+use Rattle.format.specs.Lists.{all_of}
+use lib.Seq.{slice}
+use mathlib.Core.Bool.{◌&&◌}
+use mathlib.Core.Path.{◌≡◌, sym, ◌∙◌}
+use Prim.Native.Nat.{◌+◌, ◌-◌, ◌≤◌}
+use native.Mathlib.Omega.{arith}
+use borrow.Author.Rules.{rules}
+use Rattle.text.proofs.print.all_plain.Goals as goal
+
+pub loop-k-init : goal.loop-k-init
+loop-k-init c = (search rules, let z : c.args.i + 0 ≡ c.args.i = omega arith in rw z)
+
+pub loop-k-preserved : goal.loop-k-preserved
+loop-k-preserved c = (
+  search rules,
+  let z : c.args.i + (c.loop-k.k + 1) ≡ c.args.i + c.loop-k.k + 1 = omega arith in
+      rw (z, c.is_plain-all.ensures)
+      (all_next plain_text c.args.p.now (c.args.i + c.loop-k.k) (c.args.i + 32) c.loop-k.all (omega arith) c.requires
+      ∙ c.loop-k.invariant.1),
+)
+
+pub returns : goal.returns
+returns c =
+    sym (all_none plain_text c.args.p.now (c.args.i + c.loop-k.k) (c.args.i + 32) c.loop-k.all (omega arith))
+    ∙ c.loop-k.invariant.1

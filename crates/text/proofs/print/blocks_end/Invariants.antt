@@ -1,0 +1,15 @@
+use Rattle.text.specs.Plain.{plain_text}
+use Rattle.octets.proofs.Blocks.{all_front}
+use Rattle.text.specs.Plain.{plain_end}
+use mathlib.Core.Path.{◌≡◌, refl, ◌∙◌}
+use Prim.Native.Nat.{◌+◌, ◌-◌, ◌≤◌}
+use native.Mathlib.Omega.{arith}
+use borrow.Author.Rules.{rules}
+use Rattle.text.proofs.print.blocks_end.Given as goal
+
+-- The octets from i to j stand for themselves: the run from j on ends where the run from i does.
+abbrev pub invariant-loop-j : goal.invariant-loop-j
+invariant-loop-j l = (l.i ≤ l.j) × (l.j ≤ l.e) × (plain_end l.p l.j l.e ≡ plain_end l.p l.i l.e)
+
+abbrev pub decreases-loop-j : goal.decreases-loop-j
+decreases-loop-j l = l.e - l.j

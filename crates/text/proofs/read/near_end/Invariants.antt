@@ -1,0 +1,15 @@
+use Prim.Native.Nat.{◌-◌, ◌≤◌}
+use mathlib.Core.Path.{◌≡◌, refl, ◌∙◌}
+use Rattle.escape.specs.Escapes.{no_escape}
+use Rattle.text.specs.Text.{plain_end}
+use Rattle.octets.proofs.Slices.{front_on, front_off, front_end_lem}
+use borrow.Author.Tests.{eq-eqb, ne_eqb}
+use borrow.Author.Rules.{rules}
+use Rattle.text.proofs.read.near_end.Given as goal
+
+-- No octet from i to j begins an escape: the run from j on ends where the run from i does.
+abbrev pub invariant-loop-j : goal.invariant-loop-j
+invariant-loop-j l = (l.j ≤ l.e) × (plain_end l.t l.j l.e ≡ plain_end l.t l.i l.e)
+
+abbrev pub decreases-loop-j : goal.decreases-loop-j
+decreases-loop-j l = l.e - l.j

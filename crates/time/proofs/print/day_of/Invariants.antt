@@ -1,0 +1,15 @@
+use Prim.Native.Nat.{◌+◌, ◌*◌, ◌≤◌, ◌<◌}
+use mathlib.Core.Path.{◌≡◌, ap, sym}
+use Rattle.format.specs.Time.{Day, month_days, days_before}
+use Rattle.time.proofs.Days.{month_below, month_here, month_next, month_more, day_is}
+use native.Mathlib.Omega.{arith}
+use borrow.Author.Rules.{rules}
+use Rattle.time.proofs.print.day_of.Given as goal
+
+-- m whole months of the year are taken off, and `left` days remain: day d is that many days after the first of month m.
+abbrev pub invariant-loop-days : goal.invariant-loop-days
+invariant-loop-days l =
+    (l.days ≡ month_days l.leap_year l.m) × (28 ≤ l.days) × (l.days ≤ 31) × (l.m < 12) × (days_before (l.first + l.m) + l.left ≡ l.d)
+
+abbrev pub decreases-loop-days : goal.decreases-loop-days
+decreases-loop-days l = l.left

@@ -1,0 +1,32 @@
+use Prim.Native.Nat.{◌-◌}
+use mathlib.Core.Path.{sym, ◌∙◌}
+use lib.ListN.{length, drop}
+use Rattle.tokens.specs.Tokens.{standing}
+use Rattle.tokens.proofs.Scans.{Kept, Stopped, kept_none, kept_run, front_stops, kept_escape, escape_within, token_ended, token_from}
+use native.Mathlib.Omega.{arith}
+use borrow.Author.Rules.{rules}
+use Rattle.tokens.proofs.token.Goals as goal
+
+pub loop-j-init : goal.loop-j-init
+loop-j-init c =
+    (kept_run _ _ _ _ _ c.skip-j.ensures (kept_none _ _ _ c.requires.0), front_stops _ _ _ _ c.requires.0 c.skip-j.ensures)
+
+pub skip-j-requires-in-loop-j : goal.skip-j-requires-in-loop-j
+skip-j-requires-in-loop-j c =
+    escape_within c.args.t.now c.loop-j.j (sym c.escape_at.ensures ∙ c.loop-j-test.true)
+
+pub loop-j-smaller : goal.loop-j-smaller
+loop-j-smaller c =
+    omega (arith, c.skip-j-in-loop-j.ensures, escape_within c.args.t.now c.loop-j.j (sym c.escape_at.ensures ∙ c.loop-j-test.true))
+
+pub loop-j-preserved : goal.loop-j-preserved
+loop-j-preserved c =
+    let k = kept_escape _ _ _ _ c.loop-j.invariant.0 c.requires.1 (sym c.escape_at.ensures ∙ c.loop-j-test.true) in
+    (kept_run _ _ _ _ _ c.skip-j-in-loop-j.ensures k, front_stops _ _ _ _ k.within c.skip-j-in-loop-j.ensures)
+
+pub returns : goal.returns
+returns c =
+    rw c.ended.ensures (
+      token_ended _ _ _ _ c.requires.1 c.loop-j.invariant.0 c.loop-j.invariant.1 (sym c.escape_at.ensures ∙ c.loop-j-test.false),
+      token_from _ _ _ _ c.loop-j.invariant.0,
+    )
