@@ -1,4 +1,4 @@
-//! Links the static library that `rt staticlib extlang` wrote, and the peers
+//! Links the static library that `tools/build extlang` wrote, and the peers
 //! whose Debian packages are installed.
 
 use std::path::Path;

@@ -1,7 +1,7 @@
 /*
  * The library called from C: door timings under a description of their own.
  *
- * After `rt staticlib extlang`, at the root of the repository:
+ * After `tools/build extlang`, at the root of the repository:
  *
  *     cc -Wall -Wextra -Iinclude examples/door.c target/staticlib/libextlang.a -o target/door && target/door
  */

@@ -1,6 +1,6 @@
 //! The library called from Rust: door timings under a description of their own.
 //!
-//! After `rt staticlib extlang`, at the root of the repository:
+//! After `tools/build extlang`, at the root of the repository:
 //!
 //!     rustc --edition 2021 -L target/staticlib -l static=extlang -o target/door_rs examples/door.rs && target/door_rs
 

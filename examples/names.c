@@ -1,7 +1,7 @@
 /*
  * Types by the names that people know: a catalogue lent to the library from C.
  *
- * After `rt staticlib extlang`, at the root of the repository:
+ * After `tools/build extlang`, at the root of the repository:
  *
  *     cc -Wall -Wextra -Iinclude examples/names.c target/staticlib/libextlang.a -o target/names && target/names
  */

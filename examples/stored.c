@@ -1,7 +1,7 @@
 /*
  * A description as the DNS stores it, lent to the library from C: from the RDATA of a TXT record to a printed door timing.
  *
- * After `rt staticlib extlang`, at the root of the repository:
+ * After `tools/build extlang`, at the root of the repository:
  *
  *     cc -Wall -Wextra -Iinclude examples/stored.c target/staticlib/libextlang.a -o target/stored && target/stored
  */

@@ -1,7 +1,7 @@
 /*
  * extlang: record descriptions in the DNS extension language.
  *
- * Link with libextlang.a, which `rt staticlib extlang` writes to target/staticlib.
+ * Link with libextlang.a, which `tools/build extlang` writes to target/staticlib.
  *
  * A function takes a part of memory as a pointer and a count: of octets, but for
  * the entries of a catalogue, whose count is of entries and whose pointer is
