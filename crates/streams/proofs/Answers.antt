@@ -11,7 +11,6 @@ use mir.Syntax.{w64}
 use mir.Val.{Fits, SFits, of_z, to_z}
 use mir.Facts.{to_z-of_z}
 use Rattle.libc.specs.Io.{Moved}
-use Rattle.streams.specs.declared.Read.{Read}
 use Rattle.streams.specs.declared.Read.TheVariants.{End, Failed, Got}
 use Rattle.streams.specs.Reading.{told}
 

@@ -1,9 +1,7 @@
 use Rattle.entry.proofs.Runs.{run_test}
 use borrow.Author.Tests.{lt-leb, le-leb}
-use mathlib.Core.Path.{◌≡◌, refl}
 use Prim.Native.Nat.{◌+◌, ◌-◌}
 use native.Mathlib.Omega.{arith}
-use borrow.Author.Rules.{rules}
 use Rattle.entry.proofs.is_run.Goals as goal
 
 pub returns-then-first-lt1 : goal.returns-then-first-lt1

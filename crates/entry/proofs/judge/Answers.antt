@@ -1,6 +1,5 @@
 use Rattle.format.specs.Stored.{as_file}
 use Rattle.entry.proofs.Laws.{accepted_count}
-use borrow.Author.Rules.{rules}
 use Rattle.entry.proofs.judge.Goals as goal
 
 pub replied-requires : goal.replied-requires

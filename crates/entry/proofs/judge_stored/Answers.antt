@@ -1,6 +1,5 @@
 use Rattle.format.specs.Stored.{as_stored}
 use Rattle.entry.proofs.Laws.{accepted_count}
-use borrow.Author.Rules.{rules}
 use Rattle.entry.proofs.judge_stored.Goals as goal
 
 pub replied-requires : goal.replied-requires

@@ -1,6 +1,5 @@
 use Rattle.entry.proofs.Laws.{accepted_replies, refused_replies}
 use native.Mathlib.Omega.{arith}
-use borrow.Author.Rules.{rules}
 use Rattle.entry.proofs.replied.Goals as goal
 
 pub overflow_cast-outline : goal.overflow_cast-outline

@@ -6,7 +6,6 @@ use Rattle.buffer.proofs.Laws.{measured}
 use mathlib.Core.Path.{refl}
 use Rattle.stanza_form.specs.Code.{fields_of}
 use native.Mathlib.Omega.{arith}
-use borrow.Author.Rules.{rules}
 use Rattle.entry_print.proofs.needed.Goals as goal
 
 pub returns-then-surely_fits : goal.returns-then-surely_fits

@@ -5,9 +5,8 @@ use Rattle.entry.proofs.Rooms.{leaves_refused}
 use Rattle.entry.proofs.Laws.{accepted}
 use Rattle.format.specs.Entries.{print_of}
 use Rattle.stanza_stored.specs.Stored.{lent_as}
-use mathlib.Core.Path.{refl, sym, ◌∙◌}
+use mathlib.Core.Path.{sym, ◌∙◌}
 use native.Mathlib.Omega.{arith}
-use borrow.Author.Rules.{rules}
 use Rattle.entry_print.proofs.print_lent.Goals as goal
 
 pub returns-then-rdata-gt65535 : goal.returns-then-rdata-gt65535

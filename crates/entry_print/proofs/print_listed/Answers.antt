@@ -1,8 +1,6 @@
 use mathlib.Core.Path.{refl}
-use native.Mathlib.Omega.{arith}
 use Rattle.catalogue_judge.proofs.Answers.{good_verdict, bad_verdict}
 use Rattle.entry.proofs.Rooms.{leaves_refused}
-use borrow.Author.Rules.{rules}
 use Rattle.entry_print.proofs.print_listed.Goals as goal
 
 pub returns-then-bad-gt0 : goal.returns-then-bad-gt0

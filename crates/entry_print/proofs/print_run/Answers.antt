@@ -1,9 +1,8 @@
 use Rattle.entry.proofs.Rooms.{leaves_refused}
 use Rattle.entry_print.proofs.Printings.{text_answer, no_answer}
 use Rattle.run_wire.specs.Run.{kinds_from, Checks}
-use mathlib.Core.Path.{refl, subst}
+use mathlib.Core.Path.{subst}
 use Rattle.stanza_form.specs.Code.{fields_of}
-use borrow.Author.Rules.{rules}
 use Rattle.entry_print.proofs.print_run.Goals as goal
 
 pub put_text-requires : goal.put_text-requires

@@ -2,10 +2,8 @@ use Rattle.catalogue.specs.Entries.{names_of}
 use Rattle.entry.proofs.Rooms.{leaves_done, leaves_measured}
 use Rattle.run_wire.specs.Run.{kinds_from}
 use Rattle.format.specs.Run.{text_of}
-use mathlib.Core.Path.{refl}
 use Rattle.stanza_form.specs.Code.{fields_of}
 use native.Mathlib.Omega.{arith}
-use borrow.Author.Rules.{rules}
 use Rattle.entry_print.proofs.put_text.Goals as goal
 
 pub overflow_cast-need : goal.overflow_cast-need

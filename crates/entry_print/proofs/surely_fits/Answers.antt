@@ -1,11 +1,10 @@
 use Rattle.entry_print.proofs.Printings.{surely}
-use mathlib.Core.Bool.{false, true≢false}
+use mathlib.Core.Bool.{false}
 use mathlib.Core.Path.{◌≡◌, refl, sym, ap, ◌∙◌}
 use Rattle.stanza_form.proofs.Forms.{is_windows, shaped}
 use Rattle.stanza_form.specs.Code.{fields_of}
 use Rattle.stanza_form.proofs.Codes.{read_at}
 use native.Mathlib.Omega.{arith}
-use borrow.Author.Rules.{rules}
 use Rattle.stanza_form.specs.declared.Shape.{Shape}
 use Rattle.stanza_form.specs.declared.Shape.TheVariants.{Octets, Labels, Counted, Strings, Rest, Windows}
 use Rattle.entry_print.proofs.surely_fits.Goals as goal

@@ -1,7 +1,4 @@
-use mathlib.Core.Path.{sym, ap, ◌∙◌}
 use Rattle.entry_read.proofs.Readings.{whole_name}
-use native.Mathlib.Omega.{arith}
-use borrow.Author.Rules.{rules}
 use Rattle.entry_read.proofs.is_name.Goals as goal
 
 pub returns-in-Missing : goal.returns-in-Missing

@@ -1,7 +1,6 @@
 use Rattle.format.specs.Stored.{as_file}
 use Rattle.entry.proofs.Laws.{accepted}
 use Rattle.entry.proofs.Runs.{file_short}
-use borrow.Author.Rules.{rules}
 use Rattle.entry_read.proofs.read_judged.Goals as goal
 
 pub read_under-requires : goal.read_under-requires

@@ -1,13 +1,10 @@
 use Rattle.catalogue.specs.Entries.{entries_at}
-use mathlib.Core.Path.{refl}
 use Rattle.format.specs.Entries.{read_of}
 use Rattle.stanza_stored.specs.Stored.{lent_as}
 use Rattle.entry.proofs.Laws.{accepted}
 use Rattle.entry.proofs.Runs.{lent_short}
 use Rattle.entry.proofs.Rooms.{leaves_refused}
 use Rattle.entry_read.proofs.Readings.{read_long}
-use native.Mathlib.Omega.{arith}
-use borrow.Author.Rules.{rules}
 use Rattle.entry_read.proofs.read_lent.Goals as goal
 
 pub returns-then-text-gt1048576 : goal.returns-then-text-gt1048576

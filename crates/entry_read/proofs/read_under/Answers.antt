@@ -1,11 +1,10 @@
 use Rattle.catalogue.specs.Entries.{entries_at}
-use mathlib.Core.Path.{refl, sym, ◌∙◌}
+use mathlib.Core.Path.{sym, ◌∙◌}
 use Rattle.format.specs.Entries.{read_of}
 use Rattle.entry.proofs.Rooms.{leaves_refused}
 use Rattle.entry.proofs.Runs.{from_one, usable_run}
 use Rattle.entry_read.proofs.Readings.{read_rejected, read_no_run, read_no_origin, read_runs}
 use native.Mathlib.Omega.{arith}
-use borrow.Author.Rules.{rules}
 use Rattle.entry_read.proofs.read_under.Goals as goal
 
 pub returns-then-n-gt0 : goal.returns-then-n-gt0

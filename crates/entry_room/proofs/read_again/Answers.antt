@@ -1,7 +1,5 @@
-use mathlib.Core.Path.{refl}
 use Rattle.entry_room.proofs.Octets.{again_done, again_wrote, again_leaves}
 use native.Mathlib.Omega.{arith}
-use borrow.Author.Rules.{rules}
 use Rattle.entry_room.proofs.read_again.Goals as goal
 
 pub overflow_cast-m : goal.overflow_cast-m

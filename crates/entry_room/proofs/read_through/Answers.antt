@@ -4,7 +4,6 @@ use Rattle.run_wire.specs.Run.{kinds_from}
 use Rattle.entry_room.proofs.Octets.{refused_leaves, over_leaves, measured_leaves, reads_in, copied_leaves}
 use Rattle.stanza_form.specs.Code.{fields_of}
 use native.Mathlib.Omega.{arith}
-use borrow.Author.Rules.{rules}
 use Rattle.entry_room.proofs.read_through.Goals as goal
 
 pub returns-then-m-gt65535 : goal.returns-then-m-gt65535

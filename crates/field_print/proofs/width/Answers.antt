@@ -1,7 +1,6 @@
 use Rattle.field_wire.specs.Wire.{taken_in}
 use Rattle.format.specs.Wire.{Taken, short, bad, took}
 use mathlib.Core.Path.{◌≡◌, ap, sym, ◌∙◌}
-use borrow.Author.Rules.{rules}
 use Rattle.field_print.proofs.width.Goals as goal
 
 pub returns-in-Missing : goal.returns-in-Missing

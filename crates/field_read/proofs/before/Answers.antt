@@ -1,4 +1,3 @@
-use borrow.Author.Rules.{rules}
 use Rattle.field_read.proofs.before.Goals as goal
 
 pub returns-in-Upto : goal.returns-in-Upto

@@ -1,9 +1,7 @@
-use mathlib.Core.List.{[]}
 use mathlib.Core.Path.{sym, ap, ◌∙◌}
 use Rattle.format.specs.Run.{got}
 use Rattle.buffer.proofs.Laws.{wrote_none}
 use Rattle.field_read.proofs.Fields.{none_else, none_name, not_name}
-use borrow.Author.Rules.{rules}
 use Rattle.field_read.proofs.none_left.Goals as goal
 
 pub returns-then-is_optional : goal.returns-then-is_optional

@@ -5,7 +5,6 @@ use Rattle.field_read.specs.Fields.{Gives}
 use Rattle.stanza_form.specs.Fields.{kind_for}
 use Rattle.field_read.proofs.Fields.{gives_token, bad_token_lem}
 use native.Mathlib.Omega.{arith}
-use borrow.Author.Rules.{rules}
 use Rattle.field_read.proofs.one_token.Goals as goal
 
 pub of_bare-requires : goal.of_bare-requires

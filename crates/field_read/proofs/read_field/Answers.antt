@@ -1,8 +1,6 @@
 use Rattle.catalogue.specs.Entries.{names_of}
 use Rattle.format.specs.Run.{read_field}
-use Rattle.stanza_form.proofs.Forms.{one_form}
 use Rattle.field_read.proofs.Fields.{gives_all, gives_rest}
-use borrow.Author.Rules.{rules}
 use Rattle.field_read.proofs.read_field.Goals as goal
 
 pub returns-in-Bitmap : goal.returns-in-Bitmap

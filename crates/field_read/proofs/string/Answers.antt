@@ -3,7 +3,6 @@ use Rattle.format.specs.Run.{one_token}
 use Rattle.format.specs.Text.{read_string}
 use Rattle.field_read.proofs.Fields.{gives_string, onward}
 use native.Mathlib.Omega.{arith}
-use borrow.Author.Rules.{rules}
 use Rattle.field_read.proofs.string.Goals as goal
 
 pub string-requires : goal.string-requires

@@ -1,8 +1,7 @@
-use mathlib.Core.Path.{◌≡◌}
-use Prim.Native.Nat.{◌+◌, ◌*◌, ◌-◌, ◌≤◌}
-use lib.ListN.{length, drop}
+use Prim.Native.Nat.{◌-◌}
+use lib.ListN.{drop}
 use Rattle.format.specs.Token.{tokens}
-use Rattle.field_read.proofs.Texts.{Before, before_start, before_next, next_string, strings_missing, strings_bad, strings_all}
+use Rattle.field_read.proofs.Texts.{before_start, before_next, next_string, strings_missing, strings_bad, strings_all}
 use native.Mathlib.Omega.{arith}
 use borrow.Author.Rules.{rules}
 use Rattle.field_read.proofs.strings.Goals as goal

@@ -2,9 +2,7 @@ use mathlib.Core.Path.{◌≡◌}
 use Prim.Native.Nat.{◌+◌, ◌*◌, ◌-◌, ◌≤◌}
 use lib.ListN.{length, drop}
 use Rattle.format.specs.Token.{tokens}
-use Rattle.field_read.proofs.Texts.{Before, before_start, before_next, next_string, strings_missing, strings_bad, strings_all}
-use native.Mathlib.Omega.{arith}
-use borrow.Author.Rules.{rules}
+use Rattle.field_read.proofs.Texts.{Before}
 use Rattle.field_read.proofs.strings.Given as goal
 
 -- The strings of the tokens before j stand from n to m; they, and the strings read from j on, are all the strings.

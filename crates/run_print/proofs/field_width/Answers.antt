@@ -1,6 +1,4 @@
 use native.Mathlib.Omega.{arith}
-use mathlib.Core.Bool.{true≢false}
-use borrow.Author.Rules.{rules}
 use Rattle.run_print.proofs.field_width.Goals as goal
 
 pub returns-then-last : goal.returns-then-last

@@ -1,5 +1,4 @@
 use borrow.Author.Tests.{eq-eqb, ne_eqb}
-use borrow.Author.Rules.{rules}
 use Rattle.run_print.proofs.next_place.Goals as goal
 
 pub returns-then-at-eq0 : goal.returns-then-at-eq0

@@ -3,9 +3,7 @@ use Rattle.catalogue.proofs.Laws.{listed_sound}
 use Prim.Native.Nat.{◌+◌}
 use Rattle.run_print.proofs.Runs.{lead_first, place_later, lead_none, lead_some, field_short}
 use Rattle.buffer.proofs.Laws.{part_wrote}
-use mathlib.Core.Path.{◌≡◌, ap, sym, ◌∙◌}
 use native.Mathlib.Omega.{arith}
-use borrow.Author.Rules.{rules}
 use Rattle.run_print.proofs.put_next.Goals as goal
 
 pub returns-then-at-eq0 : goal.returns-then-at-eq0

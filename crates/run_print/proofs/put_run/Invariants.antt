@@ -1,22 +1,13 @@
-use borrow.Author.Tests.{eqb-true}
 use Rattle.catalogue.specs.Entries.{names_of}
-use Rattle.catalogue.proofs.Laws.{listed_sound}
-use Rattle.run_print.proofs.Runs.{turn, field_short, text_went, went_bound, run_done}
 use Rattle.run_print.specs.Printing.{lead}
-use Rattle.run_wire.proofs.Laws.{all_kinds}
 use Rattle.run_wire.specs.Run.{kinds_from}
-use Rattle.stanza_form.specs.Fields.{kind_for, Usable}
-use Rattle.buffer.proofs.Laws.{Left, left_all, left_none}
-use Rattle.format.specs.Run.{shown, parts, parts_of, text_of}
-use lib.Seq.{slice}
+use Rattle.buffer.proofs.Laws.{Left}
+use Rattle.format.specs.Run.{parts, parts_of, text_of}
 use lib.ListN.{length, drop}
 use mathlib.Core.List.{List}
-use mathlib.Core.Path.{◌≡◌, sym, subst}
+use mathlib.Core.Path.{◌≡◌}
 use Prim.Native.Nat.{ℕ, ◌+◌, ◌-◌, ◌*◌, ◌≤◌}
 use Rattle.stanza_form.specs.Code.{fields_of}
-use Rattle.stanza_form.proofs.Codes.{read_at}
-use native.Mathlib.Omega.{arith}
-use borrow.Author.Rules.{rules}
 use Rattle.run_print.proofs.put_run.Given as goal
 
 -- The first k fields, from the octets before i, are written; writing the text of the others from `at` on, after a space

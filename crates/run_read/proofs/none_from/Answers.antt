@@ -1,8 +1,6 @@
 use mathlib.Core.Path.{ap, sym}
 use Rattle.format.specs.Lists.{null}
 use Rattle.run_read.proofs.Runs.{none_left}
-use native.Mathlib.Omega.{arith}
-use borrow.Author.Rules.{rules}
 use Rattle.run_read.proofs.none_from.Goals as goal
 
 pub returns-then-i-t : goal.returns-then-i-t

@@ -1,8 +1,7 @@
 use Rattle.catalogue.specs.Entries.{names_of}
 use mathlib.Core.Path.{◌≡◌, sym, subst, ◌∙◌}
-use mathlib.Core.List.{List, [], ◌++◌}
-use Prim.Native.Nat.{ℕ, ◌+◌, ◌-◌, ◌≤◌}
-use lib.ListN.{length, drop}
+use mathlib.Core.List.{◌++◌}
+use Prim.Native.Nat.{◌+◌, ◌-◌}
 use Rattle.format.specs.Token.{tokens}
 use Rattle.format.specs.Run.{read_field, read_run, refused}
 use Rattle.run_wire.specs.Run.{kinds_from}

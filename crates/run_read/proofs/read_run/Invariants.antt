@@ -1,20 +1,14 @@
 use Rattle.catalogue.specs.Entries.{names_of}
-use mathlib.Core.Path.{◌≡◌, sym, subst, ◌∙◌}
-use mathlib.Core.List.{List, [], ◌++◌}
+use mathlib.Core.Path.{◌≡◌}
+use mathlib.Core.List.{List}
 use Prim.Native.Nat.{ℕ, ◌+◌, ◌-◌, ◌≤◌}
 use lib.ListN.{length, drop}
 use Rattle.format.specs.Token.{tokens}
-use Rattle.format.specs.Run.{read_field, read_run, refused}
+use Rattle.format.specs.Run.{read_field}
 use Rattle.run_wire.specs.Run.{kinds_from}
-use Rattle.stanza_form.specs.Fields.{Usable}
-use Rattle.run_wire.proofs.Laws.{all_kinds, no_kind, next_kind}
 use Rattle.run_read.specs.Reading.{Stands}
-use Rattle.run_read.proofs.Runs.{Ahead, ahead_start, ahead_missing, ahead_bad, ahead_got, ahead_over, ahead_done, stands_none}
-use Rattle.run_read.proofs.Runs.{stands_next}
+use Rattle.run_read.proofs.Runs.{Ahead}
 use Rattle.stanza_form.specs.Code.{fields_of}
-use Rattle.stanza_form.proofs.Codes.{read_at}
-use native.Mathlib.Omega.{arith}
-use borrow.Author.Rules.{rules}
 use Rattle.run_read.proofs.read_run.Given as goal
 
 -- The octets of the first k fields stand up to n, or are over 65,535; they, and what the other fields make of the

@@ -1,12 +1,9 @@
-use Prim.Native.Nat.{◌+◌, ◌-◌, ◌*◌, ◌≤◌}
-use mathlib.Core.Path.{◌≡◌}
+use Prim.Native.Nat.{◌-◌}
 use lib.Dec.{ltb}
-use lib.Seq.{slice}
-use Rattle.format.specs.Bitmap.{at_octets, types_from}
+use Rattle.format.specs.Bitmap.{at_octets}
 use Rattle.format.specs.Catalogue.{type_text_in}
 use Rattle.catalogue.specs.Entries.{names_of}
-use Rattle.buffer.proofs.Laws.{Left, left_all}
-use Rattle.bitmap.specs.Types.{types_text}
+use Rattle.buffer.proofs.Laws.{left_all}
 use Rattle.bitmap.proofs.Texts.{listed_short, types_left_lem, types_done}
 use Rattle.bitmap.proofs.Blocks.{octet_types, no_octets, block_length}
 use native.Mathlib.Omega.{arith}

@@ -5,12 +5,8 @@ use lib.Seq.{slice}
 use Rattle.format.specs.Bitmap.{at_octets, types_from}
 use Rattle.format.specs.Catalogue.{type_text_in}
 use Rattle.catalogue.specs.Entries.{names_of}
-use Rattle.buffer.proofs.Laws.{Left, left_all}
+use Rattle.buffer.proofs.Laws.{Left}
 use Rattle.bitmap.specs.Types.{types_text}
-use Rattle.bitmap.proofs.Texts.{listed_short, types_left_lem, types_done}
-use Rattle.bitmap.proofs.Blocks.{octet_types, no_octets, block_length}
-use native.Mathlib.Omega.{arith}
-use borrow.Author.Rules.{rules}
 use Rattle.bitmap.proofs.print.block.Given as goal
 
 -- The types of the octets before j are written; writing those of the others, from t on, at m would give the whole text.

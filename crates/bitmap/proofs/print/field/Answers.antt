@@ -1,17 +1,15 @@
-use Prim.Native.Nat.{◌+◌, ◌-◌, ◌≤◌}
+use Prim.Native.Nat.{◌+◌, ◌-◌}
 use mathlib.Core.Path.{refl, ap}
 use mathlib.Core.Bool.{false}
 use lib.Dec.{ltb}
-use lib.Seq.{slice}
 use borrow.Author.Tests.{le-ltb}
 use Rattle.format.specs.Catalogue.{type_text_in}
 use Rattle.catalogue.specs.Entries.{names_of}
-use Rattle.format.specs.Bitmap.{at_window, types, bitmap_text}
+use Rattle.format.specs.Bitmap.{at_window, types}
 use Rattle.octets.proofs.Slices.{none}
-use Rattle.buffer.proofs.Laws.{Left, left_all}
-use Rattle.bitmap.specs.Types.{types_text}
+use Rattle.buffer.proofs.Laws.{left_all}
 use Rattle.bitmap.proofs.Texts.{listed_short, types_left_lem, types_done}
-use Rattle.bitmap.proofs.Blocks.{Whole, whole_first, count_there, block_there, block_types, block_length}
+use Rattle.bitmap.proofs.Blocks.{whole_first, count_there, block_there, block_types, block_length}
 use native.Mathlib.Omega.{arith}
 use borrow.Author.Rules.{rules}
 use Rattle.bitmap.proofs.print.field.Goals as goal

@@ -1,12 +1,8 @@
-use Prim.Native.Nat.{◌+◌, ◌-◌, ◌≤◌}
+use Prim.Native.Nat.{◌-◌}
 use lib.Dec.{ltb}
-use Rattle.format.specs.Digits.{digits}
-use Rattle.format.specs.Bitmap.{set_bits}
 use Rattle.format.specs.Catalogue.{type_text_in}
 use Rattle.catalogue.specs.Entries.{names_of}
-use Rattle.buffer.proofs.Laws.{Left}
-use Rattle.bitmap.specs.Types.{types_text}
-use Rattle.bitmap.proofs.Texts.{listed_short, types_done, types_left_lem, octet_length, Within, octet_within, octet_left, types_left, bit_there}
+use Rattle.bitmap.proofs.Texts.{listed_short, types_done, types_left_lem, octet_length, octet_within, octet_left, bit_there}
 use Rattle.bitmap.proofs.Texts.{bit_within, bit_next, bits_done}
 use native.Mathlib.Omega.{arith}
 use borrow.Author.Rules.{rules}

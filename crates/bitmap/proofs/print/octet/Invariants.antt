@@ -6,10 +6,7 @@ use Rattle.format.specs.Catalogue.{type_text_in}
 use Rattle.catalogue.specs.Entries.{names_of}
 use Rattle.buffer.proofs.Laws.{Left}
 use Rattle.bitmap.specs.Types.{types_text}
-use Rattle.bitmap.proofs.Texts.{listed_short, types_done, types_left_lem, octet_length, Within, octet_within, octet_left, types_left, bit_there}
-use Rattle.bitmap.proofs.Texts.{bit_within, bit_next, bits_done}
-use native.Mathlib.Omega.{arith}
-use borrow.Author.Rules.{rules}
+use Rattle.bitmap.proofs.Texts.{Within, types_left}
 use Rattle.bitmap.proofs.print.octet.Given as goal
 
 -- The types before t are written; writing those left in y, from t on, at m would give the types of the whole octet.

@@ -3,7 +3,6 @@ use Rattle.catalogue.specs.Entries.{names_of}
 use lib.Dec.{ltb}
 use Rattle.buffer.proofs.Laws.{wrote_none}
 use Rattle.bitmap.proofs.Texts.{no_types, bit_set}
-use borrow.Author.Rules.{rules}
 use Rattle.bitmap.proofs.print.put_if.Goals as goal
 
 pub returns-then-bit-eq0 : goal.returns-then-bit-eq0

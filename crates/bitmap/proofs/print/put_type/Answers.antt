@@ -3,7 +3,6 @@ use Rattle.catalogue.specs.Entries.{names_of}
 use borrow.Author.Tests.{lt-ltb, le-ltb}
 use Rattle.buffer.proofs.Laws.{wrote_append, wrote_text}
 use Rattle.bitmap.proofs.Texts.{later_one}
-use borrow.Author.Rules.{rules}
 use Rattle.bitmap.proofs.print.put_type.Goals as goal
 
 pub returns-then-start-at : goal.returns-then-start-at

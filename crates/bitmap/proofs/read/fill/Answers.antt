@@ -1,11 +1,10 @@
 use Rattle.bitmap.proofs.Plain.{after_one, after_all}
 use Rattle.bitmap.specs.Reading.{types_read}
 use Rattle.catalogue.specs.Entries.{names_of}
-use Rattle.bitmap_picture.specs.Windows.{Holds}
-use lib.ListN.{length, drop}
-use mathlib.Core.List.{List, [], ◌∷◌, ◌++◌}
-use mathlib.Core.Path.{◌≡◌, sym, ap, ◌∙◌}
-use Prim.Native.Nat.{ℕ, ◌-◌, ◌≤◌}
+use lib.ListN.{drop}
+use mathlib.Core.List.{◌∷◌, ◌++◌}
+use mathlib.Core.Path.{sym, ap, ◌∙◌}
+use Prim.Native.Nat.{◌-◌}
 use native.Mathlib.Omega.{arith}
 use borrow.Author.Rules.{rules}
 use Rattle.buffer.specs.Writing.{after}

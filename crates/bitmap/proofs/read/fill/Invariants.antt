@@ -1,15 +1,11 @@
-use Rattle.bitmap.proofs.Plain.{after_one, after_all}
 use Rattle.bitmap.specs.Reading.{types_read}
 use Rattle.catalogue.specs.Entries.{names_of}
 use Rattle.bitmap_picture.specs.Windows.{Holds}
 use lib.ListN.{length, drop}
-use mathlib.Core.List.{List, [], ◌∷◌, ◌++◌}
-use mathlib.Core.Path.{◌≡◌, sym, ap, ◌∙◌}
+use mathlib.Core.List.{List}
+use mathlib.Core.Path.{◌≡◌}
 use Prim.Native.Nat.{ℕ, ◌-◌, ◌≤◌}
-use native.Mathlib.Omega.{arith}
-use borrow.Author.Rules.{rules}
 use Rattle.buffer.specs.Writing.{after}
-use Rattle.buffer.proofs.Values.{after_none}
 use Rattle.bitmap.proofs.read.fill.Given as goal
 
 -- The picture holds the types of the tokens before j; they, and the types read from j on, are all the types.

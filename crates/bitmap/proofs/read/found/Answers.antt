@@ -1,6 +1,5 @@
 use mathlib.Core.Path.{sym, ◌∙◌}
 use Rattle.bitmap.proofs.Plain.{found_value, found_fault}
-use borrow.Author.Rules.{rules}
 use Rattle.bitmap.proofs.read.found.Goals as goal
 
 pub returns-in-Value : goal.returns-in-Value

@@ -7,7 +7,6 @@ use Rattle.format.specs.Rrtype.{type_number}
 use lib.Seq.{slice}
 use mathlib.Core.Path.{refl, sym, ◌∙◌}
 use native.Mathlib.Omega.{arith}
-use borrow.Author.Rules.{rules}
 use Rattle.bitmap.proofs.read.last_type.Goals as goal
 
 pub plain-requires : goal.plain-requires

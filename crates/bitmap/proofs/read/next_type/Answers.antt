@@ -5,7 +5,6 @@ use Rattle.catalogue.proofs.Laws.{listed_sound}
 use lib.ListN.{length}
 use Rattle.bitmap.proofs.Plain.{plain_types, plain_within}
 use native.Mathlib.Omega.{arith}
-use borrow.Author.Rules.{rules}
 use Rattle.bitmap.proofs.read.next_type.Goals as goal
 
 pub plain_type-r-requires : goal.plain_type-r-requires

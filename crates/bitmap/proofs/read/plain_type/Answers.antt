@@ -1,5 +1,4 @@
 use mathlib.Core.Path.{sym, ◌∙◌}
-use borrow.Author.Rules.{rules}
 use Rattle.bitmap.proofs.read.plain_type.Goals as goal
 
 pub returns-then-parted_at : goal.returns-then-parted_at

@@ -7,7 +7,6 @@ use Rattle.format.specs.Lists.{each_of}
 use lib.Seq.{slice}
 use mathlib.Core.Path.{refl, ap, ◌∙◌}
 use native.Mathlib.Omega.{arith}
-use borrow.Author.Rules.{rules}
 use Rattle.bitmap.proofs.read.token_type.Goals as goal
 
 pub number-requires : goal.number-requires

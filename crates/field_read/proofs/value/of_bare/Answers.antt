@@ -1,6 +1,5 @@
 use Rattle.stanza_form.proofs.Fields.{symbols_of, symbols_of_lem, int_four}
 use Rattle.field_read.proofs.Forms.{eui_eight}
-use borrow.Author.Rules.{rules}
 use Rattle.field_read.proofs.value.of_bare.Goals as goal
 
 pub field-requires : goal.field-requires

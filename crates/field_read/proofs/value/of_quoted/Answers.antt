@@ -1,5 +1,3 @@
-use Rattle.stanza_form.proofs.Forms.{only_strings}
-use borrow.Author.Rules.{rules}
 use Rattle.field_read.proofs.value.of_quoted.Goals as goal
 
 pub returns-in-Str : goal.returns-in-Str
