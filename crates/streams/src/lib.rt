@@ -18,7 +18,15 @@ ghost use Rattle.streams.specs.Writing.{Written, Begun};
 
 use buffer::least;
 use std::io;
-use std::io::Write;
+use std::io::{Stderr, Stdin, Stdout, Write};
+
+// The three streams that a program is handed.
+#[derive(Clone, Copy)]
+pub struct Standard {
+    pub input: Stdin,
+    pub output: Stdout,
+    pub error: Stderr,
+}
 
 // What one read did: it met the end of the input; it failed; or it took so many octets.
 #[derive(Clone, Copy)]
