@@ -1,5 +1,5 @@
 -- What reads answer, what a buffer holds after them, and what a reader has left.
-use Rattle.std.specs.Prelude.{ℕ, ◌+◌, ◌-◌, ◌≤◌, ◌<◌, min, ◌≡◌, cond, List, [], length, take, drop, ℤ, pos, negsuc, ◌==◌}
+use Rattle.std.specs.Prelude.{ℕ, ◌+◌, ◌-◌, ◌≤◌, ◌<◌, min, ◌≡◌, cond, List, [], length, take, drop, ℤ, pos, negsuc, eqb}
 use Rattle.std.specs.declared.option.Option.{Option}
 use Rattle.std.specs.Io.KnownBytes.{Keeps, Consumes, IsAtEnd}
 use Rattle.streams.specs.declared.Read.{Read}
@@ -14,7 +14,7 @@ Moved n (negsuc k) = k ≡ 0
 
 -- What the answer of a read means that was handed room for `most` octets: 0 is the end of the input, a number below 0 a failure and never the end.
 abbrev pub told : ℤ → ℕ → Read
-told (pos k) most = cond (k == 0) End (Got (min k most))
+told (pos k) most = cond (eqb k 0) End (Got (min k most))
 told (negsuc k) most = Failed
 
 -- One read into the places from `from` to `to`, of which there is at least one: it answered a number that a read may answer, which is judged by `told`.
@@ -38,9 +38,9 @@ pub data Reading : List ℕ → ℕ → Input → List ℕ → Type 0 where
 
 -- What an answer says of the octets that the reader has left, where those are known: the room begins with as many of them as the answer says, 0 is the end,
 -- and a read that failed took none. Standard input says nothing of its octets; a reader of octets in memory does.
-abbrev pub Moves : Option (List ℕ) → Option (List ℕ) → ℤ → List ℕ → Type 0
-Moves before after (pos k) room = Consumes before after (take k room) × (k ≡ 0 → 0 < length room → IsAtEnd after)
-Moves before after (negsuc k) room = Keeps before after
+abbrev pub Left : Option (List ℕ) → Option (List ℕ) → ℤ → List ℕ → Type 0
+Left before after (pos k) room = Consumes before after (take k room) × (k ≡ 0 → 0 < length room → IsAtEnd after)
+Left before after (negsuc k) room = Keeps before after
 
 -- The same of what the answer means.
 abbrev pub Took : Option (List ℕ) → Option (List ℕ) → Read → List ℕ → Type 0

@@ -13,7 +13,7 @@
 
 ghost use Rattle.std.specs.Prelude.{◌<◌, ◌≤◌, ◌≡◌, length, take, drop};
 ghost use Rattle.std.specs.Io.KnownBytes.{Appends};
-ghost use Rattle.streams.specs.Reading.{told, Moved, Moves, Once, Took, Reading, Drained};
+ghost use Rattle.streams.specs.Reading.{told, Moved, Left, Once, Took, Reading, Drained};
 ghost use Rattle.streams.specs.Writing.{Written, Begun};
 
 use buffer::least;
@@ -60,7 +60,7 @@ pub fn told(got: isize, most: usize) -> Read
 // Reads once into the room, and returns how many octets were taken, or -1 if the read failed, for whatever reason.
 fn answer<R: io::Read>(input: &mut R, room: &mut [u8]) -> isize
     ensures allowed { Moved (length room.old) result }
-    ensures octets { Moves (R.remaining input.old) (R.remaining input.new) result room.new }
+    ensures octets { Left (R.remaining input.old) (R.remaining input.new) result room.new }
 {
     match input.read(room) {
         Ok(n) => n as isize,
