@@ -327,7 +327,7 @@ or_right false c e = e
 -- demand 1 of an answer that is a row of the table
 row_answered : {numbers : List ℕ} {l : Lent} {many space n i : ℕ} (r : Reply) → Row l many space numbers n i → r.number ≡ n → r.place ≡ i → Answered numbers l many space r
 row_answered {numbers} {n = n} r w p q = record {
-  number = rw p (or_right (eqb n 0) (among n numbers) w.number);
+  number = subst (λ (k : ℕ). eqb k 0 || among k numbers ≡ true) (sym p) (or_right (eqb n 0) (among n numbers) w.number);
   place = λ z. rw (p, q) w.fixed;
   halves = omega (arith, q, w.small);
 }

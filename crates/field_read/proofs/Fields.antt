@@ -1,6 +1,7 @@
 -- What a field makes of its token, by its kind.
 use Prim.Native.Nat.{ℕ, ◌<◌, ◌≤◌}
-use mathlib.Core.Path.{◌≡◌, sym, ap, subst, ◌∙◌}
+use mathlib.Core.Path.{◌≡◌, refl, sym, ap, subst, ◌∙◌}
+use mathlib.Core.Logic.{inl, inr}
 use mathlib.Core.Bool.{Bool, true, cond}
 use mathlib.Core.List.{List, [], ◌∷◌}
 use mathlib.Core.Option.{Option}
@@ -18,7 +19,7 @@ use Rattle.base.specs.declared.read.Got.{Got as Rest}
 use Rattle.base.specs.declared.read.Got.TheVariants.{Missing as NoToken, Fault as BadToken, Upto as RestUpto}
 use Rattle.base.specs.Rest.{Gets}
 use Rattle.stanza_form.specs.declared.Form.{Form}
-use Rattle.stanza_form.specs.declared.Form.TheVariants.{Name}
+use Rattle.stanza_form.specs.declared.Form.TheVariants.{Int, Eui, Name, Rrtype, Dotted, Aa, Aaaa, Time, Str, Base32, Hexc, Bitmap, Strs, Raw, Base64, Hex}
 use Rattle.stanza_form.specs.Forms.{kind_of, optional_in, rule_of, takes_one, value_by}
 use Rattle.stanza_form.proofs.Forms.{reads_one, none_missing, none_of_broken, Not}
 use Rattle.field_read.specs.Fields.{placed_at, got_at, Gives, Onward}
@@ -30,6 +31,25 @@ none_name ns f m e l g o h = reads_one ns (kind_of l f) g o [] ∙ rw (e, h)
 
 pub none_else : (ns : List TypeName) (f : Form) → Not 2 f → (l : List Symbol) → takes_one (rule_of ns (kind_of l f)) ≡ true → (o : List ℕ) → read_field ns (kind_of l f) o [] ≡ no_token
 none_else ns f n l g o = reads_one ns (kind_of l f) g o [] ∙ none_missing ns f n l
+
+-- a form that is no name has one of the other tags
+pub not_name : (f : Form) → ((m : ℕ) → f ≡ Name m → ⊥) → Not 2 f
+not_name (Int m) h = inl refl
+not_name (Eui m) h = inr (inl refl)
+not_name (Name m) h = absurd (h m refl)
+not_name Rrtype h = inr (inr (inl refl))
+not_name Dotted h = inr (inr (inr (inl refl)))
+not_name Aa h = inr (inr (inr (inr (inl refl))))
+not_name Aaaa h = inr (inr (inr (inr (inr (inl refl)))))
+not_name Time h = inr (inr (inr (inr (inr (inr (inl refl))))))
+not_name Str h = inr (inr (inr (inr (inr (inr (inr (inl refl)))))))
+not_name Base32 h = inr (inr (inr (inr (inr (inr (inr (inr (inl refl))))))))
+not_name Hexc h = inr (inr (inr (inr (inr (inr (inr (inr (inr (inl refl)))))))))
+not_name Bitmap h = inr (inr (inr (inr (inr (inr (inr (inr (inr (inr (inl refl))))))))))
+not_name Strs h = inr (inr (inr (inr (inr (inr (inr (inr (inr (inr (inr (inl refl)))))))))))
+not_name Raw h = inr (inr (inr (inr (inr (inr (inr (inr (inr (inr (inr (inr (inl refl))))))))))))
+not_name Base64 h = inr (inr (inr (inr (inr (inr (inr (inr (inr (inr (inr (inr (inr (inl refl)))))))))))))
+not_name Hex h = inr (inr (inr (inr (inr (inr (inr (inr (inr (inr (inr (inr (inr (inr refl)))))))))))))
 
 -- the octets of a token, with the tokens from j on left
 pub gives : (before after t : List ℕ) (n : ℕ) (v : Value) (p : Option (List ℕ)) (j : ℕ) → Values before after n v p → j ≤ length t → Gives before after n t (placed_at v j) (got_or p (tokens (drop j t)))

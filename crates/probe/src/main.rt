@@ -22,9 +22,8 @@
 ghost use Rattle.std.specs.Prelude.{◌≤◌, length};
 ghost use Rattle.probe_request.specs.Words.{Within};
 
-use libc::STDIN_FILENO;
 use probe_request::Request;
-use streams::Read;
+use streams::{Read, Standard};
 
 // The most octets that one read takes.
 const PIECE: usize = 65536;
@@ -52,22 +51,22 @@ struct State {
 }
 
 // Writes the first n octets, and returns whether that went well.
-fn write(out: &[u8], n: usize) -> bool
+fn write(mut to: Standard, out: &[u8], n: usize) -> bool
     requires { n ≤ length out.now }
 {
-    streams::write_all(b"probe", &out[0..n])
+    streams::write_all(&mut to.output, &mut to.error, b"probe", &out[0..n])
 }
 
 // Writes the first n octets of a turn in hex, '-' for none.
-fn write_octets(lines: &[u8], n: usize, out: &mut [u8; ROOM]) -> bool
+fn write_octets(to: Standard, lines: &[u8], n: usize, out: &mut [u8; ROOM]) -> bool
     requires { (n ≤ length lines.now) × (length lines.now ≤ 1048576) }
 {
     let end = probe_reply::line::put_octets(out, 0, &lines[0..n]);
-    write(out, end)
+    write(to, out, end)
 }
 
 // Writes the turns of a job, unless a write fails.
-fn write_turns(j: &[u8], lines: &mut [u8], out: &mut [u8; ROOM]) -> bool
+fn write_turns(to: Standard, j: &[u8], lines: &mut [u8], out: &mut [u8; ROOM]) -> bool
     requires { (131074 ≤ length lines.old) × (length lines.old ≤ 1048576) }
 {
     let job = job_turns::begin(j);
@@ -75,7 +74,7 @@ fn write_turns(j: &[u8], lines: &mut [u8], out: &mut [u8; ROOM]) -> bool
     let mut more = true;
     while more {
         let turn = job_turns::next(lines, j, job, at);
-        if write_octets(lines, turn.taken, out) {
+        if write_octets(to, lines, turn.taken, out) {
             more = turn.more;
             at = turn.at;
         } else {
@@ -86,20 +85,27 @@ fn write_turns(j: &[u8], lines: &mut [u8], out: &mut [u8; ROOM]) -> bool
 }
 
 // Writes the turns of a job and an LF.
-fn write_job(octets: &[u8], q: Request, text: &mut [u8], out: &mut [u8; ROOM]) -> bool
+fn write_job(
+    mut to: Standard,
+    octets: &[u8],
+    q: Request,
+    text: &mut [u8],
+    out: &mut [u8; ROOM],
+) -> bool
     requires { Within (length octets.now) q × (262148 ≤ length text.old) }
 {
     let a = q.stanza.from;
     let b = q.stanza.to;
     let n = buffer::least(LINES, text.len());
-    if write_turns(&octets[a..b], &mut text[0..n], out) {
-        return streams::write_all(b"probe", b"\n");
+    if write_turns(to, &octets[a..b], &mut text[0..n], out) {
+        return streams::write_all(&mut to.output, &mut to.error, b"probe", b"\n");
     }
     false
 }
 
 // Writes the answer to a line without its LF, and returns whether that went well.
 fn answer(
+    to: Standard,
     line: &[u8],
     octets: &mut [u8; OCTETS],
     text: &mut [u8; TEXT],
@@ -107,14 +113,15 @@ fn answer(
 ) -> bool {
     let q = probe_request::read(line, octets);
     if q.letter == b'W' {
-        return write_job(octets, q, text, out);
+        return write_job(to, octets, q, text, out);
     }
     let n = probe_reply::put_answer(octets, q, text, out);
-    write(out, n)
+    write(to, out, n)
 }
 
 // Answers the whole lines in buf, whose first `kept` octets have no LF, and keeps the start of the next line.
 fn answer_lines(
+    to: Standard,
     buf: &mut [u8],
     kept: usize,
     octets: &mut [u8; OCTETS],
@@ -127,7 +134,7 @@ fn answer_lines(
     let mut start = 0;
     let mut end = probe_request::line_end(buf, kept);
     while end < buf.len() {
-        if answer(&buf[start..end], octets, text, out) {
+        if answer(to, &buf[start..end], octets, text, out) {
             start = end + 1;
             end = probe_request::line_end(buf, start);
         } else {
@@ -152,6 +159,7 @@ fn over() -> State
 
 // Answers the last line, if it has no LF.
 fn finish(
+    to: Standard,
     line: &[u8],
     octets: &mut [u8; OCTETS],
     text: &mut [u8; TEXT],
@@ -160,13 +168,14 @@ fn finish(
     ensures { result.kept ≤ 2200001 }
 {
     if line.len() > 0 {
-        answer(line, octets, text, out);
+        answer(to, line, octets, text, out);
     }
     over()
 }
 
 // Reads once, after the octets that are kept, and answers the lines that are whole by then.
 fn turn(
+    mut to: Standard,
     buf: &mut [u8],
     kept: usize,
     octets: &mut [u8; OCTETS],
@@ -176,16 +185,16 @@ fn turn(
     requires { (kept ≤ 2200001) × (2265537 ≤ length buf.old) }
     ensures { result.kept ≤ 2200001 }
 {
-    let r = streams::read_once(STDIN_FILENO, buf, kept, kept + PIECE);
+    let r = streams::read_once(&mut to.input, buf, kept, kept + PIECE);
     match r {
-        Read::End => finish(&buf[0..kept], octets, text, out),
+        Read::End => finish(to, &buf[0..kept], octets, text, out),
         Read::Failed => {
-            streams::unread(b"probe");
+            streams::unread(&mut to.error, b"probe");
             over()
         }
         Read::Got(n) => {
             let end = kept + n;
-            answer_lines(&mut buf[0..end], kept, octets, text, out)
+            answer_lines(to, &mut buf[0..end], kept, octets, text, out)
         }
     }
 }
@@ -193,6 +202,7 @@ fn turn(
 // Answers all lines. A proved loop must end, and nothing says that the input does: so the loop counts its turns down, from a
 // number that no run uses up.
 fn run(
+    to: Standard,
     buf: &mut [u8; SPACE],
     octets: &mut [u8; OCTETS],
     text: &mut [u8; TEXT],
@@ -204,7 +214,7 @@ fn run(
     };
     let mut turns = u64::MAX;
     while turns > 0 {
-        state = turn(buf, state.kept, octets, text, out);
+        state = turn(to, buf, state.kept, octets, text, out);
         if state.going {
             turns = turns - 1;
         } else {
@@ -213,11 +223,16 @@ fn run(
     }
 }
 
-// Lends the buffers to `run`.
-fn main() {
+// Lends the streams and the buffers to `run`.
+fn main(rt: HostRuntime) {
+    let to = Standard {
+        input: rt.stdin(),
+        output: rt.stdout(),
+        error: rt.stderr(),
+    };
     let mut buf = [0u8; SPACE];
     let mut octets = [0u8; OCTETS];
     let mut text = [0u8; TEXT];
     let mut out = [0u8; ROOM];
-    run(&mut buf, &mut octets, &mut text, &mut out);
+    run(to, &mut buf, &mut octets, &mut text, &mut out);
 }

@@ -2,7 +2,6 @@ use Rattle.buffer.proofs.Values.{count_is, too_short, too_long, counted_value}
 use Rattle.base_group.specs.Group.{octets_by, letters}
 use lib.Seq.{slice}
 use native.Mathlib.Omega.{arith}
-use borrow.Author.Rules.{rules}
 use Rattle.base_group.proofs.counted.Goals as goal
 
 pub overflow_sub-count : goal.overflow_sub-count

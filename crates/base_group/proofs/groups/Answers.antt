@@ -1,7 +1,6 @@
 use Rattle.buffer.proofs.Laws.{wrote_length}
 use Rattle.base_group.proofs.GroupDigits.{begun_none, begun_group, base_small}
-use Rattle.base_group.specs.Group.{Begun}
-use Prim.Native.Nat.{◌-◌, ◌+◌}
+use Prim.Native.Nat.{◌-◌}
 use native.Mathlib.Omega.{arith}
 use borrow.Author.Rules.{rules}
 use Rattle.base_group.proofs.groups.Goals as goal

@@ -1,9 +1,5 @@
-use Rattle.buffer.proofs.Laws.{wrote_length}
-use Rattle.base_group.proofs.GroupDigits.{begun_none, begun_group, base_small}
 use Rattle.base_group.specs.Group.{Begun}
 use Prim.Native.Nat.{◌-◌, ◌+◌}
-use native.Mathlib.Omega.{arith}
-use borrow.Author.Rules.{rules}
 use Rattle.base_group.proofs.groups.Given as goal
 
 -- The whole groups before j are stored up to m, and q digits that make v are left: the stored octets, and those of

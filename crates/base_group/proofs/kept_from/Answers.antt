@@ -1,9 +1,9 @@
 use mathlib.Core.Path.{sym}
 use borrow.Author.Tests.{eq-eqb, ne_eqb}
 use Rattle.octets.proofs.Slices.{front_on, front_off, front_end_lem}
-use Rattle.base_group.specs.Group.{left_out, kept_from}
-use mathlib.Core.Path.{◌≡◌, refl}
-use Prim.Native.Nat.{◌≤◌, ◌-◌}
+use Rattle.base_group.specs.Group.{left_out}
+use mathlib.Core.Path.{refl}
+use Prim.Native.Nat.{◌-◌}
 use mathlib.Core.Path.{◌∙◌}
 use borrow.Author.Rules.{rules}
 use Rattle.base_group.proofs.kept_from.Goals as goal

@@ -1,11 +1,6 @@
-use mathlib.Core.Path.{sym}
-use borrow.Author.Tests.{eq-eqb, ne_eqb}
-use Rattle.octets.proofs.Slices.{front_on, front_off, front_end_lem}
-use Rattle.base_group.specs.Group.{left_out, kept_from}
-use mathlib.Core.Path.{◌≡◌, refl}
+use Rattle.base_group.specs.Group.{kept_from}
+use mathlib.Core.Path.{◌≡◌}
 use Prim.Native.Nat.{◌≤◌, ◌-◌}
-use mathlib.Core.Path.{◌∙◌}
-use borrow.Author.Rules.{rules}
 use Rattle.base_group.proofs.kept_from.Given as goal
 
 -- The octets from i to j are left out: the first place kept from j on is the first one kept from i on.

@@ -1,5 +1,4 @@
 use Rattle.base_group.specs.Group.{letters}
-use borrow.Author.Rules.{rules}
 use Rattle.base_group.proofs.lettered.Goals as goal
 
 pub returns : goal.returns

@@ -1,5 +1,5 @@
-use Rattle.base_group.proofs.GroupDigits.{Taking, taking_room, quick_none, quick_next, quick_taken}
-use Prim.Native.Nat.{ℕ, ◌+◌, ◌-◌, ◌≤◌}
+use Rattle.base_group.proofs.GroupDigits.{taking_room, quick_none, quick_next, quick_taken}
+use Prim.Native.Nat.{◌+◌, ◌-◌}
 use native.Mathlib.Omega.{arith}
 use borrow.Author.Rules.{rules}
 use Rattle.base_group.proofs.next_digits.Goals as goal

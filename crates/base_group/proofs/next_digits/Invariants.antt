@@ -1,7 +1,5 @@
-use Rattle.base_group.proofs.GroupDigits.{Taking, taking_room, quick_none, quick_next, quick_taken}
+use Rattle.base_group.proofs.GroupDigits.{Taking}
 use Prim.Native.Nat.{ℕ, ◌+◌, ◌-◌, ◌≤◌}
-use native.Mathlib.Omega.{arith}
-use borrow.Author.Rules.{rules}
 use Rattle.base_group.proofs.next_digits.Given as goal
 
 -- The q octets from i on are digits, and make v.

@@ -1,6 +1,5 @@
 use Rattle.base_group.proofs.GroupDigits.{begun_small, begun_octets, begun_fault}
 use native.Mathlib.Omega.{arith}
-use borrow.Author.Rules.{rules}
 use Rattle.base_group.proofs.octets.Goals as goal
 
 pub groups-d-requires : goal.groups-d-requires

@@ -1,6 +1,6 @@
 use Rattle.base_group.proofs.Bits.{power_on, power_small, power_end}
-use mathlib.Core.Path.{◌≡◌, refl}
-use Prim.Native.Nat.{◌≤◌, ◌^◌, ◌-◌}
+use mathlib.Core.Path.{refl}
+use Prim.Native.Nat.{◌-◌}
 use native.Mathlib.Omega.{arith}
 use borrow.Author.Rules.{rules}
 use Rattle.base_group.proofs.power.Goals as goal

@@ -1,8 +1,5 @@
-use Rattle.base_group.proofs.Bits.{power_on, power_small, power_end}
-use mathlib.Core.Path.{◌≡◌, refl}
+use mathlib.Core.Path.{◌≡◌}
 use Prim.Native.Nat.{◌≤◌, ◌^◌, ◌-◌}
-use native.Mathlib.Omega.{arith}
-use borrow.Author.Rules.{rules}
 use Rattle.base_group.proofs.power.Given as goal
 
 -- p is 2 to the power k.

@@ -1,4 +1,3 @@
-use borrow.Author.Rules.{rules}
 use Rattle.base_group.proofs.put_group.Goals as goal
 
 pub returns-then-g-eq3 : goal.returns-then-g-eq3

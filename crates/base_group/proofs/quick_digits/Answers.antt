@@ -1,5 +1,4 @@
 use native.Mathlib.Omega.{arith}
-use borrow.Author.Rules.{rules}
 use Rattle.base_group.proofs.quick_digits.Goals as goal
 
 pub returns-then-k-eq4 : goal.returns-then-k-eq4

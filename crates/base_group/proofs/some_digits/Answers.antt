@@ -1,4 +1,4 @@
-use Rattle.base_group.proofs.GroupDigits.{Taking, taking_none, taking_room, taking_next, taken}
+use Rattle.base_group.proofs.GroupDigits.{taking_none, taking_room, taking_next, taken}
 use mathlib.Core.Path.{subst}
 use Prim.Native.Nat.{◌≤◌, ◌-◌}
 use native.Mathlib.Omega.{arith}

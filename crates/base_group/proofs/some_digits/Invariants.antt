@@ -1,8 +1,5 @@
-use Rattle.base_group.proofs.GroupDigits.{Taking, taking_none, taking_room, taking_next, taken}
-use mathlib.Core.Path.{subst}
+use Rattle.base_group.proofs.GroupDigits.{Taking}
 use Prim.Native.Nat.{◌≤◌, ◌-◌}
-use native.Mathlib.Omega.{arith}
-use borrow.Author.Rules.{rules}
 use Rattle.base_group.proofs.some_digits.Given as goal
 
 -- From i to j there are q digits, which make v; the octet at j, if there is one, is not left out.

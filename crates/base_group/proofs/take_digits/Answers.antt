@@ -1,4 +1,3 @@
-use borrow.Author.Rules.{rules}
 use Rattle.base_group.proofs.take_digits.Goals as goal
 
 pub returns-then-q-gt0 : goal.returns-then-q-gt0

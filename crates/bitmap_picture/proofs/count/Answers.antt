@@ -3,7 +3,6 @@ use lib.Seq.{take-length}
 use Rattle.format.specs.Bitmap.{without_last_zeros}
 use lib.ListN.{length, take}
 use mathlib.Core.Path.{◌≡◌, sym, ap, ◌∙◌}
-use Prim.Native.Nat.{◌≤◌}
 use native.Mathlib.Omega.{arith}
 use borrow.Author.Rules.{rules}
 use Rattle.bitmap_picture.proofs.count.Goals as goal

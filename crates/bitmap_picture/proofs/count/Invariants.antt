@@ -1,11 +1,7 @@
-use Rattle.bitmap_picture.proofs.Windows.{zero_off, kept}
-use lib.Seq.{take-length}
 use Rattle.format.specs.Bitmap.{without_last_zeros}
 use lib.ListN.{length, take}
-use mathlib.Core.Path.{◌≡◌, sym, ap, ◌∙◌}
+use mathlib.Core.Path.{◌≡◌}
 use Prim.Native.Nat.{◌≤◌}
-use native.Mathlib.Omega.{arith}
-use borrow.Author.Rules.{rules}
 use Rattle.bitmap_picture.proofs.count.Given as goal
 
 -- The octets from n on are zero: the first n, without their last zeros, are the whole window without its last zeros.

@@ -1,8 +1,7 @@
-use Prim.Native.Nat.{◌-◌, ◌≤◌}
-use mathlib.Core.Bool.{◌&&◌}
-use mathlib.Core.Path.{◌≡◌, refl, sym, ap, ◌∙◌}
+use Prim.Native.Nat.{◌-◌}
+use mathlib.Core.Path.{refl, sym, ap, ◌∙◌}
 use lib.ListN.{length}
-use lib.Seq.{slice, take-length}
+use lib.Seq.{take-length}
 use Rattle.format.specs.Lists.{all_of}
 use Rattle.bitmap_picture.specs.Windows.{zero_octet}
 use Rattle.octets.proofs.Blocks.{all_next, all_none}

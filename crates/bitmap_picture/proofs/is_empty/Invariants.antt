@@ -1,13 +1,10 @@
 use Prim.Native.Nat.{◌-◌, ◌≤◌}
 use mathlib.Core.Bool.{◌&&◌}
-use mathlib.Core.Path.{◌≡◌, refl, sym, ap, ◌∙◌}
+use mathlib.Core.Path.{◌≡◌}
 use lib.ListN.{length}
-use lib.Seq.{slice, take-length}
+use lib.Seq.{slice}
 use Rattle.format.specs.Lists.{all_of}
 use Rattle.bitmap_picture.specs.Windows.{zero_octet}
-use Rattle.octets.proofs.Blocks.{all_next, all_none}
-use native.Mathlib.Omega.{arith}
-use borrow.Author.Rules.{rules}
 use Rattle.bitmap_picture.proofs.is_empty.Given as goal
 
 -- All octets are zero exactly if `all` holds and the octets from k on are zero.

@@ -4,7 +4,6 @@ use lib.ListN.{length-take}
 use Rattle.bitmap_picture.proofs.Windows.{front_length, no_block, some_block, empty_block}
 use Rattle.buffer.proofs.Laws.{wrote_none, wrote_append, wrote_text}
 use native.Mathlib.Omega.{arith}
-use borrow.Author.Rules.{rules}
 use Rattle.bitmap_picture.proofs.put_block.Goals as goal
 
 pub returns-then-is_empty : goal.returns-then-is_empty

@@ -1,11 +1,8 @@
 use Rattle.bitmap_picture.proofs.Windows.{block_length, next_block, no_more}
-use Rattle.bitmap_picture.specs.Windows.{Holds}
-use Rattle.buffer.proofs.Laws.{Left, left_all, left_piece, left_none, wrote_length}
-use Rattle.format.specs.Bitmap.{blocks_from, blocks}
+use Rattle.buffer.proofs.Laws.{left_all, left_piece, left_none, wrote_length}
 use lib.ListN.{length, get_or}
-use mathlib.Core.List.{List, []}
-use mathlib.Core.Path.{◌≡◌, refl, ◌∙◌}
-use Prim.Native.Nat.{ℕ, ◌+◌, ◌-◌, ◌*◌, ◌≤◌}
+use mathlib.Core.Path.{refl, ◌∙◌}
+use Prim.Native.Nat.{◌-◌, ◌≤◌}
 use native.Mathlib.Omega.{arith}
 use borrow.Author.Rules.{rules}
 use Rattle.bitmap_picture.proofs.put_blocks.Goals as goal

@@ -1,13 +1,10 @@
-use Rattle.bitmap_picture.proofs.Windows.{block_length, next_block, no_more}
 use Rattle.bitmap_picture.specs.Windows.{Holds}
-use Rattle.buffer.proofs.Laws.{Left, left_all, left_piece, left_none, wrote_length}
+use Rattle.buffer.proofs.Laws.{Left}
 use Rattle.format.specs.Bitmap.{blocks_from, blocks}
-use lib.ListN.{length, get_or}
-use mathlib.Core.List.{List, []}
-use mathlib.Core.Path.{◌≡◌, refl, ◌∙◌}
+use lib.ListN.{length}
+use mathlib.Core.List.{List}
+use mathlib.Core.Path.{◌≡◌}
 use Prim.Native.Nat.{ℕ, ◌+◌, ◌-◌, ◌*◌, ◌≤◌}
-use native.Mathlib.Omega.{arith}
-use borrow.Author.Rules.{rules}
 use Rattle.bitmap_picture.proofs.put_blocks.Given as goal
 
 -- The blocks of the windows before w are written; writing those of the others from k on would give all blocks.

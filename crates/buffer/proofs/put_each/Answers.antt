@@ -1,7 +1,5 @@
-use Rattle.buffer.proofs.Laws.{Left, left_all, left_one, left_none, next, none}
-use lib.ListN.{length, drop}
-use mathlib.Core.Path.{◌≡◌}
-use Prim.Native.Nat.{◌+◌, ◌-◌, ◌≤◌}
+use Rattle.buffer.proofs.Laws.{left_all, left_one, left_none, next, none}
+use Prim.Native.Nat.{◌-◌}
 use borrow.Author.Rules.{rules}
 use Rattle.buffer.proofs.put_each.Goals as goal
 

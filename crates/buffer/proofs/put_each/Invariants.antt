@@ -1,8 +1,7 @@
-use Rattle.buffer.proofs.Laws.{Left, left_all, left_one, left_none, next, none}
+use Rattle.buffer.proofs.Laws.{Left}
 use lib.ListN.{length, drop}
 use mathlib.Core.Path.{◌≡◌}
 use Prim.Native.Nat.{◌+◌, ◌-◌, ◌≤◌}
-use borrow.Author.Rules.{rules}
 use Rattle.buffer.proofs.put_each.Given as goal
 
 -- The first i octets of s are written; writing the rest from m on would give the whole list.

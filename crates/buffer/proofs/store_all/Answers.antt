@@ -1,7 +1,6 @@
 use Rattle.buffer.proofs.Laws.{Left, left_all, left_one, left_none, next, none}
-use lib.ListN.{length, drop}
 use mathlib.Core.Path.{◌≡◌, refl, sym, subst}
-use Prim.Native.Nat.{◌+◌, ◌-◌, ◌≤◌}
+use Prim.Native.Nat.{◌+◌, ◌-◌}
 use native.Mathlib.Omega.{arith}
 use borrow.Author.Rules.{rules}
 use Rattle.buffer.proofs.store_all.Goals as goal

@@ -1,9 +1,6 @@
-use Rattle.buffer.proofs.Laws.{Left, left_all, left_one, left_none, next, none}
+use Rattle.buffer.proofs.Laws.{Left}
 use lib.ListN.{length, drop}
-use mathlib.Core.Path.{◌≡◌, refl, sym, subst}
 use Prim.Native.Nat.{◌+◌, ◌-◌, ◌≤◌}
-use native.Mathlib.Omega.{arith}
-use borrow.Author.Rules.{rules}
 use Rattle.buffer.proofs.store_all.Given as goal
 
 -- The first i octets of s are stored; writing the rest from n + i on would give the whole list.

@@ -1,5 +1,4 @@
 use native.Mathlib.Omega.{arith}
-use borrow.Author.Rules.{rules}
 use Rattle.catalogue.proofs.Searches.{other_size, same_name}
 use Rattle.catalogue.proofs.is_named.Goals as goal
 

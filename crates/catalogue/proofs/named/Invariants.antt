@@ -1,12 +1,8 @@
 use Prim.Native.Nat.{◌-◌, ◌≤◌}
-use mathlib.Core.Path.{◌≡◌, refl, ◌∙◌}
+use mathlib.Core.Path.{◌≡◌}
 use lib.ListN.{length, drop}
 use lib.Seq.{slice}
-use borrow.Author.Rules.{rules}
-use Rattle.format.proofs.Lists.{drop_none}
 use Rattle.catalogue.specs.Entries.{names_of, name_number}
-use Rattle.catalogue.proofs.Laws.{listed_within}
-use Rattle.catalogue.proofs.Searches.{name_found, name_after}
 use Rattle.catalogue.proofs.named.Given as goal
 
 -- The entries from k on give the same answer as all of them.

@@ -1,8 +1,7 @@
-use Prim.Native.Nat.{◌-◌, ◌≤◌}
-use lib.ListN.{length}
+use Prim.Native.Nat.{◌-◌}
 use native.Mathlib.Omega.{arith}
 use borrow.Author.Rules.{rules}
-use Rattle.catalogue.proofs.Searches.{Sought, sought_all, sought_up, sought_down, sought_found, sought_none}
+use Rattle.catalogue.proofs.Searches.{sought_all, sought_up, sought_down, sought_found, sought_none}
 use Rattle.catalogue.proofs.place_of.Goals as goal
 
 pub loop-lo-init : goal.loop-lo-init

@@ -1,8 +1,6 @@
 use Prim.Native.Nat.{◌-◌, ◌≤◌}
 use lib.ListN.{length}
-use native.Mathlib.Omega.{arith}
-use borrow.Author.Rules.{rules}
-use Rattle.catalogue.proofs.Searches.{Sought, sought_all, sought_up, sought_down, sought_found, sought_none}
+use Rattle.catalogue.proofs.Searches.{Sought}
 use Rattle.catalogue.proofs.place_of.Given as goal
 
 -- The number stands from lo up to hi, if it stands anywhere.

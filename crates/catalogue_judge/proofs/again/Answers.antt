@@ -1,7 +1,6 @@
 use mathlib.Core.Path.{sym, ◌∙◌}
 use Rattle.catalogue_judge.proofs.Marks.{hash_none}
 use native.Mathlib.Omega.{arith}
-use borrow.Author.Rules.{rules}
 use Rattle.catalogue_judge.proofs.again.Goals as goal
 
 pub returns-then-mark-eq0 : goal.returns-then-mark-eq0

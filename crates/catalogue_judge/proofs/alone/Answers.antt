@@ -1,5 +1,4 @@
 use Rattle.catalogue_judge.proofs.Entries.{alone_out, alone_high, alone_typed, alone_other, alone_word}
-use borrow.Author.Rules.{rules}
 use Rattle.catalogue_judge.proofs.alone.Goals as goal
 
 pub returns-then-names-e : goal.returns-then-names-e

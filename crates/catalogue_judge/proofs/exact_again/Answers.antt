@@ -1,8 +1,7 @@
-use Prim.Native.Nat.{◌-◌, ◌≤◌}
-use mathlib.Core.Path.{◌≡◌, refl, sym, ◌∙◌}
+use Prim.Native.Nat.{◌-◌}
+use mathlib.Core.Path.{refl, sym, ◌∙◌}
 use mathlib.Core.Bool.{false}
-use lib.ListN.{take, get_or}
-use Rattle.format.specs.Lists.{any_of}
+use lib.ListN.{get_or}
 use Rattle.catalogue_judge.specs.Judging.{same_as}
 use Rattle.catalogue_judge.proofs.Marks.{any_upto, any_found, none_next}
 use native.Mathlib.Omega.{arith}

@@ -1,12 +1,9 @@
 use Prim.Native.Nat.{◌-◌, ◌≤◌}
-use mathlib.Core.Path.{◌≡◌, refl, sym, ◌∙◌}
+use mathlib.Core.Path.{◌≡◌}
 use mathlib.Core.Bool.{false}
-use lib.ListN.{take, get_or}
+use lib.ListN.{take}
 use Rattle.format.specs.Lists.{any_of}
 use Rattle.catalogue_judge.specs.Judging.{same_as}
-use Rattle.catalogue_judge.proofs.Marks.{any_upto, any_found, none_next}
-use native.Mathlib.Omega.{arith}
-use borrow.Author.Rules.{rules}
 use Rattle.catalogue_judge.proofs.exact_again.Given as goal
 
 -- None of the first j names is the same.

@@ -1,9 +1,9 @@
 use native.Mathlib.Nat.{mod-lt}
-use Prim.Native.Nat.{ℕ, ◌-◌, ◌%◌, ◌≤◌, ◌<◌}
+use Prim.Native.Nat.{ℕ, ◌-◌, ◌%◌, ◌<◌}
 use mathlib.Core.Path.{◌≡◌, sym, ◌∙◌}
 use mathlib.Core.Bool.{false}
-use lib.ListN.{length, get_or, length-set}
-use Rattle.catalogue_judge.specs.Judging.{mark_of, met_before}
+use lib.ListN.{get_or, length-set}
+use Rattle.catalogue_judge.specs.Judging.{met_before}
 use Rattle.catalogue_judge.proofs.Marks.{each_next, mark_none, mark_below, marked_next}
 use native.Mathlib.Omega.{arith}
 use borrow.Author.Rules.{rules}

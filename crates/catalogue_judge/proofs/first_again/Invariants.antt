@@ -1,12 +1,8 @@
-use native.Mathlib.Nat.{mod-lt}
-use Prim.Native.Nat.{ℕ, ◌-◌, ◌%◌, ◌≤◌, ◌<◌}
-use mathlib.Core.Path.{◌≡◌, sym, ◌∙◌}
+use Prim.Native.Nat.{ℕ, ◌-◌, ◌≤◌, ◌<◌}
+use mathlib.Core.Path.{◌≡◌}
 use mathlib.Core.Bool.{false}
-use lib.ListN.{length, get_or, length-set}
+use lib.ListN.{length, get_or}
 use Rattle.catalogue_judge.specs.Judging.{mark_of, met_before}
-use Rattle.catalogue_judge.proofs.Marks.{each_next, mark_none, mark_below, marked_next}
-use native.Mathlib.Omega.{arith}
-use borrow.Author.Rules.{rules}
 use Rattle.catalogue_judge.proofs.first_again.Given as goal
 
 -- None of the first k names is the same as an earlier one, and each has set its mark.

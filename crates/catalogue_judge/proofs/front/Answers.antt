@@ -1,7 +1,6 @@
 use mathlib.Core.Path.{refl}
 use Rattle.catalogue_judge.specs.Judging.{folded_table}
 use native.Mathlib.Omega.{arith}
-use borrow.Author.Rules.{rules}
 use Rattle.catalogue_judge.proofs.front.Goals as goal
 
 pub front_by-requires : goal.front_by-requires

@@ -1,7 +1,7 @@
-use Prim.Native.Nat.{◌-◌, ◌≤◌}
-use mathlib.Core.Path.{◌≡◌, refl, ◌∙◌}
-use lib.ListN.{length, get_or, length-set}
-use Rattle.catalogue_judge.proofs.Fronts.{Going, no_number, a_number, going_none, going_low, going_bad, going_on}
+use Prim.Native.Nat.{◌-◌}
+use mathlib.Core.Path.{refl, ◌∙◌}
+use lib.ListN.{get_or, length-set}
+use Rattle.catalogue_judge.proofs.Fronts.{no_number, a_number, going_none, going_low, going_bad, going_on}
 use native.Mathlib.Omega.{arith}
 use borrow.Author.Rules.{rules}
 use Rattle.catalogue_judge.proofs.front_by.Goals as goal

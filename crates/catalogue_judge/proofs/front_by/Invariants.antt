@@ -1,9 +1,7 @@
 use Prim.Native.Nat.{◌-◌, ◌≤◌}
-use mathlib.Core.Path.{◌≡◌, refl, ◌∙◌}
-use lib.ListN.{length, get_or, length-set}
-use Rattle.catalogue_judge.proofs.Fronts.{Going, no_number, a_number, going_none, going_low, going_bad, going_on}
-use native.Mathlib.Omega.{arith}
-use borrow.Author.Rules.{rules}
+use mathlib.Core.Path.{◌≡◌}
+use lib.ListN.{length}
+use Rattle.catalogue_judge.proofs.Fronts.{Going}
 use Rattle.catalogue_judge.proofs.front_by.Given as goal
 
 -- The first i entries are good in themselves, and they rise up to `low`.

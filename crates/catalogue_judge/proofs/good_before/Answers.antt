@@ -1,6 +1,5 @@
 use Rattle.catalogue_judge.proofs.Verdicts.{few_good, stops}
 use native.Mathlib.Omega.{arith}
-use borrow.Author.Rules.{rules}
 use Rattle.catalogue_judge.proofs.good_before.Goals as goal
 
 pub first_again-requires : goal.first_again-requires

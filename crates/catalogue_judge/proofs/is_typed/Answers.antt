@@ -1,6 +1,5 @@
 use Rattle.catalogue_judge.proofs.Entries.{typed_short, typed_digits, typed_other}
 use native.Mathlib.Omega.{arith}
-use borrow.Author.Rules.{rules}
 use Rattle.catalogue_judge.proofs.is_typed.Goals as goal
 
 pub returns-then-e-a-lt5 : goal.returns-then-e-a-lt5

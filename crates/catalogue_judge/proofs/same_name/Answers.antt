@@ -1,6 +1,4 @@
 use Rattle.catalogue_judge.proofs.Marks.{names_other, names_part}
-use native.Mathlib.Omega.{arith}
-use borrow.Author.Rules.{rules}
 use Rattle.catalogue_judge.proofs.same_name.Goals as goal
 
 pub returns-then-x-y : goal.returns-then-x-y

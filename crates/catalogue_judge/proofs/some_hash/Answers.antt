@@ -1,9 +1,8 @@
-use Prim.Native.Nat.{◌-◌, ◌≤◌}
-use mathlib.Core.Path.{◌≡◌, refl, sym, ap, ◌∙◌}
+use Prim.Native.Nat.{◌-◌}
+use mathlib.Core.Path.{refl, sym, ap, ◌∙◌}
 use mathlib.Core.Bool.{◌||◌}
-use lib.ListN.{take, get_or}
+use lib.ListN.{get_or}
 use lib.Dec.{eqb}
-use Rattle.format.specs.Lists.{any_of}
 use Rattle.catalogue_judge.proofs.Marks.{any_next, any_upto}
 use native.Mathlib.Omega.{arith}
 use borrow.Author.Rules.{rules}

@@ -1,12 +1,8 @@
 use Prim.Native.Nat.{◌-◌, ◌≤◌}
-use mathlib.Core.Path.{◌≡◌, refl, sym, ap, ◌∙◌}
-use mathlib.Core.Bool.{◌||◌}
-use lib.ListN.{take, get_or}
+use mathlib.Core.Path.{◌≡◌}
+use lib.ListN.{take}
 use lib.Dec.{eqb}
 use Rattle.format.specs.Lists.{any_of}
-use Rattle.catalogue_judge.proofs.Marks.{any_next, any_upto}
-use native.Mathlib.Omega.{arith}
-use borrow.Author.Rules.{rules}
 use Rattle.catalogue_judge.proofs.some_hash.Given as goal
 
 -- Whether one of the first j numbers is the same.

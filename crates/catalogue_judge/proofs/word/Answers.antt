@@ -1,9 +1,7 @@
-use Prim.Native.Nat.{◌-◌, ◌≤◌, ◌<◌}
-use mathlib.Core.Path.{◌≡◌, refl, ap, ◌∙◌}
+use Prim.Native.Nat.{◌-◌}
+use mathlib.Core.Path.{refl, ap, ◌∙◌}
 use native.Mathlib.Nat.{mod-lt}
 use lib.ListN.{get_or}
-use lib.Seq.{slice}
-use Rattle.catalogue_judge.specs.Judging.{word_from}
 use Rattle.catalogue_judge.proofs.Words.{octet_held, word_off, word_on, word_end}
 use native.Mathlib.Omega.{arith}
 use borrow.Author.Rules.{rules}

@@ -1,12 +1,7 @@
 use Prim.Native.Nat.{◌-◌, ◌≤◌, ◌<◌}
-use mathlib.Core.Path.{◌≡◌, refl, ap, ◌∙◌}
-use native.Mathlib.Nat.{mod-lt}
-use lib.ListN.{get_or}
+use mathlib.Core.Path.{◌≡◌}
 use lib.Seq.{slice}
 use Rattle.catalogue_judge.specs.Judging.{word_from}
-use Rattle.catalogue_judge.proofs.Words.{octet_held, word_off, word_on, word_end}
-use native.Mathlib.Omega.{arith}
-use borrow.Author.Rules.{rules}
 use Rattle.catalogue_judge.proofs.word.Given as goal
 
 -- The word's number is that of its rest, from i on, with the number so far.

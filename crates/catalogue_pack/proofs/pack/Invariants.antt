@@ -1,13 +1,12 @@
 use Prim.Native.Nat.{ℕ, ◌+◌, ◌-◌, ◌≤◌, ◌<◌}
-use mathlib.Core.Path.{◌≡◌, refl, ◌∙◌, ap}
+use mathlib.Core.Path.{◌≡◌, ◌∙◌, ap}
 use mathlib.Core.List.{List}
 use native.Mathlib.Omega.{arith}
 use lib.ListN.{length, get_or, set, take}
-use borrow.Author.Rules.{rules}
 use Rattle.format.specs.Catalogue.{Entry}
 use Rattle.catalogue_pack.specs.Packed.{parallel, entry_of, pack_of, packed_in, Fitting, AllFit, Packed}
 use Rattle.catalogue_pack.proofs.Rows.{next_packed, next_fit, all_packed, full_packed}
-use Rattle.catalogue_pack.proofs.Parallel.{at_most, at_least, at_place}
+use Rattle.catalogue_pack.proofs.Parallel.{at_least, at_place}
 use Rattle.catalogue_pack.proofs.pack.Given as goal
 
 -- i entries are packed

@@ -1,8 +1,8 @@
-use Rattle.std.proofs.Common.{◌≡◌, ◌+◌, ◌≤◌, ◌<◌, ◌∙◌, ap, arith, length, set, get_or}
+use Rattle.std.proofs.Common.{◌<◌, ◌∙◌, ap, arith, length, set, get_or}
 use mathlib.Core.List.{List}
 use Prim.Native.Nat.{ℕ}
 use Rattle.catalogue_pack.specs.Place.{no_lent}
-use Rattle.catalogue_pack.specs.Packed.{entries_of, pack_of, AllFit, packed_in}
+use Rattle.catalogue_pack.specs.Packed.{entries_of, pack_of}
 use Rattle.catalogue_pack.proofs.Rows.{lent_of, lent_at, lent_count, next_packed, next_fit, all_packed, full_packed}
 use Rattle.catalogue_pack.proofs.packed.Goals as goal
 

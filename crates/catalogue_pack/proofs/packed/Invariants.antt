@@ -1,4 +1,4 @@
-use Rattle.std.proofs.Common.{◌≡◌, ◌+◌, ◌-◌, ◌≤◌, length, take}
+use Rattle.std.proofs.Common.{◌≡◌, ◌-◌, ◌≤◌, length, take}
 use Rattle.catalogue_pack.specs.Packed.{entries_of, AllFit, packed_in}
 use Rattle.catalogue_pack.proofs.packed.Given as goal
 

@@ -1,5 +1,4 @@
 use Rattle.buffer.proofs.Laws.{wrote_text}
-use borrow.Author.Rules.{rules}
 use Rattle.digits.proofs.put_decimal.Goals as goal
 
 pub returns : goal.returns

@@ -1,9 +1,5 @@
 use Rattle.digits.proofs.Decimal.{last_stored, all_stored}
-use Rattle.format.specs.Number.{fixed_decimal}
-use lib.Seq.{sets}
-use lib.ListN.{length}
-use mathlib.Core.Path.{◌≡◌, refl, ◌∙◌}
-use Prim.Native.Nat.{◌≤◌}
+use mathlib.Core.Path.{refl, ◌∙◌}
 use borrow.Author.Rules.{rules}
 use Rattle.digits.proofs.put_fixed.Goals as goal
 

@@ -1,10 +1,8 @@
-use Rattle.digits.proofs.Decimal.{last_stored, all_stored}
 use Rattle.format.specs.Number.{fixed_decimal}
 use lib.Seq.{sets}
 use lib.ListN.{length}
-use mathlib.Core.Path.{◌≡◌, refl, ◌∙◌}
+use mathlib.Core.Path.{◌≡◌}
 use Prim.Native.Nat.{◌≤◌}
-use borrow.Author.Rules.{rules}
 use Rattle.digits.proofs.put_fixed.Given as goal
 
 -- The last w - k digits are stored; writing x at n in the k digits before them would give the whole number.

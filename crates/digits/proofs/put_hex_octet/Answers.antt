@@ -1,5 +1,4 @@
 use Rattle.buffer.proofs.Laws.{wrote_two}
-use borrow.Author.Rules.{rules}
 use Rattle.digits.proofs.put_hex_octet.Goals as goal
 
 pub returns : goal.returns

@@ -1,8 +1,4 @@
-use Prim.Native.Nat.{◌≤◌}
-use mathlib.Core.Path.{◌≡◌, refl, ◌∙◌}
-use lib.ListN.{length}
-use lib.Seq.{sets}
-use Rattle.format.specs.Digits.{digits}
+use mathlib.Core.Path.{refl, ◌∙◌}
 use Rattle.digits.proofs.Decimal.{last_octet, all_octets}
 use borrow.Author.Rules.{rules}
 use Rattle.digits.proofs.put_octets.Goals as goal

@@ -1,10 +1,8 @@
 use Prim.Native.Nat.{◌≤◌}
-use mathlib.Core.Path.{◌≡◌, refl, ◌∙◌}
+use mathlib.Core.Path.{◌≡◌}
 use lib.ListN.{length}
 use lib.Seq.{sets}
 use Rattle.format.specs.Digits.{digits}
-use Rattle.digits.proofs.Decimal.{last_octet, all_octets}
-use borrow.Author.Rules.{rules}
 use Rattle.digits.proofs.put_octets.Given as goal
 
 -- The last w - k octets are stored; writing x at n in the k octets before them would give the whole number.

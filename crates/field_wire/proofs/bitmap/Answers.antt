@@ -1,9 +1,8 @@
-use lib.Seq.{slice}
-use Prim.Native.Nat.{◌+◌, ◌-◌, ◌≤◌}
-use mathlib.Core.Path.{◌≡◌, refl}
+use Prim.Native.Nat.{◌+◌, ◌-◌}
+use mathlib.Core.Path.{refl}
 use mathlib.Core.Bool.{true}
-use Rattle.format.specs.Wire.{taken, window, short, bad}
-use Rattle.field_wire.proofs.Laws.{plus, whole, whole_so_far, at_first, nothing, window_low, window_cut, window_none, window_long}
+use Rattle.format.specs.Wire.{window, short, bad}
+use Rattle.field_wire.proofs.Laws.{whole, whole_so_far, at_first, nothing, window_low, window_cut, window_none, window_long}
 use Rattle.field_wire.proofs.Laws.{window_short, window_zero, window_again}
 use native.Mathlib.Omega.{arith}
 use borrow.Author.Rules.{rules}

@@ -1,12 +1,8 @@
 use lib.Seq.{slice}
-use Prim.Native.Nat.{◌+◌, ◌-◌, ◌≤◌}
-use mathlib.Core.Path.{◌≡◌, refl}
-use mathlib.Core.Bool.{true}
-use Rattle.format.specs.Wire.{taken, window, short, bad}
-use Rattle.field_wire.proofs.Laws.{plus, whole, whole_so_far, at_first, nothing, window_low, window_cut, window_none, window_long}
-use Rattle.field_wire.proofs.Laws.{window_short, window_zero, window_again}
-use native.Mathlib.Omega.{arith}
-use borrow.Author.Rules.{rules}
+use Prim.Native.Nat.{◌-◌, ◌≤◌}
+use mathlib.Core.Path.{◌≡◌}
+use Rattle.format.specs.Wire.{taken, window}
+use Rattle.field_wire.proofs.Laws.{plus}
 use Rattle.field_wire.proofs.bitmap.Given as goal
 
 -- The field takes the octets from i to j, and then what blocks with windows of at least lo take from j on.

@@ -3,7 +3,6 @@ use mathlib.Core.Bool.{false}
 use Rattle.format.specs.Wire.{count}
 use Rattle.field_wire.proofs.Laws.{nothing, count_low, count_cut, count_all}
 use native.Mathlib.Omega.{arith}
-use borrow.Author.Rules.{rules}
 use Rattle.field_wire.proofs.counted.Goals as goal
 
 pub returns-then-e-i : goal.returns-then-e-i

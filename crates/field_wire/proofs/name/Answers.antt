@@ -1,9 +1,8 @@
-use lib.Seq.{slice}
-use Prim.Native.Nat.{◌-◌, ◌≤◌}
-use mathlib.Core.Path.{◌≡◌, refl, sym}
+use Prim.Native.Nat.{◌-◌}
+use mathlib.Core.Path.{refl, sym}
 use mathlib.Core.Bool.{true, false}
-use Rattle.format.specs.Wire.{taken, label_length, took, short, bad}
-use Rattle.field_wire.proofs.Laws.{plus, whole, nothing, root, label_long, name_long, label_cut, name_first, label_again}
+use Rattle.format.specs.Wire.{label_length, took, short, bad}
+use Rattle.field_wire.proofs.Laws.{whole, nothing, root, label_long, name_long, label_cut, name_first, label_again}
 use native.Mathlib.Omega.{arith}
 use borrow.Author.Rules.{rules}
 use Rattle.field_wire.proofs.name.Goals as goal

@@ -1,11 +1,9 @@
 use lib.Seq.{slice}
 use Prim.Native.Nat.{◌-◌, ◌≤◌}
-use mathlib.Core.Path.{◌≡◌, refl, sym}
-use mathlib.Core.Bool.{true, false}
-use Rattle.format.specs.Wire.{taken, label_length, took, short, bad}
-use Rattle.field_wire.proofs.Laws.{plus, whole, nothing, root, label_long, name_long, label_cut, name_first, label_again}
-use native.Mathlib.Omega.{arith}
-use borrow.Author.Rules.{rules}
+use mathlib.Core.Path.{◌≡◌}
+use mathlib.Core.Bool.{false}
+use Rattle.format.specs.Wire.{taken, label_length}
+use Rattle.field_wire.proofs.Laws.{plus}
 use Rattle.field_wire.proofs.name.Given as goal
 
 -- The name takes the labels from i to j, and then what the rest of a name, after these octets, takes from j on.

@@ -1,5 +1,4 @@
 use Rattle.field_wire.proofs.Laws.{octets_cut, octets_all}
-use borrow.Author.Rules.{rules}
 use Rattle.field_wire.proofs.octets.Goals as goal
 
 pub returns-then-e-i : goal.returns-then-e-i

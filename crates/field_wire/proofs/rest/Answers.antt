@@ -2,7 +2,6 @@ use Rattle.field_wire.proofs.Laws.{rest_all, nothing}
 use Rattle.format.specs.Wire.{to_the_end}
 use mathlib.Core.Bool.{false}
 use mathlib.Core.Path.{refl}
-use borrow.Author.Rules.{rules}
 use Rattle.field_wire.proofs.rest.Goals as goal
 
 pub returns-then-i-e : goal.returns-then-i-e

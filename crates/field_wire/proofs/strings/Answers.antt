@@ -1,9 +1,8 @@
-use lib.Seq.{slice}
-use Prim.Native.Nat.{◌-◌, ◌≤◌}
-use mathlib.Core.Path.{◌≡◌, refl, ◌∙◌}
+use Prim.Native.Nat.{◌-◌}
+use mathlib.Core.Path.{refl, ◌∙◌}
 use mathlib.Core.Bool.{true, false}
-use Rattle.format.specs.Wire.{taken, string_count, short}
-use Rattle.field_wire.proofs.Laws.{plus, whole, whole_so_far, at_first, nothing, string_cut, string_again, string_there}
+use Rattle.format.specs.Wire.{string_count, short}
+use Rattle.field_wire.proofs.Laws.{whole, whole_so_far, at_first, nothing, string_cut, string_again, string_there}
 use native.Mathlib.Omega.{arith}
 use borrow.Author.Rules.{rules}
 use Rattle.field_wire.proofs.strings.Goals as goal

@@ -1,11 +1,9 @@
 use lib.Seq.{slice}
 use Prim.Native.Nat.{◌-◌, ◌≤◌}
-use mathlib.Core.Path.{◌≡◌, refl, ◌∙◌}
+use mathlib.Core.Path.{◌≡◌}
 use mathlib.Core.Bool.{true, false}
-use Rattle.format.specs.Wire.{taken, string_count, short}
-use Rattle.field_wire.proofs.Laws.{plus, whole, whole_so_far, at_first, nothing, string_cut, string_again, string_there}
-use native.Mathlib.Omega.{arith}
-use borrow.Author.Rules.{rules}
+use Rattle.format.specs.Wire.{taken, string_count}
+use Rattle.field_wire.proofs.Laws.{plus}
 use Rattle.field_wire.proofs.strings.Given as goal
 
 -- The field takes the strings from i to j, and then what more strings, or none, take from j on.

@@ -1,6 +1,5 @@
 use Rattle.stanza_form.specs.declared.Shape.TheVariants.{Octets, Labels, Counted, Strings, Rest, Windows}
 use Rattle.stanza_form.proofs.Forms.{start_by}
-use borrow.Author.Rules.{rules}
 use Rattle.field_wire.proofs.take_field.Goals as goal
 
 pub returns-in-Octets : goal.returns-in-Octets

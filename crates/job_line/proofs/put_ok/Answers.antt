@@ -2,7 +2,6 @@ use Rattle.format.proofs.Hex.{hex_length}
 use Rattle.buffer.proofs.Laws.{wrote_text, wrote_append}
 use Rattle.job_line.proofs.Answers.{ok_alone, ok_octets}
 use native.Mathlib.Omega.{arith}
-use borrow.Author.Rules.{rules}
 use Rattle.job_line.proofs.put_ok.Goals as goal
 
 pub returns-then-rdata-eq0 : goal.returns-then-rdata-eq0

@@ -4,7 +4,6 @@ use Rattle.octets.specs.Octets.{in_class}
 use Rattle.octets.specs.declared.Class.TheVariants.{FreeText}
 use Rattle.octets.proofs.Blocks.{all_over, all_off, all_ended}
 use native.Mathlib.Omega.{arith}
-use borrow.Author.Rules.{rules}
 use Rattle.octets.proofs.all_free.Goals as goal
 
 pub returns-then-all_in : goal.returns-then-all_in

@@ -1,12 +1,9 @@
 use Prim.Native.Nat.{◌+◌, ◌-◌, ◌≤◌}
 use mathlib.Core.Bool.{◌&&◌}
-use mathlib.Core.Path.{◌≡◌, sym, ◌∙◌}
+use mathlib.Core.Path.{◌≡◌}
 use lib.Seq.{slice}
 use Rattle.format.specs.Lists.{all_of}
 use Rattle.octets.specs.Octets.{in_class}
-use Rattle.octets.proofs.Blocks.{all_next, all_none}
-use native.Mathlib.Omega.{arith}
-use borrow.Author.Rules.{rules}
 use Rattle.octets.proofs.all_in.Given as goal
 
 -- All n octets are in the class exactly if `all` holds and the octets from i + k on are in it.

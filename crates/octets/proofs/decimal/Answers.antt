@@ -2,9 +2,8 @@ use Rattle.octets.proofs.Numbers.{value_from, decimal_value, no_decimal, long_de
 use Rattle.octets.proofs.Numbers.{digits_fit, nothing_yet, nothing_left}
 use Rattle.octets.proofs.Slices.{next, none}
 use Rattle.octets.specs.Octets.{number_of}
-use lib.Seq.{slice}
-use mathlib.Core.Path.{◌≡◌, refl, sym, ap, ◌∙◌}
-use Prim.Native.Nat.{◌-◌, ◌^◌, ◌≤◌, ◌<◌}
+use mathlib.Core.Path.{refl, sym, ap, ◌∙◌}
+use Prim.Native.Nat.{◌-◌}
 use native.Mathlib.Omega.{arith}
 use borrow.Author.Rules.{rules}
 use Rattle.octets.proofs.decimal.Goals as goal

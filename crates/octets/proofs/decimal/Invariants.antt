@@ -1,12 +1,7 @@
-use Rattle.octets.proofs.Numbers.{value_from, decimal_value, no_decimal, long_decimal, digit_on, digit_low, digit_high, digit_more}
-use Rattle.octets.proofs.Numbers.{digits_fit, nothing_yet, nothing_left}
-use Rattle.octets.proofs.Slices.{next, none}
-use Rattle.octets.specs.Octets.{number_of}
+use Rattle.octets.proofs.Numbers.{value_from}
 use lib.Seq.{slice}
-use mathlib.Core.Path.{◌≡◌, refl, sym, ap, ◌∙◌}
+use mathlib.Core.Path.{◌≡◌}
 use Prim.Native.Nat.{◌-◌, ◌^◌, ◌≤◌, ◌<◌}
-use native.Mathlib.Omega.{arith}
-use borrow.Author.Rules.{rules}
 use Rattle.octets.proofs.decimal.Given as goal
 
 -- The digits before j make v; going on with the octets from j to e gives the number of the whole part, or none.

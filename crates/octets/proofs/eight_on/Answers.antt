@@ -5,7 +5,6 @@ use Rattle.octets.specs.Octets.{in_class}
 use Rattle.octets.specs.declared.Class.TheVariants.{NotNewline}
 use Rattle.octets.proofs.Blocks.{all_front}
 use native.Mathlib.Omega.{arith}
-use borrow.Author.Rules.{rules}
 use Rattle.octets.proofs.eight_on.Goals as goal
 
 pub returns-then-all_in : goal.returns-then-all_in

@@ -1,5 +1,4 @@
 use borrow.Author.Tests.{le-leb, lt-leb}
-use borrow.Author.Rules.{rules}
 use Rattle.octets.proofs.goes_on.Goals as goal
 
 pub returns-then-e-i-lt16 : goal.returns-then-e-i-lt16

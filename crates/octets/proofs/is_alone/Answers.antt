@@ -1,5 +1,4 @@
 use Rattle.octets.proofs.Slices.{one_octet, other_octets}
-use borrow.Author.Rules.{rules}
 use Rattle.octets.proofs.is_alone.Goals as goal
 
 pub returns-then-e-i-eq1 : goal.returns-then-e-i-eq1

@@ -1,13 +1,12 @@
-use mathlib.Core.Path.{◌≡◌, refl, sym, ◌∙◌}
-use Prim.Native.Nat.{◌+◌, ◌-◌, ◌≤◌}
+use mathlib.Core.Path.{refl, sym, ◌∙◌}
+use Prim.Native.Nat.{◌+◌, ◌-◌}
 use lib.ListN.{length}
 use lib.Seq.{slice}
 use Rattle.format.specs.Lists.{all_of}
-use Rattle.octets.specs.Octets.{in_class, line_end}
+use Rattle.octets.specs.Octets.{in_class}
 use Rattle.octets.specs.declared.Class.TheVariants.{NotNewline}
 use Rattle.octets.proofs.Blocks.{all_front, block_there, block_passes}
 use native.Mathlib.Omega.{arith}
-use borrow.Author.Rules.{rules}
 use Rattle.octets.proofs.line_end.Goals as goal
 
 pub loop-j-init : goal.loop-j-init

@@ -1,13 +1,7 @@
-use mathlib.Core.Path.{◌≡◌, refl, sym, ◌∙◌}
-use Prim.Native.Nat.{◌+◌, ◌-◌, ◌≤◌}
+use mathlib.Core.Path.{◌≡◌}
+use Prim.Native.Nat.{◌-◌, ◌≤◌}
 use lib.ListN.{length}
-use lib.Seq.{slice}
-use Rattle.format.specs.Lists.{all_of}
-use Rattle.octets.specs.Octets.{in_class, line_end}
-use Rattle.octets.specs.declared.Class.TheVariants.{NotNewline}
-use Rattle.octets.proofs.Blocks.{all_front, block_there, block_passes}
-use native.Mathlib.Omega.{arith}
-use borrow.Author.Rules.{rules}
+use Rattle.octets.specs.Octets.{line_end}
 use Rattle.octets.proofs.line_end.Given as goal
 
 -- No LF stands from i to j: the line that j is in ends where that of i does.

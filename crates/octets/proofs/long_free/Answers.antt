@@ -1,5 +1,5 @@
 use mathlib.Core.Path.{◌≡◌, sym, ◌∙◌}
-use Prim.Native.Nat.{◌+◌, ◌-◌, ◌≤◌}
+use Prim.Native.Nat.{◌+◌, ◌-◌}
 use mathlib.Core.Bool.{true}
 use lib.Seq.{slice}
 use Rattle.format.specs.Lists.{all_of}
@@ -8,7 +8,6 @@ use Rattle.octets.specs.declared.Class.TheVariants.{FreeText}
 use Rattle.octets.proofs.Slices.{none}
 use Rattle.octets.proofs.Blocks.{all_whole, all_over, all_off, block_there, block_passes, block_broken}
 use native.Mathlib.Omega.{arith}
-use borrow.Author.Rules.{rules}
 use Rattle.octets.proofs.long_free.Goals as goal
 
 pub loop-j-init : goal.loop-j-init

@@ -1,14 +1,10 @@
-use mathlib.Core.Path.{◌≡◌, sym, ◌∙◌}
-use Prim.Native.Nat.{◌+◌, ◌-◌, ◌≤◌}
+use mathlib.Core.Path.{◌≡◌}
+use Prim.Native.Nat.{◌-◌, ◌≤◌}
 use mathlib.Core.Bool.{true}
 use lib.Seq.{slice}
 use Rattle.format.specs.Lists.{all_of}
 use Rattle.octets.specs.Octets.{in_class}
 use Rattle.octets.specs.declared.Class.TheVariants.{FreeText}
-use Rattle.octets.proofs.Slices.{none}
-use Rattle.octets.proofs.Blocks.{all_whole, all_over, all_off, block_there, block_passes, block_broken}
-use native.Mathlib.Omega.{arith}
-use borrow.Author.Rules.{rules}
 use Rattle.octets.proofs.long_free.Given as goal
 
 -- The octets from i to j are all free text.

@@ -1,5 +1,4 @@
 use borrow.Author.Tests.{lt-leb, le-leb}
-use borrow.Author.Rules.{rules}
 use Rattle.octets.proofs.lower.Goals as goal
 
 pub returns-then-b-lt65 : goal.returns-then-b-lt65

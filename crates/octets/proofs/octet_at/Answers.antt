@@ -2,7 +2,6 @@ use Rattle.octets.proofs.Slices.{next, none}
 use Rattle.octets.specs.Octets.{first_or}
 use mathlib.Core.Path.{sym, ap}
 use native.Mathlib.Omega.{arith}
-use borrow.Author.Rules.{rules}
 use Rattle.octets.proofs.octet_at.Goals as goal
 
 pub overflow_cast-result : goal.overflow_cast-result

@@ -1,7 +1,7 @@
 use Rattle.octets.proofs.Slices.{front_on, front_off, front_end_lem}
-use Rattle.octets.specs.Octets.{in_class, front_end}
-use mathlib.Core.Path.{◌≡◌, refl, sym, ◌∙◌}
-use Prim.Native.Nat.{◌-◌, ◌≤◌}
+use Rattle.octets.specs.Octets.{in_class}
+use mathlib.Core.Path.{refl, sym, ◌∙◌}
+use Prim.Native.Nat.{◌-◌}
 use borrow.Author.Rules.{rules}
 use Rattle.octets.proofs.skip.Goals as goal
 

@@ -1,8 +1,6 @@
-use Rattle.octets.proofs.Slices.{front_on, front_off, front_end_lem}
 use Rattle.octets.specs.Octets.{in_class, front_end}
-use mathlib.Core.Path.{◌≡◌, refl, sym, ◌∙◌}
+use mathlib.Core.Path.{◌≡◌}
 use Prim.Native.Nat.{◌-◌, ◌≤◌}
-use borrow.Author.Rules.{rules}
 use Rattle.octets.proofs.skip.Given as goal
 
 -- The octets from i to j are in the class: the run from j on ends where the run from i does.

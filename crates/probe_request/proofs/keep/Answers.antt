@@ -1,6 +1,6 @@
-use Prim.Native.Nat.{◌-◌, ◌≤◌}
+use Prim.Native.Nat.{◌-◌}
 use native.Mathlib.Omega.{arith}
-use Rattle.probe_request.proofs.Moved.{Moved, moved_none, moved_one, moved_all}
+use Rattle.probe_request.proofs.Moved.{moved_none, moved_one, moved_all}
 use borrow.Author.Rules.{rules}
 use Rattle.probe_request.proofs.keep.Goals as goal
 

@@ -1,7 +1,5 @@
 use Prim.Native.Nat.{◌-◌, ◌≤◌}
-use native.Mathlib.Omega.{arith}
-use Rattle.probe_request.proofs.Moved.{Moved, moved_none, moved_one, moved_all}
-use borrow.Author.Rules.{rules}
+use Rattle.probe_request.proofs.Moved.{Moved}
 use Rattle.probe_request.proofs.keep.Given as goal
 
 -- The first i octets from `start` on are moved to the front; the octets from i on are as they were.

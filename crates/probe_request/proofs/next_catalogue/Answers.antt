@@ -1,6 +1,5 @@
 use Rattle.probe_request.proofs.Requests.{catalogue_read, no_catalogue}
 use borrow.Author.Tests.{ne_eqb}
-use borrow.Author.Rules.{rules}
 use Rattle.probe_request.proofs.next_catalogue.Goals as goal
 
 pub returns-then-mark-eq67 : goal.returns-then-mark-eq67

@@ -1,6 +1,5 @@
 use borrow.Author.Tests.{ne_eqb}
 use Rattle.probe_request.proofs.Requests.{no_edition}
-use borrow.Author.Rules.{rules}
 use Rattle.probe_request.proofs.next_edition.Goals as goal
 
 pub returns-then-mark-eq83 : goal.returns-then-mark-eq83

@@ -1,9 +1,7 @@
-use Prim.Native.Nat.{◌-◌, ◌^◌, ◌≤◌, ◌<◌}
+use Prim.Native.Nat.{◌-◌}
 use native.Mathlib.Omega.{arith}
-use mathlib.Core.Path.{◌≡◌, refl}
+use mathlib.Core.Path.{refl}
 use mathlib.Core.Bool.{false}
-use lib.Seq.{slice}
-use Rattle.octets.proofs.Numbers.{value_from}
 use Rattle.probe_request.proofs.Numbers.{number_all, low, high, on, great, counts}
 use borrow.Author.Rules.{rules}
 use Rattle.probe_request.proofs.next_number.Goals as goal

@@ -1,11 +1,7 @@
 use Prim.Native.Nat.{◌-◌, ◌^◌, ◌≤◌, ◌<◌}
-use native.Mathlib.Omega.{arith}
-use mathlib.Core.Path.{◌≡◌, refl}
-use mathlib.Core.Bool.{false}
+use mathlib.Core.Path.{◌≡◌}
 use lib.Seq.{slice}
 use Rattle.octets.proofs.Numbers.{value_from}
-use Rattle.probe_request.proofs.Numbers.{number_all, low, high, on, great, counts}
-use borrow.Author.Rules.{rules}
 use Rattle.probe_request.proofs.next_number.Given as goal
 
 -- The digits before i make `value`; going on with the octets from i on gives the number of the whole word, or none.

@@ -1,5 +1,4 @@
 use Rattle.probe_request.proofs.Spelling.{spells_none, spells_some}
-use borrow.Author.Rules.{rules}
 use Rattle.probe_request.proofs.next_octets.Goals as goal
 
 pub returns-in-Fault : goal.returns-in-Fault

@@ -1,6 +1,5 @@
 use borrow.Author.Tests.{ne_eqb}
 use Rattle.probe_request.proofs.Spelling.{no_origin}
-use borrow.Author.Rules.{rules}
 use Rattle.probe_request.proofs.next_origin.Goals as goal
 
 pub returns-then-letter-eq82 : goal.returns-then-letter-eq82

@@ -1,5 +1,4 @@
 use Rattle.probe_request.proofs.Requests.{front_read}
-use borrow.Author.Rules.{rules}
 use Rattle.probe_request.proofs.next_run.Goals as goal
 
 pub returns : goal.returns

@@ -1,8 +1,5 @@
-use Prim.Native.Nat.{◌+◌, ◌-◌, ◌≤◌}
-use lib.ListN.{length}
-use lib.Seq.{slice}
+use Prim.Native.Nat.{◌+◌, ◌-◌}
 use borrow.Author.Tests.{ne_eqb}
-use Rattle.format.proofs.Field.{Free}
 use Rattle.probe_request.proofs.Words.{free_none, free_on, at_space, at_end_lem, no_word}
 use borrow.Author.Rules.{rules}
 use Rattle.probe_request.proofs.next_word.Goals as goal

@@ -1,6 +1,5 @@
 use mathlib.Core.Path.{sym, ◌∙◌}
 use Rattle.probe_request.proofs.Lines.{refused, too_long, too_short, is_plain, no_end, is_marked, no_mark}
-use borrow.Author.Rules.{rules}
 use Rattle.probe_request.proofs.read.Goals as goal
 
 pub returns-then-line-lt3 : goal.returns-then-line-lt3

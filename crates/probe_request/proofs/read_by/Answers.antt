@@ -1,7 +1,5 @@
-use mathlib.Core.Path.{◌∙◌}
 use Rattle.probe_request.specs.Words.{words_at}
 use Rattle.probe_request.proofs.Lines.{refused, is_judging, is_printing, is_reading, is_job, no_marked, no_letter}
-use borrow.Author.Rules.{rules}
 use Rattle.probe_request.proofs.read_by.Goals as goal
 
 pub returns-then-letter-eq74 : goal.returns-then-letter-eq74

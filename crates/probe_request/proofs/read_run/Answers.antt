@@ -1,7 +1,6 @@
 use mathlib.Core.Path.{◌∙◌}
 use Rattle.probe_request.proofs.Requests.{no_listed, run_fits, run_read}
 use native.Mathlib.Omega.{arith}
-use borrow.Author.Rules.{rules}
 use Rattle.probe_request.proofs.read_run.Goals as goal
 
 pub next_catalogue-c-requires : goal.next_catalogue-c-requires

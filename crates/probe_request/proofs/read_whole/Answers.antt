@@ -1,7 +1,6 @@
 use mathlib.Core.Path.{refl}
 use Rattle.probe_request.proofs.Requests.{whole_fits, whole_read}
 use native.Mathlib.Omega.{arith}
-use borrow.Author.Rules.{rules}
 use Rattle.probe_request.proofs.read_whole.Goals as goal
 
 pub returns : goal.returns

@@ -1,7 +1,6 @@
-use Prim.Native.Nat.{ℕ, ◌+◌, ◌-◌, ◌≤◌}
+use Prim.Native.Nat.{◌+◌, ◌-◌}
 use mathlib.Core.Path.{◌≡◌, sym, subst}
-use mathlib.Core.List.{List}
-use lib.ListN.{length, drop, length-drop, drop_of_length-le}
+use lib.ListN.{length-drop, drop_of_length-le}
 use Rattle.format.specs.Run.{refused, parts_of}
 use Rattle.run_wire.specs.Run.{kinds_from}
 use Rattle.run_wire.proofs.Laws.{Ahead, all_kinds, no_kind, ahead_start, ahead_over, ahead_done, turn_short, turn_bad, turn_within}

@@ -1,15 +1,9 @@
 use Prim.Native.Nat.{ℕ, ◌+◌, ◌-◌, ◌≤◌}
-use mathlib.Core.Path.{◌≡◌, sym, subst}
 use mathlib.Core.List.{List}
-use lib.ListN.{length, drop, length-drop, drop_of_length-le}
-use Rattle.format.specs.Run.{refused, parts_of}
+use lib.ListN.{length, drop}
 use Rattle.run_wire.specs.Run.{kinds_from}
-use Rattle.run_wire.proofs.Laws.{Ahead, all_kinds, no_kind, ahead_start, ahead_over, ahead_done, turn_short, turn_bad, turn_within}
-use Rattle.run_wire.proofs.Laws.{turn_took}
+use Rattle.run_wire.proofs.Laws.{Ahead}
 use Rattle.stanza_form.specs.Code.{fields_of}
-use Rattle.stanza_form.proofs.Codes.{read_at}
-use native.Mathlib.Omega.{arith}
-use borrow.Author.Rules.{rules}
 use Rattle.run_wire.proofs.check.Given as goal
 
 -- The first k fields take the octets before `at`; what the others make of the rest tells what the run makes of all.

@@ -1,11 +1,8 @@
-use Prim.Native.Nat.{◌-◌, ◌≤◌}
-use mathlib.Core.Path.{◌≡◌}
+use Prim.Native.Nat.{◌-◌}
 use mathlib.Core.Bool.{false}
-use lib.ListN.{length}
 use lib.Seq.{slice}
-use Rattle.stanza_words.specs.Qualifiers.{pieces_in, twice_in}
 use Rattle.stanza_words.proofs.Laws.{within, name_within}
-use Rattle.stanza_distinct.proofs.Buckets.{Clear, bucket_below, apart_last, apart_next}
+use Rattle.stanza_distinct.proofs.Buckets.{bucket_below, apart_last, apart_next}
 use native.Mathlib.Omega.{arith}
 use borrow.Author.Rules.{rules}
 use Rattle.stanza_distinct.proofs.apart.Goals as goal

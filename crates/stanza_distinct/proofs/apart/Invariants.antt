@@ -2,12 +2,8 @@ use Prim.Native.Nat.{◌-◌, ◌≤◌}
 use mathlib.Core.Path.{◌≡◌}
 use mathlib.Core.Bool.{false}
 use lib.ListN.{length}
-use lib.Seq.{slice}
 use Rattle.stanza_words.specs.Qualifiers.{pieces_in, twice_in}
-use Rattle.stanza_words.proofs.Laws.{within, name_within}
-use Rattle.stanza_distinct.proofs.Buckets.{Clear, bucket_below, apart_last, apart_next}
-use native.Mathlib.Omega.{arith}
-use borrow.Author.Rules.{rules}
+use Rattle.stanza_distinct.proofs.Buckets.{Clear}
 use Rattle.stanza_distinct.proofs.apart.Given as goal
 
 -- If the names from i to b have numbers not met before, and none occurs twice, then none occurs twice from a to b.

@@ -1,5 +1,4 @@
 use Rattle.stanza_distinct.proofs.Buckets.{bucket_of_lem, bucket_none}
-use borrow.Author.Rules.{rules}
 use Rattle.stanza_distinct.proofs.bucket.Goals as goal
 
 pub returns-then-a-n : goal.returns-then-a-n

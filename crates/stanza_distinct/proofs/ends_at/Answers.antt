@@ -3,7 +3,6 @@ use mathlib.Core.Bool.{not}
 use Rattle.octets.proofs.Slices.{front_end_lem, front_off}
 use Rattle.stanza_words.proofs.Laws.{not_comma}
 use native.Mathlib.Omega.{arith}
-use borrow.Author.Rules.{rules}
 use Rattle.stanza_distinct.proofs.ends_at.Goals as goal
 
 pub returns-then-z-b : goal.returns-then-z-b

@@ -1,8 +1,8 @@
-use Prim.Native.Nat.{◌+◌, ◌-◌, ◌≤◌}
-use mathlib.Core.Path.{◌≡◌, refl}
-use lib.ListN.{length, length-set}
+use Prim.Native.Nat.{◌-◌}
+use mathlib.Core.Path.{refl}
+use lib.ListN.{length-set}
 use Rattle.stanza_words.proofs.Laws.{within, name_within}
-use Rattle.stanza_distinct.proofs.Stored.{Naming, names_next, names_last}
+use Rattle.stanza_distinct.proofs.Stored.{names_next, names_last}
 use native.Mathlib.Omega.{arith}
 use borrow.Author.Rules.{rules}
 use Rattle.stanza_distinct.proofs.names.Goals as goal

@@ -1,10 +1,7 @@
 use Prim.Native.Nat.{◌+◌, ◌-◌, ◌≤◌}
-use mathlib.Core.Path.{◌≡◌, refl}
-use lib.ListN.{length, length-set}
-use Rattle.stanza_words.proofs.Laws.{within, name_within}
-use Rattle.stanza_distinct.proofs.Stored.{Naming, names_next, names_last}
-use native.Mathlib.Omega.{arith}
-use borrow.Author.Rules.{rules}
+use mathlib.Core.Path.{◌≡◌}
+use lib.ListN.{length}
+use Rattle.stanza_distinct.proofs.Stored.{Naming}
 use Rattle.stanza_distinct.proofs.names.Given as goal
 
 -- The first n parts of the lists and the names from i to b are the names from a to b.

@@ -1,5 +1,4 @@
 use mathlib.Core.Path.{refl, sym, ◌∙◌}
-use borrow.Author.Rules.{rules}
 use Rattle.octets.proofs.Numbers.{number_some}
 use Rattle.stanza_distinct.proofs.numbered.Goals as goal
 

@@ -1,4 +1,3 @@
-use borrow.Author.Rules.{rules}
 use Rattle.stanza_distinct.proofs.Stored.{both_hold, named_twice}
 use Rattle.stanza_distinct.proofs.sorted_twice.Goals as goal
 

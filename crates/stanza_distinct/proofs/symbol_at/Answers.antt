@@ -4,7 +4,6 @@ use Rattle.format.specs.Octets.{digit, name_octet}
 use Rattle.octets.proofs.Slices.{front_within}
 use Rattle.stanza_distinct.proofs.Symbols.{octet_there, symbol_found}
 use native.Mathlib.Omega.{arith}
-use borrow.Author.Rules.{rules}
 use Rattle.stanza_distinct.proofs.symbol_at.Goals as goal
 
 pub begins_name-requires : goal.begins_name-requires

@@ -1,5 +1,4 @@
 use mathlib.Core.Path.{sym}
-use borrow.Author.Rules.{rules}
 use Rattle.stanza_distinct.proofs.twice.Goals as goal
 
 pub returns-then-apart : goal.returns-then-apart

@@ -1,5 +1,4 @@
 use Rattle.stanza_form.proofs.Forms.{form_again}
-use borrow.Author.Rules.{rules}
 use Rattle.stanza_form.proofs.code.Goals as goal
 
 pub returns : goal.returns

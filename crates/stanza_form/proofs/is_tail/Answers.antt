@@ -1,4 +1,3 @@
-use borrow.Author.Rules.{rules}
 use Rattle.stanza_form.proofs.is_tail.Goals as goal
 
 pub returns-in-Labels : goal.returns-in-Labels

@@ -1,9 +1,6 @@
-use Rattle.stanza_form.proofs.Words.{same_from, same_start, same_on, same_off, same_end, same_other}
-use lib.Seq.{slice}
-use Rattle.format.specs.Octets.{same_octets}
-use lib.ListN.{length}
-use mathlib.Core.Path.{◌≡◌, sym, ◌∙◌}
-use Prim.Native.Nat.{◌-◌, ◌≤◌}
+use Rattle.stanza_form.proofs.Words.{same_start, same_on, same_off, same_end, same_other}
+use mathlib.Core.Path.{sym, ◌∙◌}
+use Prim.Native.Nat.{◌-◌}
 use native.Mathlib.Omega.{arith}
 use borrow.Author.Rules.{rules}
 use Rattle.stanza_form.proofs.is_word.Goals as goal

@@ -1,11 +1,9 @@
-use Rattle.stanza_form.proofs.Words.{same_from, same_start, same_on, same_off, same_end, same_other}
+use Rattle.stanza_form.proofs.Words.{same_from}
 use lib.Seq.{slice}
 use Rattle.format.specs.Octets.{same_octets}
 use lib.ListN.{length}
-use mathlib.Core.Path.{◌≡◌, sym, ◌∙◌}
+use mathlib.Core.Path.{◌≡◌}
 use Prim.Native.Nat.{◌-◌, ◌≤◌}
-use native.Mathlib.Omega.{arith}
-use borrow.Author.Rules.{rules}
 use Rattle.stanza_form.proofs.is_word.Given as goal
 
 -- The text from a to e is the word w exactly if the two are the same from j on.

@@ -4,7 +4,6 @@ use lib.Seq.{slice, length-slice}
 use Rattle.stanza_words.proofs.Laws.{letter_word}
 use Rattle.stanza_form.proofs.Words.{longer_only}
 use native.Mathlib.Omega.{arith}
-use borrow.Author.Rules.{rules}
 use Rattle.stanza_form.proofs.type_of.Goals as goal
 
 pub returns-then-e-a-eq1 : goal.returns-then-e-a-eq1

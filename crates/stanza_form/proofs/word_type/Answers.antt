@@ -1,11 +1,3 @@
-use mathlib.Core.Path.{refl}
-use lib.ListN.{drop}
-use lib.Seq.{slice}
-use Rattle.format.specs.Field.{aa, aaaa, b32, b64, eui}
-use Rattle.format.specs.Types.{symbols, no_words, row, type_rows}
-use Rattle.stanza_form.specs.Forms.{longer}
-use Rattle.stanza_form.proofs.Words.{no_row, is_row}
-use borrow.Author.Rules.{rules}
 use Rattle.stanza_form.proofs.word_type.Goals as goal
 
 pub is_word-requires : goal.is_word-requires
@@ -51,4 +43,3 @@ is_word-requires-10 c =
 pub is_word-requires-11 : goal.is_word-requires-11
 is_word-requires-11 c =
     c.requires
-

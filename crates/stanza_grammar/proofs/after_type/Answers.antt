@@ -3,7 +3,6 @@ use mathlib.Core.Option.{some}
 use Rattle.octets.specs.Octets.{part_in}
 use Rattle.stanza_grammar.specs.declared.Place.TheVariants.{NoPlace, At}
 use Rattle.stanza_grammar.proofs.Laws.{unbracketed, bad_name, bad_text, line_found}
-use borrow.Author.Rules.{rules}
 use Rattle.stanza_grammar.proofs.after_type.Goals as goal
 
 pub field_name-n-requires : goal.field_name-n-requires

@@ -1,7 +1,6 @@
 use mathlib.Core.Path.{sym, ◌∙◌}
 use Rattle.stanza_grammar.proofs.Laws.{first_in_lem, no_brackets, brackets_on, brackets_open, brackets_empty}
 use native.Mathlib.Omega.{arith}
-use borrow.Author.Rules.{rules}
 use Rattle.stanza_grammar.proofs.bracketed.Goals as goal
 
 pub skip-e-requires : goal.skip-e-requires

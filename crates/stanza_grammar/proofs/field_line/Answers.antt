@@ -1,7 +1,6 @@
 use mathlib.Core.Path.{sym, ◌∙◌}
 use Rattle.format.specs.Octets.{alphanumeric}
 use Rattle.stanza_grammar.proofs.Laws.{typed, untyped, cut_within}
-use borrow.Author.Rules.{rules}
 use Rattle.stanza_grammar.proofs.field_line.Goals as goal
 
 pub after_type-requires : goal.after_type-requires

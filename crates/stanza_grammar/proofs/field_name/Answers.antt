@@ -1,7 +1,6 @@
 use mathlib.Core.Path.{sym, ◌∙◌}
 use Rattle.stanza_grammar.proofs.Laws.{first_in_lem, colon_named, unnamed}
 use native.Mathlib.Omega.{arith}
-use borrow.Author.Rules.{rules}
 use Rattle.stanza_grammar.proofs.field_name.Goals as goal
 
 pub name_end-p-requires : goal.name_end-p-requires

@@ -1,5 +1,4 @@
 use Rattle.stanza_grammar.proofs.Laws.{nameless, numberless, textless, header_found}
-use borrow.Author.Rules.{rules}
 use Rattle.stanza_grammar.proofs.header_line.Goals as goal
 
 pub number_after-d-requires : goal.number_after-d-requires

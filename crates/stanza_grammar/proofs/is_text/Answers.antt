@@ -1,6 +1,5 @@
 use mathlib.Core.Path.{sym, ◌∙◌}
 use Rattle.stanza_grammar.proofs.Laws.{text_all, text_tight, text_none}
-use borrow.Author.Rules.{rules}
 use Rattle.stanza_grammar.proofs.is_text.Goals as goal
 
 pub returns-then-is_in : goal.returns-then-is_in

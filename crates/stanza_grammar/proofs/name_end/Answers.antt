@@ -1,7 +1,6 @@
 use Rattle.stanza_grammar.proofs.Laws.{named, overlong, unlettered, cut_within}
 use mathlib.Core.Path.{sym, ◌∙◌}
 use Rattle.format.specs.Octets.{name_octet}
-use borrow.Author.Rules.{rules}
 use Rattle.stanza_grammar.proofs.name_end.Goals as goal
 
 pub returns-then-e-at-le63 : goal.returns-then-e-at-le63

@@ -4,7 +4,6 @@ use Prim.Native.Nat.{◌+◌, ◌≤◌}
 use Rattle.format.specs.Octets.{digit}
 use Rattle.stanza_grammar.proofs.Laws.{first_in_lem, number_on, number_off, no_number, later_within}
 use native.Mathlib.Omega.{arith}
-use borrow.Author.Rules.{rules}
 use Rattle.octets.proofs.Numbers.{number_some, number_none}
 use Rattle.stanza_grammar.proofs.number_after.Goals as goal
 

@@ -1,7 +1,6 @@
 use mathlib.Core.Path.{sym, ap, ◌∙◌}
 use Rattle.octets.proofs.Slices.{next, none}
 use Rattle.format.specs.Grammar.{starts_with_letter}
-use borrow.Author.Rules.{rules}
 use Rattle.stanza_grammar.proofs.starts_with_letter.Goals as goal
 
 pub returns-then-at-end : goal.returns-then-at-end

@@ -1,9 +1,8 @@
-use mathlib.Core.Path.{sym, ap, ◌∙◌}
+use mathlib.Core.Path.{ap, ◌∙◌}
 use mathlib.Core.Option.{some}
 use Rattle.octets.specs.Octets.{part_in}
 use Rattle.stanza_grammar.specs.declared.Place.TheVariants.{At}
 use Rattle.stanza_grammar.proofs.Laws.{text_by, text_not, from_earlier}
-use borrow.Author.Rules.{rules}
 use Rattle.stanza_grammar.proofs.text_after.Goals as goal
 
 pub is_text-requires : goal.is_text-requires

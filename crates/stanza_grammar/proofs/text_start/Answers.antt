@@ -1,7 +1,6 @@
 use mathlib.Core.Path.{refl}
 use native.Mathlib.Omega.{arith}
 use borrow.Author.Tests.{lt-ltb, le-ltb}
-use borrow.Author.Rules.{rules}
 use Rattle.stanza_grammar.proofs.text_start.Goals as goal
 
 pub returns-then-i-end : goal.returns-then-i-end

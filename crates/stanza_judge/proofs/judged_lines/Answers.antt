@@ -1,14 +1,9 @@
-use Rattle.stanza_judge.proofs.Outlines.{Judging, no_header, judging_start, line_begins, line_count_lem, line_within, turn_less, turn_skip, turn_head}
+use Rattle.stanza_judge.proofs.Outlines.{no_header, judging_start, line_begins, line_count_lem, line_within, turn_less, turn_skip, turn_head}
 use Rattle.stanza_judge.proofs.Outlines.{add_room, turn_add, turn_refuse, judging_end}
-use Rattle.stanza_judge.specs.Stanza.{begun}
 use Rattle.stanza_form.specs.Code.{fields_of}
-use Rattle.stanza_form.proofs.Codes.{without_texts, codes_many, coded_start, coded_more}
-use Rattle.stanza_form.specs.declared.FieldDesc.{FieldDesc}
-use Rattle.stanza_line.specs.declared.HeaderDesc.{HeaderDesc}
-use mathlib.Core.Path.{◌≡◌, ◌∙◌}
-use mathlib.Core.List.{List}
-use lib.ListN.{length}
-use Prim.Native.Nat.{◌+◌, ◌-◌}
+use Rattle.stanza_form.proofs.Codes.{codes_many, coded_start, coded_more}
+use mathlib.Core.Path.{◌∙◌}
+use Prim.Native.Nat.{◌-◌}
 use native.Mathlib.Omega.{arith}
 use borrow.Author.Rules.{rules}
 use Rattle.stanza_judge.proofs.judged_lines.Goals as goal

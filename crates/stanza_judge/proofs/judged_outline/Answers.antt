@@ -1,6 +1,5 @@
 use Rattle.stanza_judge.proofs.Outlines.{judged_long, file_begins, file_begun, told_outlined, as_judged}
 use native.Mathlib.Omega.{arith}
-use borrow.Author.Rules.{rules}
 use Rattle.stanza_judge.proofs.judged_outline.Goals as goal
 
 pub returns-then-s-gt8192 : goal.returns-then-s-gt8192

@@ -3,7 +3,6 @@ use mathlib.Core.Path.{◌≡◌, refl, subst}
 use lib.Seq.{slice}
 use Rattle.stanza_types.specs.Types.{meant_in, meaning_in}
 use native.Mathlib.Omega.{arith}
-use borrow.Author.Rules.{rules}
 use Rattle.stanza_line.proofs.field_meant.Goals as goal
 
 pub returns-in-Malformed : goal.returns-in-Malformed

@@ -1,7 +1,6 @@
 use Rattle.stanza_line.proofs.Verdicts.{after_tail, named_again, too_many, one_more}
 use Rattle.stanza_form.specs.Fields.{field_of}
 use mathlib.Core.Path.{refl, sym, ◌∙◌}
-use borrow.Author.Rules.{rules}
 use Rattle.stanza_line.proofs.field_step.Goals as goal
 
 pub returns-then-tail_seen : goal.returns-then-tail_seen

@@ -1,6 +1,5 @@
 use Rattle.stanza_line.proofs.Verdicts.{set_in, set_out, no_field, is_field}
 use mathlib.Core.Path.{◌∙◌}
-use borrow.Author.Rules.{rules}
 use Rattle.stanza_line.proofs.field_verdict.Goals as goal
 
 pub returns-then-is_out : goal.returns-then-is_out

@@ -1,7 +1,6 @@
 use Rattle.stanza_line.proofs.Verdicts.{indented, outdented, no_header, low_number, high_number, good_header}
 use mathlib.Core.Path.{◌∙◌}
 use native.Mathlib.Omega.{arith}
-use borrow.Author.Rules.{rules}
 use Rattle.stanza_line.proofs.header_verdict.Goals as goal
 
 pub returns-then-at-i : goal.returns-then-at-i

@@ -1,5 +1,4 @@
 use Rattle.stanza_line.proofs.Laws.{first_octet, blank_line}
-use borrow.Author.Rules.{rules}
 use Rattle.stanza_line.proofs.ignored.Goals as goal
 
 pub returns-then-i-e : goal.returns-then-i-e

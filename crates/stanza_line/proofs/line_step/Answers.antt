@@ -1,6 +1,5 @@
 use Rattle.stanza_line.proofs.Verdicts.{line_ignored, line_read, nonblank, due}
 use mathlib.Core.Path.{sym, ◌∙◌}
-use borrow.Author.Rules.{rules}
 use Rattle.stanza_line.proofs.line_step.Goals as goal
 
 pub ignored-requires : goal.ignored-requires

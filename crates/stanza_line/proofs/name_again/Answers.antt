@@ -1,7 +1,6 @@
 use Rattle.stanza_line.proofs.Laws.{name_found, name_next, no_name, from_first}
-use Rattle.stanza_line.specs.Verdict.{named_from}
-use Prim.Native.Nat.{◌-◌, ◌≤◌}
-use mathlib.Core.Path.{◌≡◌, sym, ◌∙◌}
+use Prim.Native.Nat.{◌-◌}
+use mathlib.Core.Path.{sym, ◌∙◌}
 use borrow.Author.Rules.{rules}
 use Rattle.stanza_line.proofs.name_again.Goals as goal
 

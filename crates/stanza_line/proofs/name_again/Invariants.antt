@@ -1,8 +1,6 @@
-use Rattle.stanza_line.proofs.Laws.{name_found, name_next, no_name, from_first}
 use Rattle.stanza_line.specs.Verdict.{named_from}
 use Prim.Native.Nat.{◌-◌, ◌≤◌}
-use mathlib.Core.Path.{◌≡◌, sym, ◌∙◌}
-use borrow.Author.Rules.{rules}
+use mathlib.Core.Path.{◌≡◌}
 use Rattle.stanza_line.proofs.name_again.Given as goal
 
 -- The name from a to e is one of the names from number k on exactly if it is one of all n.

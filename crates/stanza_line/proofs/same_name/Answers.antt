@@ -1,5 +1,4 @@
 use Rattle.stanza_line.proofs.Laws.{same_there, same_not}
-use borrow.Author.Rules.{rules}
 use Rattle.stanza_line.proofs.same_name.Goals as goal
 
 pub returns-then-e-a-lt16 : goal.returns-then-e-a-lt16

@@ -1,6 +1,5 @@
 use mathlib.Core.Path.{sym, ◌∙◌}
 use Rattle.stanza_form.proofs.Forms.{shaped}
-use borrow.Author.Rules.{rules}
 use Rattle.stanza_line.proofs.tail_after.Goals as goal
 
 pub returns-then-tail_seen : goal.returns-then-tail_seen

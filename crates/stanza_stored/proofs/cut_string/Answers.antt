@@ -1,8 +1,6 @@
-use Rattle.stanza_stored.proofs.Strings.{Passed, none_passed, passes, is_cut, none_cut}
-use lib.ListN.{length}
+use Rattle.stanza_stored.proofs.Strings.{none_passed, passes, is_cut, none_cut}
 use Prim.Native.Nat.{◌-◌}
 use native.Mathlib.Omega.{arith}
-use borrow.Author.Rules.{rules}
 use Rattle.stanza_stored.proofs.cut_string.Goals as goal
 
 pub loop-i-init : goal.loop-i-init

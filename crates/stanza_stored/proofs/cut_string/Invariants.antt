@@ -1,8 +1,6 @@
-use Rattle.stanza_stored.proofs.Strings.{Passed, none_passed, passes, is_cut, none_cut}
+use Rattle.stanza_stored.proofs.Strings.{Passed}
 use lib.ListN.{length}
 use Prim.Native.Nat.{◌-◌}
-use native.Mathlib.Omega.{arith}
-use borrow.Author.Rules.{rules}
 use Rattle.stanza_stored.proofs.cut_string.Given as goal
 
 -- The strings before i are whole, and the next is number n.

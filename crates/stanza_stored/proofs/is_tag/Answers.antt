@@ -1,4 +1,3 @@
-use borrow.Author.Rules.{rules}
 use Rattle.stanza_stored.proofs.is_tag.Goals as goal
 
 pub returns : goal.returns

@@ -1,4 +1,3 @@
-use borrow.Author.Rules.{rules}
 use Rattle.stanza_stored.proofs.judged.Goals as goal
 
 pub returns-then-in_file : goal.returns-then-in_file

@@ -1,7 +1,6 @@
 use Rattle.stanza_judge.proofs.Outlines.{told_outlined, as_judged}
 use mathlib.Core.Path.{refl}
 use native.Mathlib.Omega.{arith}
-use borrow.Author.Rules.{rules}
 use Rattle.stanza_stored.proofs.judged_stored.Goals as goal
 
 pub judged_lines-r-requires : goal.judged_lines-r-requires

@@ -1,7 +1,6 @@
 use Rattle.stanza_stored.proofs.Strings.{stored_long, other_edition, none_checked, tag_within, lines_begin, stored_cut, stored_short, not_tagged, is_tagged}
 use mathlib.Core.Path.{sym, ◌∙◌}
 use native.Mathlib.Omega.{arith}
-use borrow.Author.Rules.{rules}
 use Rattle.stanza_stored.proofs.start_of.Goals as goal
 
 pub returns-then-s-gt8192 : goal.returns-then-s-gt8192

@@ -1,7 +1,6 @@
 use Rattle.stanza_types.proofs.Meanings.{no_words_lem}
 use Rattle.stanza_types.proofs.Meanings.{words_twice, words_once}
 use mathlib.Core.Path.{sym, ◌∙◌}
-use borrow.Author.Rules.{rules}
 use Rattle.stanza_types.proofs.listed_meant.Goals as goal
 
 pub returns-then-any : goal.returns-then-any

@@ -1,4 +1,3 @@
-use borrow.Author.Rules.{rules}
 use Rattle.stanza_types.proofs.made.Goals as goal
 
 pub returns-then-x : goal.returns-then-x

@@ -1,4 +1,3 @@
-use borrow.Author.Rules.{rules}
 use Rattle.stanza_types.proofs.marks.Goals as goal
 
 pub returns : goal.returns

@@ -1,6 +1,5 @@
 use Rattle.stanza_types.proofs.Meanings.{plain_in, qualified_in_lem}
 use lib.Seq.{slice}
-use borrow.Author.Rules.{rules}
 use Rattle.stanza_types.proofs.meaning_of.Goals as goal
 
 pub returns-then-a-b : goal.returns-then-a-b

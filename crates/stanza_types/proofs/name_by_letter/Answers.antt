@@ -1,5 +1,4 @@
 use Rattle.stanza_types.proofs.Meanings.{letter_alone}
-use borrow.Author.Rules.{rules}
 use Rattle.stanza_types.proofs.name_by_letter.Goals as goal
 
 pub returns-then-x-eq67 : goal.returns-then-x-eq67

@@ -1,6 +1,5 @@
 use mathlib.Core.Path.{ap}
 use Rattle.stanza_form.specs.declared.Form.TheVariants.{Name}
-use borrow.Author.Rules.{rules}
 use Rattle.stanza_types.proofs.name_form.Goals as goal
 
 pub returns : goal.returns

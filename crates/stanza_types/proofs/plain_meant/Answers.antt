@@ -1,7 +1,6 @@
 use Rattle.stanza_types.proofs.Meanings.{plain_kind}
 use borrow.Author.Tests.{eq-eqb}
 use mathlib.Core.Path.{refl}
-use borrow.Author.Rules.{rules}
 use Rattle.stanza_types.proofs.plain_meant.Goals as goal
 
 pub returns-in-NoType : goal.returns-in-NoType

@@ -1,8 +1,6 @@
-use mathlib.Core.List.{[]}
 use Rattle.stanza_form.specs.Forms.{kind_of}
 use Rattle.stanza_types.proofs.Meanings.{no_type_malformed, no_type, nothing_taken}
 use mathlib.Core.Path.{sym, ◌∙◌}
-use borrow.Author.Rules.{rules}
 use Rattle.stanza_types.proofs.qualified.Goals as goal
 
 pub returns-then-any : goal.returns-then-any

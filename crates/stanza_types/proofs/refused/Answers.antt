@@ -1,6 +1,5 @@
 use Rattle.stanza_types.proofs.Meanings.{malformed, not_of_known, not_allowed}
 use mathlib.Core.Path.{refl, sym, ◌∙◌}
-use borrow.Author.Rules.{rules}
 use Rattle.stanza_types.proofs.refused.Goals as goal
 
 pub returns-then-any : goal.returns-then-any

@@ -1,5 +1,4 @@
 use Rattle.stanza_types.proofs.Meanings.{letter_alone}
-use borrow.Author.Rules.{rules}
 use Rattle.stanza_types.proofs.string_by_letter.Goals as goal
 
 pub returns-then-x-eq77 : goal.returns-then-x-eq77

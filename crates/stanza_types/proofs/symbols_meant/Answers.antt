@@ -1,6 +1,5 @@
 use mathlib.Core.Path.{sym, ◌∙◌}
 use Rattle.stanza_types.proofs.Meanings.{no_symbols, symbols_twice, symbols_once}
-use borrow.Author.Rules.{rules}
 use Rattle.stanza_types.proofs.symbols_meant.Goals as goal
 
 pub returns-then-plain_symbols : goal.returns-then-plain_symbols

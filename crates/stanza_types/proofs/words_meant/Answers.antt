@@ -1,6 +1,5 @@
 use Rattle.stanza_words.proofs.Laws.{letter_word}
 use native.Mathlib.Omega.{arith}
-use borrow.Author.Rules.{rules}
 use Rattle.stanza_types.proofs.words_meant.Goals as goal
 
 pub returns-in-Makes : goal.returns-in-Makes

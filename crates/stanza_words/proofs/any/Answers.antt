@@ -1,6 +1,5 @@
 use mathlib.Core.Path.{sym, ◌∙◌}
 use Rattle.stanza_words.proofs.Laws.{any_letter}
-use borrow.Author.Rules.{rules}
 use Rattle.stanza_words.proofs.any.Goals as goal
 
 pub returns-then-is_in : goal.returns-then-is_in

@@ -1,7 +1,7 @@
-use Prim.Native.Nat.{◌-◌, ◌≤◌}
-use mathlib.Core.Path.{◌≡◌, refl, sym, ◌∙◌}
+use Prim.Native.Nat.{◌-◌}
+use mathlib.Core.Path.{refl, sym, ◌∙◌}
 use Rattle.format.specs.Grammar.{qualifier}
-use Rattle.stanza_words.specs.Qualifiers.{any_in, holds_of}
+use Rattle.stanza_words.specs.Qualifiers.{holds_of}
 use Rattle.stanza_words.proofs.Laws.{within, any_found, any_last, any_next}
 use native.Mathlib.Omega.{arith}
 use borrow.Author.Rules.{rules}

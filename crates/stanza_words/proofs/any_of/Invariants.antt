@@ -1,10 +1,6 @@
 use Prim.Native.Nat.{◌-◌, ◌≤◌}
-use mathlib.Core.Path.{◌≡◌, refl, sym, ◌∙◌}
-use Rattle.format.specs.Grammar.{qualifier}
-use Rattle.stanza_words.specs.Qualifiers.{any_in, holds_of}
-use Rattle.stanza_words.proofs.Laws.{within, any_found, any_last, any_next}
-use native.Mathlib.Omega.{arith}
-use borrow.Author.Rules.{rules}
+use mathlib.Core.Path.{◌≡◌}
+use Rattle.stanza_words.specs.Qualifiers.{any_in}
 use Rattle.stanza_words.proofs.any_of.Given as goal
 
 -- The test holds of a qualifier between i and b exactly if it holds of one between a and b.

@@ -1,6 +1,5 @@
 use Rattle.octets.proofs.Slices.{none as nothing}
 use Rattle.stanza_words.proofs.Laws.{begins_next}
-use borrow.Author.Rules.{rules}
 use Rattle.stanza_words.proofs.begins_name.Goals as goal
 
 pub returns-then-is_in : goal.returns-then-is_in

@@ -1,7 +1,6 @@
 use mathlib.Core.Path.{sym, ◌∙◌}
 use Rattle.stanza_words.proofs.Laws.{front_in, found_bad, found_word, found_other, found_fault, found_number}
 use native.Mathlib.Omega.{arith}
-use borrow.Author.Rules.{rules}
 use Rattle.octets.proofs.Numbers.{number_some, number_none}
 use Rattle.stanza_words.proofs.find.Goals as goal
 

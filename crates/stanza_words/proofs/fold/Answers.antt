@@ -1,4 +1,3 @@
-use borrow.Author.Rules.{rules}
 use Rattle.stanza_words.proofs.fold.Goals as goal
 
 pub returns-then-ignoring : goal.returns-then-ignoring

@@ -1,7 +1,6 @@
 use lib.Seq.{slice, length-slice}
 use mathlib.Core.Path.{sym, ◌∙◌}
 use Rattle.stanza_words.proofs.Laws.{letter_word, long_word, any_symbol}
-use borrow.Author.Rules.{rules}
 use Rattle.stanza_words.proofs.holds.Goals as goal
 
 pub returns-then-z-a-eq1 : goal.returns-then-z-a-eq1

@@ -1,6 +1,5 @@
 use mathlib.Core.Bool.{not, and-true}
 use mathlib.Core.Path.{sym, ap, ◌∙◌}
-use borrow.Author.Rules.{rules}
 use Rattle.stanza_words.proofs.holds_letter.Goals as goal
 
 pub returns-then-known_letter : goal.returns-then-known_letter

@@ -1,5 +1,4 @@
 use Rattle.stanza_words.proofs.Laws.{none_taken}
-use borrow.Author.Rules.{rules}
 use Rattle.stanza_words.proofs.holds_long.Goals as goal
 
 pub returns-in-NotWord : goal.returns-in-NotWord

@@ -1,5 +1,4 @@
 use Rattle.stanza_words.proofs.Laws.{leb_ltb}
-use borrow.Author.Rules.{rules}
 use Rattle.stanza_words.proofs.holds_symbol.Goals as goal
 
 pub returns-in-NotSymbol : goal.returns-in-NotSymbol

@@ -1,7 +1,5 @@
-use lib.Seq.{slice}
-use Prim.Native.Nat.{◌-◌, ◌≤◌}
-use mathlib.Core.Path.{◌≡◌, refl, ◌∙◌}
-use Rattle.stanza_words.specs.Qualifiers.{same_by}
+use Prim.Native.Nat.{◌-◌}
+use mathlib.Core.Path.{refl, ◌∙◌}
 use Rattle.stanza_words.proofs.Laws.{same_on, same_off, same_end, same_lengths}
 use native.Mathlib.Omega.{arith}
 use borrow.Author.Rules.{rules}

@@ -1,10 +1,7 @@
 use lib.Seq.{slice}
 use Prim.Native.Nat.{◌-◌, ◌≤◌}
-use mathlib.Core.Path.{◌≡◌, refl, ◌∙◌}
+use mathlib.Core.Path.{◌≡◌}
 use Rattle.stanza_words.specs.Qualifiers.{same_by}
-use Rattle.stanza_words.proofs.Laws.{same_on, same_off, same_end, same_lengths}
-use native.Mathlib.Omega.{arith}
-use borrow.Author.Rules.{rules}
 use Rattle.stanza_words.proofs.same.Given as goal
 
 -- The two texts are the same exactly if their rests, from i and from j on, are.

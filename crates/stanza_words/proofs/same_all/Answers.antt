@@ -1,8 +1,5 @@
-use Prim.Native.Nat.{◌-◌, ◌≤◌}
-use mathlib.Core.Path.{◌≡◌, refl, ◌∙◌}
-use mathlib.Core.Bool.{◌&&◌}
-use lib.Seq.{slice}
-use Rattle.stanza_words.specs.Qualifiers.{same_by}
+use Prim.Native.Nat.{◌-◌}
+use mathlib.Core.Path.{refl, ◌∙◌}
 use Rattle.stanza_words.proofs.Laws.{same_more, same_done}
 use native.Mathlib.Omega.{arith}
 use borrow.Author.Rules.{rules}

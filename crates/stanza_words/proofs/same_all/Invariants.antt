@@ -1,11 +1,8 @@
 use Prim.Native.Nat.{◌-◌, ◌≤◌}
-use mathlib.Core.Path.{◌≡◌, refl, ◌∙◌}
+use mathlib.Core.Path.{◌≡◌}
 use mathlib.Core.Bool.{◌&&◌}
 use lib.Seq.{slice}
 use Rattle.stanza_words.specs.Qualifiers.{same_by}
-use Rattle.stanza_words.proofs.Laws.{same_more, same_done}
-use native.Mathlib.Omega.{arith}
-use borrow.Author.Rules.{rules}
 use Rattle.stanza_words.proofs.same_all.Given as goal
 
 -- The two texts are the same exactly if they are so up to i and j, which ok says, and their rests are.

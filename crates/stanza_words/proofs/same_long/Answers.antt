@@ -1,5 +1,4 @@
 use Rattle.stanza_words.proofs.Laws.{same_lengths}
-use borrow.Author.Rules.{rules}
 use Rattle.stanza_words.proofs.same_long.Goals as goal
 
 pub returns-then-e-a : goal.returns-then-e-a

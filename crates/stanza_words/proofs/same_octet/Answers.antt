@@ -1,4 +1,3 @@
-use borrow.Author.Rules.{rules}
 use Rattle.stanza_words.proofs.same_octet.Goals as goal
 
 pub returns : goal.returns

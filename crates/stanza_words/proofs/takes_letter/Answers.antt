@@ -1,6 +1,5 @@
 use Rattle.stanza_words.proofs.Laws.{last_word}
 use borrow.Author.Tests.{eq-eqb, ne_eqb}
-use borrow.Author.Rules.{rules}
 use Rattle.stanza_words.proofs.takes_letter.Goals as goal
 
 pub returns-then-x-eq67 : goal.returns-then-x-eq67

@@ -1,10 +1,7 @@
-use Prim.Native.Nat.{◌+◌, ◌-◌, ◌≤◌}
-use mathlib.Core.Bool.{◌&&◌}
+use Prim.Native.Nat.{◌+◌, ◌-◌}
 use mathlib.Core.Path.{◌≡◌, sym, ◌∙◌}
-use lib.Seq.{slice}
 use Rattle.octets.proofs.Blocks.{all_next, all_none}
 use Rattle.tokens.specs.Tokens.{standing}
-use Rattle.format.specs.Lists.{all_of}
 use native.Mathlib.Omega.{arith}
 use borrow.Author.Rules.{rules}
 use Rattle.tokens.proofs.all_stand.Goals as goal

@@ -1,12 +1,9 @@
 use Prim.Native.Nat.{◌+◌, ◌-◌, ◌≤◌}
 use mathlib.Core.Bool.{◌&&◌}
-use mathlib.Core.Path.{◌≡◌, sym, ◌∙◌}
+use mathlib.Core.Path.{◌≡◌}
 use lib.Seq.{slice}
-use Rattle.octets.proofs.Blocks.{all_next, all_none}
 use Rattle.tokens.specs.Tokens.{standing}
 use Rattle.format.specs.Lists.{all_of}
-use native.Mathlib.Omega.{arith}
-use borrow.Author.Rules.{rules}
 use Rattle.tokens.proofs.all_stand.Given as goal
 
 -- All 64 octets stand for themselves exactly if `all` holds and the octets from i + k on do.

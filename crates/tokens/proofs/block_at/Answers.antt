@@ -1,5 +1,4 @@
 use borrow.Author.Tests.{le-leb, lt-leb}
-use borrow.Author.Rules.{rules}
 use Rattle.tokens.proofs.block_at.Goals as goal
 
 pub returns-then-t-i-lt64 : goal.returns-then-t-i-lt64

@@ -1,6 +1,5 @@
 use Rattle.format.proofs.Lists.{drop_next as next, drop_none as none}
 use borrow.Author.Tests.{eq-eqb, ne_eqb}
-use borrow.Author.Rules.{rules}
 use Rattle.tokens.proofs.closes_at.Goals as goal
 
 pub returns-then-t-j : goal.returns-then-t-j

@@ -1,5 +1,4 @@
 use Rattle.tokens.proofs.Scans.{ended_quoted}
-use borrow.Author.Rules.{rules}
 use Rattle.tokens.proofs.ended.Goals as goal
 
 pub returns-then-parted_at : goal.returns-then-parted_at

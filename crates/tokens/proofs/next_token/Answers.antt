@@ -2,7 +2,6 @@ use mathlib.Core.Path.{refl, ◌∙◌}
 use Rattle.tokens.proofs.Scans.{no_token_lem, quoted_first, bare_first, quoted_within, bare_within}
 use native.Mathlib.Omega.{arith}
 use borrow.Author.Tests.{ne_eqb}
-use borrow.Author.Rules.{rules}
 use Rattle.tokens.proofs.next_token.Goals as goal
 
 pub returns-then-t-a : goal.returns-then-t-a

@@ -1,5 +1,4 @@
 use Rattle.format.proofs.Lists.{drop_next as next, drop_none as none}
-use borrow.Author.Rules.{rules}
 use Rattle.tokens.proofs.parted_at.Goals as goal
 
 pub returns-then-t-j : goal.returns-then-t-j

@@ -2,7 +2,6 @@ use mathlib.Core.Path.{◌∙◌}
 use Rattle.tokens.proofs.Fronts.{part_front, whole_front}
 use Rattle.tokens.specs.Tokens.{standing}
 use native.Mathlib.Omega.{arith}
-use borrow.Author.Rules.{rules}
 use Rattle.tokens.proofs.skip.Goals as goal
 
 pub returns-then-j-e : goal.returns-then-j-e

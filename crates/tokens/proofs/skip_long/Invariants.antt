@@ -1,10 +1,7 @@
 use Prim.Native.Nat.{◌-◌, ◌≤◌}
-use mathlib.Core.Path.{◌≡◌, refl, sym, ◌∙◌}
+use mathlib.Core.Path.{◌≡◌}
 use lib.ListN.{length}
-use Rattle.tokens.proofs.Standing.{block_within, block_front}
 use Rattle.tokens.specs.Tokens.{front_end}
-use native.Mathlib.Omega.{arith}
-use borrow.Author.Rules.{rules}
 use Rattle.tokens.proofs.skip_long.Given as goal
 
 -- The octets from i to j stand for themselves: the run from j on ends where the run from i does.

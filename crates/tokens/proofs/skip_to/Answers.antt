@@ -1,6 +1,6 @@
-use Prim.Native.Nat.{◌-◌, ◌≤◌}
-use mathlib.Core.Path.{◌≡◌, refl, sym, ◌∙◌}
-use Rattle.tokens.specs.Tokens.{standing, front_end}
+use Prim.Native.Nat.{◌-◌}
+use mathlib.Core.Path.{refl, sym, ◌∙◌}
+use Rattle.tokens.specs.Tokens.{standing}
 use Rattle.octets.proofs.Slices.{front_on, front_off, front_end_lem}
 use borrow.Author.Rules.{rules}
 use Rattle.tokens.proofs.skip_to.Goals as goal

@@ -1,8 +1,6 @@
 use Prim.Native.Nat.{◌-◌, ◌≤◌}
-use mathlib.Core.Path.{◌≡◌, refl, sym, ◌∙◌}
-use Rattle.tokens.specs.Tokens.{standing, front_end}
-use Rattle.octets.proofs.Slices.{front_on, front_off, front_end_lem}
-use borrow.Author.Rules.{rules}
+use mathlib.Core.Path.{◌≡◌}
+use Rattle.tokens.specs.Tokens.{front_end}
 use Rattle.tokens.proofs.skip_to.Given as goal
 
 -- The octets from i to j stand for themselves: the run from j on ends where the run from i does.

@@ -1,6 +1,5 @@
 use Rattle.tokens.proofs.Standing.{quoted_standing, low_text, high_text, plain_text_lem}
 use borrow.Author.Tests.{eq-eqb, ne_eqb}
-use borrow.Author.Rules.{rules}
 use Rattle.tokens.proofs.stands.Goals as goal
 
 pub returns-then-q-eq0 : goal.returns-then-q-eq0

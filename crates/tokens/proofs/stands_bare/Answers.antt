@@ -1,5 +1,4 @@
 use Rattle.tokens.proofs.Standing.{low_standing, high_standing, bare_standing}
-use borrow.Author.Rules.{rules}
 use Rattle.tokens.proofs.stands_bare.Goals as goal
 
 pub returns-then-b-eq34 : goal.returns-then-b-eq34

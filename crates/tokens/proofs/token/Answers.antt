@@ -1,10 +1,7 @@
 use Prim.Native.Nat.{◌-◌}
 use mathlib.Core.Path.{sym, ◌∙◌}
-use lib.ListN.{length, drop}
-use Rattle.tokens.specs.Tokens.{standing}
-use Rattle.tokens.proofs.Scans.{Kept, Stopped, kept_none, kept_run, front_stops, kept_escape, escape_within, token_ended, token_from}
+use Rattle.tokens.proofs.Scans.{kept_none, kept_run, front_stops, kept_escape, escape_within, token_ended, token_from}
 use native.Mathlib.Omega.{arith}
-use borrow.Author.Rules.{rules}
 use Rattle.tokens.proofs.token.Goals as goal
 
 pub loop-j-init : goal.loop-j-init

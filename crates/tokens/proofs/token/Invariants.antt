@@ -1,10 +1,7 @@
 use Prim.Native.Nat.{◌-◌}
-use mathlib.Core.Path.{sym, ◌∙◌}
 use lib.ListN.{length, drop}
 use Rattle.tokens.specs.Tokens.{standing}
-use Rattle.tokens.proofs.Scans.{Kept, Stopped, kept_none, kept_run, front_stops, kept_escape, escape_within, token_ended, token_from}
-use native.Mathlib.Omega.{arith}
-use borrow.Author.Rules.{rules}
+use Rattle.tokens.proofs.Scans.{Kept, Stopped}
 use Rattle.tokens.proofs.token.Given as goal
 
 -- The scan keeps the octets from a to j and goes on from j, where the text ends or an octet does not stand for itself.

@@ -1,7 +1,6 @@
 use mathlib.Core.Path.{ap, ◌∙◌}
 use Rattle.octets.specs.Octets.{number_of}
 use Rattle.address.proofs.Numbers.{is_group, no_group, long_group}
-use borrow.Author.Rules.{rules}
 use Rattle.address.proofs.part.group.Goals as goal
 
 pub returns-then-e-i-lt1 : goal.returns-then-e-i-lt1

@@ -1,8 +1,8 @@
-use Prim.Native.Nat.{◌-◌, ◌^◌, ◌≤◌, ◌<◌}
-use mathlib.Core.Path.{◌≡◌, refl, sym, ap, ◌∙◌}
+use Prim.Native.Nat.{◌-◌}
+use mathlib.Core.Path.{refl, sym, ap, ◌∙◌}
 use lib.Seq.{slice}
 use Rattle.octets.specs.Octets.{number_of}
-use Rattle.address.proofs.Numbers.{hex_from, hex_start, hex_off, hex_on, hex_end, hex_more, hex_fits, hex_none}
+use Rattle.address.proofs.Numbers.{hex_start, hex_off, hex_on, hex_end, hex_more, hex_fits, hex_none}
 use native.Mathlib.Omega.{arith}
 use borrow.Author.Rules.{rules}
 use Rattle.address.proofs.part.hex.Goals as goal

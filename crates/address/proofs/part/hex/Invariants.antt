@@ -1,10 +1,7 @@
 use Prim.Native.Nat.{◌-◌, ◌^◌, ◌≤◌, ◌<◌}
-use mathlib.Core.Path.{◌≡◌, refl, sym, ap, ◌∙◌}
+use mathlib.Core.Path.{◌≡◌}
 use lib.Seq.{slice}
-use Rattle.octets.specs.Octets.{number_of}
-use Rattle.address.proofs.Numbers.{hex_from, hex_start, hex_off, hex_on, hex_end, hex_more, hex_fits, hex_none}
-use native.Mathlib.Omega.{arith}
-use borrow.Author.Rules.{rules}
+use Rattle.address.proofs.Numbers.{hex_from}
 use Rattle.address.proofs.part.hex.Given as goal
 
 -- The digits before j make v; going on with the octets from j to e gives the number of the whole part, or none.

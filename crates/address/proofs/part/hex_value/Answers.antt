@@ -1,7 +1,6 @@
 use borrow.Author.Tests.{lt-ltb, le-ltb}
 use Rattle.address.specs.Part.{hex_of}
 use native.Mathlib.Omega.{arith}
-use borrow.Author.Rules.{rules}
 use Rattle.address.proofs.part.hex_value.Goals as goal
 
 pub returns-then-b-lt48 : goal.returns-then-b-lt48

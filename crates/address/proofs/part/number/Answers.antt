@@ -1,4 +1,3 @@
-use borrow.Author.Rules.{rules}
 use Rattle.address.proofs.part.number.Goals as goal
 
 pub returns-in-Pair : goal.returns-in-Pair

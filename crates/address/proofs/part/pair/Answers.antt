@@ -1,7 +1,6 @@
 use mathlib.Core.Path.{ap, ◌∙◌}
 use Rattle.octets.specs.Octets.{number_of}
 use Rattle.address.proofs.Numbers.{is_pair, not_pair}
-use borrow.Author.Rules.{rules}
 use Rattle.address.proofs.part.pair.Goals as goal
 
 pub returns-then-e-i-eq2 : goal.returns-then-e-i-eq2

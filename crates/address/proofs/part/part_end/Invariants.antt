@@ -1,9 +1,6 @@
-use borrow.Author.Tests.{eq-eqb, ne_eqb}
-use Rattle.octets.proofs.Slices.{front_on, front_off, front_end_lem}
-use Rattle.address.specs.Part.{apart, part_end}
-use mathlib.Core.Path.{◌≡◌, refl, ◌∙◌}
+use Rattle.address.specs.Part.{part_end}
+use mathlib.Core.Path.{◌≡◌}
 use Prim.Native.Nat.{◌-◌, ◌≤◌}
-use borrow.Author.Rules.{rules}
 use Rattle.address.proofs.part.part_end.Given as goal
 
 -- No mark c stands from i to j: the part from j on ends where the part from i does.

@@ -1,17 +1,15 @@
-use Prim.Native.Nat.{ℕ, ◌+◌, ◌*◌, ◌≤◌}
+use Prim.Native.Nat.{ℕ}
 use mathlib.Core.Path.{◌≡◌, refl}
 use mathlib.Core.Bool.{Bool, true, false, cond}
 use mathlib.Core.List.{List}
 use mathlib.Core.Option.{Option, none}
 use lib.Dec.{eqb}
-use lib.ListN.{length}
 use lib.Seq.{slice}
 use borrow.Author.Tests.{eqb-true, eqb-false}
 use Rattle.buffer.specs.Writing.{Values}
 use Rattle.buffer.specs.declared.Value.{Value}
 use Rattle.buffer.specs.declared.Value.TheVariants.{Fault, Upto}
-use Rattle.address.specs.Part.{piece_of, parts_by}
-use Rattle.buffer.proofs.Values.{Begun, begun_none}
+use Rattle.buffer.proofs.Values.{begun_none}
 use Rattle.address.proofs.Parts.{within, step_fault, step_count, step_on, step_last, step_few, step_many}
 use native.Mathlib.Omega.{arith}
 use borrow.Author.Rules.{rules}

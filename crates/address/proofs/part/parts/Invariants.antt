@@ -1,20 +1,9 @@
-use Prim.Native.Nat.{ℕ, ◌+◌, ◌*◌, ◌≤◌}
-use mathlib.Core.Path.{◌≡◌, refl}
-use mathlib.Core.Bool.{Bool, true, false, cond}
-use mathlib.Core.List.{List}
-use mathlib.Core.Option.{Option, none}
-use lib.Dec.{eqb}
+use Prim.Native.Nat.{◌+◌, ◌*◌, ◌≤◌}
+use mathlib.Core.Path.{◌≡◌}
 use lib.ListN.{length}
 use lib.Seq.{slice}
-use borrow.Author.Tests.{eqb-true, eqb-false}
-use Rattle.buffer.specs.Writing.{Values}
-use Rattle.buffer.specs.declared.Value.{Value}
-use Rattle.buffer.specs.declared.Value.TheVariants.{Fault, Upto}
 use Rattle.address.specs.Part.{piece_of, parts_by}
-use Rattle.buffer.proofs.Values.{Begun, begun_none}
-use Rattle.address.proofs.Parts.{within, step_fault, step_count, step_on, step_last, step_few, step_many}
-use native.Mathlib.Omega.{arith}
-use borrow.Author.Rules.{rules}
+use Rattle.buffer.proofs.Values.{Begun}
 use Rattle.address.proofs.part.parts.Given as goal
 
 -- The parts before j are stored up to m; they, and k parts read from j on, are the w parts of the whole text.

@@ -1,6 +1,5 @@
 use lib.Seq.{slice}
 use Rattle.address.proofs.Numbers.{piece_some, piece_none}
-use borrow.Author.Rules.{rules}
 use Rattle.address.proofs.part.piece.Goals as goal
 
 pub returns-in-Value : goal.returns-in-Value

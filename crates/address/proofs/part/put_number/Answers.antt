@@ -1,5 +1,4 @@
 use Rattle.buffer.proofs.Laws.{wrote_one, wrote_two}
-use borrow.Author.Rules.{rules}
 use Rattle.address.proofs.part.put_number.Goals as goal
 
 pub returns-in-Group : goal.returns-in-Group

@@ -1,6 +1,5 @@
 use lib.Seq.{slice}
 use Rattle.address.proofs.Numbers.{no_small, large, leading, is_small}
-use borrow.Author.Rules.{rules}
 use Rattle.address.proofs.part.small.Goals as goal
 
 pub returns-then-v-gt255 : goal.returns-then-v-gt255

@@ -1,6 +1,5 @@
 use native.Mathlib.Omega.{arith}
 use Rattle.address.proofs.Numbers.{short, first_of}
-use borrow.Author.Rules.{rules}
 use Rattle.address.proofs.part.zero_first.Goals as goal
 
 pub returns-then-e-i-lt2 : goal.returns-then-e-i-lt2

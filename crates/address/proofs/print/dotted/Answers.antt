@@ -1,13 +1,12 @@
-use Prim.Native.Nat.{◌+◌, ◌-◌, ◌*◌, ◌≤◌, ◌<◌}
+use Prim.Native.Nat.{◌-◌}
 use mathlib.Core.Path.{ap, sym}
-use mathlib.Core.List.{[], ◌∷◌}
-use lib.Seq.{slice}
+use mathlib.Core.List.{◌∷◌}
 use lib.ListN.{get_or}
 use Rattle.format.proofs.Number.{decimal_10}
 use Rattle.format.specs.Address.{dotted_text}
 use Rattle.format.specs.Number.{decimal}
 use Rattle.octets.proofs.Slices.{next, none}
-use Rattle.buffer.proofs.Laws.{Left, left_all, left_none, wrote_none, wrote_text}
+use Rattle.buffer.proofs.Laws.{left_all, left_none, wrote_none, wrote_text}
 use Rattle.buffer.proofs.Parted.{later, wrote_parted, went_on}
 use native.Mathlib.Omega.{arith}
 use borrow.Author.Rules.{rules}

@@ -1,16 +1,9 @@
 use Prim.Native.Nat.{◌+◌, ◌-◌, ◌*◌, ◌≤◌, ◌<◌}
-use mathlib.Core.Path.{ap, sym}
-use mathlib.Core.List.{[], ◌∷◌}
+use mathlib.Core.List.{◌∷◌}
 use lib.Seq.{slice}
-use lib.ListN.{get_or}
-use Rattle.format.proofs.Number.{decimal_10}
-use Rattle.format.specs.Address.{dotted_text}
 use Rattle.format.specs.Number.{decimal}
-use Rattle.octets.proofs.Slices.{next, none}
-use Rattle.buffer.proofs.Laws.{Left, left_all, left_none, wrote_none, wrote_text}
-use Rattle.buffer.proofs.Parted.{later, wrote_parted, went_on}
-use native.Mathlib.Omega.{arith}
-use borrow.Author.Rules.{rules}
+use Rattle.buffer.proofs.Laws.{Left}
+use Rattle.buffer.proofs.Parted.{later}
 use Rattle.address.proofs.print.dotted.Given as goal
 
 -- The octets before j are written; writing the others from m on, a dot before each, would give all after the first.

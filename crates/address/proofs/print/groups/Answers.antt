@@ -1,11 +1,10 @@
-use Prim.Native.Nat.{ℕ, ◌+◌, ◌-◌, ◌*◌, ◌%◌, ◌≤◌, ◌<◌}
-use mathlib.Core.Path.{◌≡◌, ap, sym}
-use mathlib.Core.List.{List, [], ◌∷◌}
-use lib.Seq.{slice}
+use Prim.Native.Nat.{ℕ, ◌-◌}
+use mathlib.Core.Path.{ap, sym}
+use mathlib.Core.List.{List, ◌∷◌}
 use Rattle.format.specs.Address.{colons, group_text}
 use Rattle.format.specs.Address as address
 use Rattle.octets.proofs.Slices.{none}
-use Rattle.buffer.proofs.Laws.{Left, left_all, left_none, wrote_none, wrote_text}
+use Rattle.buffer.proofs.Laws.{left_all, left_none, wrote_none, wrote_text}
 use Rattle.address.proofs.GroupTexts.{next_group, group_short}
 use Rattle.buffer.proofs.Parted.{later, wrote_parted, went_on}
 use native.Mathlib.Omega.{arith}

@@ -1,15 +1,11 @@
-use Prim.Native.Nat.{ℕ, ◌+◌, ◌-◌, ◌*◌, ◌%◌, ◌≤◌, ◌<◌}
-use mathlib.Core.Path.{◌≡◌, ap, sym}
-use mathlib.Core.List.{List, [], ◌∷◌}
+use Prim.Native.Nat.{◌+◌, ◌-◌, ◌*◌, ◌%◌, ◌≤◌, ◌<◌}
+use mathlib.Core.Path.{◌≡◌}
+use mathlib.Core.List.{◌∷◌}
 use lib.Seq.{slice}
-use Rattle.format.specs.Address.{colons, group_text}
+use Rattle.format.specs.Address.{group_text}
 use Rattle.format.specs.Address as address
-use Rattle.octets.proofs.Slices.{none}
-use Rattle.buffer.proofs.Laws.{Left, left_all, left_none, wrote_none, wrote_text}
-use Rattle.address.proofs.GroupTexts.{next_group, group_short}
-use Rattle.buffer.proofs.Parted.{later, wrote_parted, went_on}
-use native.Mathlib.Omega.{arith}
-use borrow.Author.Rules.{rules}
+use Rattle.buffer.proofs.Laws.{Left}
+use Rattle.buffer.proofs.Parted.{later}
 use Rattle.address.proofs.print.groups.Given as goal
 
 -- The groups before j are written; writing the others from m on, a colon before each, would give all after the first.

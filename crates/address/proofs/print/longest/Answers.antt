@@ -1,8 +1,7 @@
-use Prim.Native.Nat.{◌+◌, ◌*◌, ◌-◌, ◌%◌, ◌≤◌}
+use Prim.Native.Nat.{◌+◌, ◌*◌, ◌-◌, ◌≤◌}
 use mathlib.Core.Path.{◌≡◌, sym, ap, ◌∙◌}
 use lib.Seq.{slice}
 use Rattle.format.specs.Address.{groups, zeros_at}
-use Rattle.address.specs.Zeros.{Longest}
 use Rattle.address.proofs.ZeroRuns.{even_before, no_zeros, run_none, first_group, run_next}
 use native.Mathlib.Omega.{arith}
 use borrow.Author.Rules.{rules}

@@ -1,11 +1,8 @@
 use Prim.Native.Nat.{◌+◌, ◌*◌, ◌-◌, ◌%◌, ◌≤◌}
-use mathlib.Core.Path.{◌≡◌, sym, ap, ◌∙◌}
+use mathlib.Core.Path.{◌≡◌}
 use lib.Seq.{slice}
 use Rattle.format.specs.Address.{groups, zeros_at}
 use Rattle.address.specs.Zeros.{Longest}
-use Rattle.address.proofs.ZeroRuns.{even_before, no_zeros, run_none, first_group, run_next}
-use native.Mathlib.Omega.{arith}
-use borrow.Author.Rules.{rules}
 use Rattle.address.proofs.print.longest.Given as goal
 
 -- From j on there are first z zero groups, and `run` is the first of the longest runs of zero groups.

@@ -1,6 +1,5 @@
 use lib.Seq.{slice}
 use Rattle.address.proofs.Groups.{both_same, whole_same}
-use borrow.Author.Rules.{rules}
 use Rattle.address.proofs.read.aaaa.Goals as goal
 
 pub around-requires : goal.around-requires

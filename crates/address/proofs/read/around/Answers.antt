@@ -1,7 +1,6 @@
 use lib.Seq.{slice}
 use Prim.Native.Nat.{◌+◌}
 use Rattle.address.proofs.Groups.{both_fault, both_count, both_long, both_all}
-use borrow.Author.Rules.{rules}
 use Rattle.address.proofs.read.around.Goals as goal
 
 pub overflow_sub-g : goal.overflow_sub-g

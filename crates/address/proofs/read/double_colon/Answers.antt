@@ -1,6 +1,6 @@
-use Prim.Native.Nat.{◌-◌, ◌≤◌}
+use Prim.Native.Nat.{◌-◌}
 use mathlib.Core.Path.{sym, ◌∙◌}
-use Rattle.address.proofs.Doubled.{Passed, passed_none, passed_on, passed_found, passed_all}
+use Rattle.address.proofs.Doubled.{passed_none, passed_on, passed_found, passed_all}
 use borrow.Author.Rules.{rules}
 use Rattle.address.proofs.read.double_colon.Goals as goal
 

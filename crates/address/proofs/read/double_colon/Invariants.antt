@@ -1,7 +1,5 @@
 use Prim.Native.Nat.{◌-◌, ◌≤◌}
-use mathlib.Core.Path.{sym, ◌∙◌}
-use Rattle.address.proofs.Doubled.{Passed, passed_none, passed_on, passed_found, passed_all}
-use borrow.Author.Rules.{rules}
+use Rattle.address.proofs.Doubled.{Passed}
 use Rattle.address.proofs.read.double_colon.Given as goal
 
 -- No double colon begins before j: the first one from j on is the first one of the whole text.

@@ -1,6 +1,5 @@
 use lib.Seq.{slice}
 use Rattle.address.proofs.Addresses.{aa_parts}
-use borrow.Author.Rules.{rules}
 use Rattle.address.proofs.read.four_groups.Goals as goal
 
 pub returns : goal.returns

@@ -1,10 +1,5 @@
-use Prim.Native.Nat.{◌+◌, ◌*◌, ◌-◌, ◌≤◌}
-use mathlib.Core.Path.{◌≡◌}
-use lib.ListN.{length}
-use lib.Seq.{slice}
-use Rattle.address.specs.Address.{groups_in}
-use Rattle.address.specs.Part.{part_end}
-use Rattle.buffer.proofs.Values.{Begun, begun_none, begun_rest}
+use Prim.Native.Nat.{◌-◌}
+use Rattle.buffer.proofs.Values.{begun_none, begun_rest}
 use Rattle.address.proofs.Parts.{within}
 use Rattle.address.proofs.Groups.{group_last, group_fault, group_count, group_on}
 use native.Mathlib.Omega.{arith}

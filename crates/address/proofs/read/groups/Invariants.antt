@@ -4,11 +4,7 @@ use lib.ListN.{length}
 use lib.Seq.{slice}
 use Rattle.address.specs.Address.{groups_in}
 use Rattle.address.specs.Part.{part_end}
-use Rattle.buffer.proofs.Values.{Begun, begun_none, begun_rest}
-use Rattle.address.proofs.Parts.{within}
-use Rattle.address.proofs.Groups.{group_last, group_fault, group_count, group_on}
-use native.Mathlib.Omega.{arith}
-use borrow.Author.Rules.{rules}
+use Rattle.buffer.proofs.Values.{Begun}
 use Rattle.address.proofs.read.groups.Given as goal
 
 -- The groups before j are stored up to m; they, and the groups read from j on, are those of the whole text.

@@ -1,6 +1,5 @@
 use lib.Seq.{slice}
 use Rattle.address.proofs.Groups.{last_group, last_tail, last_none}
-use borrow.Author.Rules.{rules}
 use Rattle.address.proofs.read.last_part.Goals as goal
 
 pub returns-then-tail : goal.returns-then-tail

@@ -1,6 +1,4 @@
-use Prim.Native.Nat.{◌+◌, ◌≤◌}
-use lib.ListN.{replicate}
-use Rattle.buffer.proofs.Laws.{Left, left_all, left_one, left_none}
+use Rattle.buffer.proofs.Laws.{left_all, left_one, left_none}
 use Rattle.address.proofs.Groups.{one_zero, no_zero}
 use native.Mathlib.Omega.{arith}
 use borrow.Author.Rules.{rules}

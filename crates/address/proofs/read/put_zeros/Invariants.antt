@@ -1,9 +1,6 @@
 use Prim.Native.Nat.{◌+◌, ◌≤◌}
 use lib.ListN.{replicate}
-use Rattle.buffer.proofs.Laws.{Left, left_all, left_one, left_none}
-use Rattle.address.proofs.Groups.{one_zero, no_zero}
-use native.Mathlib.Omega.{arith}
-use borrow.Author.Rules.{rules}
+use Rattle.buffer.proofs.Laws.{Left}
 use Rattle.address.proofs.read.put_zeros.Given as goal
 
 -- All but c of the zeros are written; writing c zeros from m on would give all k.

@@ -5,7 +5,6 @@ use mathlib.Core.Bool.{true}
 use Rattle.address.specs.Address.{side_in}
 use Rattle.address.proofs.Groups.{right_fault, right_count, right_long, right_all}
 use native.Mathlib.Omega.{arith}
-use borrow.Author.Rules.{rules}
 use Rattle.address.proofs.read.right.Goals as goal
 
 pub overflow_sub-h : goal.overflow_sub-h

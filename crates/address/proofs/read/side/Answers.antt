@@ -1,7 +1,5 @@
-use mathlib.Core.List.{[]}
 use Rattle.buffer.proofs.Laws.{wrote_none}
 use Rattle.address.proofs.Groups.{side_some, side_none}
-use borrow.Author.Rules.{rules}
 use Rattle.address.proofs.read.side.Goals as goal
 
 pub returns-then-i-e : goal.returns-then-i-e

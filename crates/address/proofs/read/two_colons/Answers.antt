@@ -1,5 +1,4 @@
 use borrow.Author.Tests.{eq-eqb, ne_eqb}
-use borrow.Author.Rules.{rules}
 use Rattle.address.proofs.read.two_colons.Goals as goal
 
 pub returns-then-t-j-eq58 : goal.returns-then-t-j-eq58

@@ -2,7 +2,6 @@ use lib.Seq.{slice}
 use mathlib.Core.Bool.{true}
 use Rattle.address.specs.Address.{groups_in}
 use Rattle.address.proofs.Groups.{whole_fault, whole_count, whole_all, whole_other}
-use borrow.Author.Rules.{rules}
 use Rattle.address.proofs.read.whole.Goals as goal
 
 pub overflow_sub-r : goal.overflow_sub-r

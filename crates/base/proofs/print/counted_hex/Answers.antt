@@ -3,8 +3,6 @@ use Rattle.format.specs.Hex.{hex_text}
 use Rattle.octets.proofs.Slices.{lent}
 use Rattle.buffer.proofs.Laws.{wrote_text}
 use Rattle.base.proofs.Hex.{no_octets, some_octets}
-use native.Mathlib.Omega.{arith}
-use borrow.Author.Rules.{rules}
 use Rattle.base.proofs.print.counted_hex.Goals as goal
 
 pub returns-then-e-i : goal.returns-then-e-i

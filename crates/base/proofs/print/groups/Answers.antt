@@ -1,10 +1,7 @@
 use Rattle.base.proofs.Texts.{some_chars, times, stored, next_group, no_group}
-use Rattle.base.specs.Alphabet.{chars}
-use Rattle.format.specs.Base.{to_digits}
-use Rattle.buffer.proofs.Laws.{Left, left_all, left_piece, left_none, wrote_length}
-use lib.ListN.{length}
+use Rattle.buffer.proofs.Laws.{left_all, left_piece, left_none, wrote_length}
 use lib.Seq.{slice}
-use Prim.Native.Nat.{◌≤◌, ◌-◌, ◌+◌, ◌*◌, ◌/◌}
+use Prim.Native.Nat.{◌-◌, ◌+◌, ◌*◌, ◌/◌}
 use mathlib.Core.Path.{◌≡◌}
 use native.Mathlib.Omega.{arith}
 use borrow.Author.Rules.{rules}

@@ -1,13 +1,10 @@
-use Rattle.base.proofs.Texts.{some_chars, times, stored, next_group, no_group}
 use Rattle.base.specs.Alphabet.{chars}
 use Rattle.format.specs.Base.{to_digits}
-use Rattle.buffer.proofs.Laws.{Left, left_all, left_piece, left_none, wrote_length}
+use Rattle.buffer.proofs.Laws.{Left}
 use lib.ListN.{length}
 use lib.Seq.{slice}
 use Prim.Native.Nat.{◌≤◌, ◌-◌, ◌+◌, ◌*◌, ◌/◌}
 use mathlib.Core.Path.{◌≡◌}
-use native.Mathlib.Omega.{arith}
-use borrow.Author.Rules.{rules}
 use Rattle.base.proofs.print.groups.Given as goal
 
 -- All but d groups are written; writing the digits of the octets from j on at m would give those of all c groups.

@@ -7,7 +7,6 @@ use Rattle.buffer.proofs.Laws.{wrote_text, wrote_one, wrote_append, wrote_out}
 use Rattle.base.specs.Hex.{table_text}
 use Rattle.base.proofs.Hex.{table_length, table_count, table_all, table_parts}
 use native.Mathlib.Omega.{arith}
-use borrow.Author.Rules.{rules}
 use Rattle.base.proofs.print.hex_by_table.Goals as goal
 
 pub returns-then-xs-c : goal.returns-then-xs-c

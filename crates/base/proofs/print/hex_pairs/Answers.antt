@@ -1,8 +1,8 @@
-use Rattle.buffer.proofs.Laws.{Left, left_all, left_piece, left_none, wrote_two, next, none}
+use Rattle.buffer.proofs.Laws.{left_all, left_piece, left_none, wrote_two, next, none}
 use Rattle.base.specs.Hex.{table_text}
-use lib.ListN.{length, drop, length-set}
-use mathlib.Core.Path.{◌≡◌, refl, ap}
-use Prim.Native.Nat.{◌+◌, ◌-◌, ◌*◌, ◌≤◌}
+use lib.ListN.{length-set}
+use mathlib.Core.Path.{refl, ap}
+use Prim.Native.Nat.{◌-◌}
 use native.Mathlib.Omega.{arith}
 use borrow.Author.Rules.{rules}
 use Rattle.base.proofs.print.hex_pairs.Goals as goal

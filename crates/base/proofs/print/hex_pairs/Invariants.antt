@@ -1,10 +1,8 @@
-use Rattle.buffer.proofs.Laws.{Left, left_all, left_piece, left_none, wrote_two, next, none}
+use Rattle.buffer.proofs.Laws.{Left}
 use Rattle.base.specs.Hex.{table_text}
-use lib.ListN.{length, drop, length-set}
-use mathlib.Core.Path.{◌≡◌, refl, ap}
+use lib.ListN.{length, drop}
+use mathlib.Core.Path.{◌≡◌}
 use Prim.Native.Nat.{◌+◌, ◌-◌, ◌*◌, ◌≤◌}
-use native.Mathlib.Omega.{arith}
-use borrow.Author.Rules.{rules}
 use Rattle.base.proofs.print.hex_pairs.Given as goal
 
 -- The first i octets are written; writing the others from m on would give the whole text.

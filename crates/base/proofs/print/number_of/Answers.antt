@@ -1,11 +1,10 @@
 use Rattle.base.proofs.Digits.{next_octet, few_octets, more_octets_lem}
 use Rattle.octets.proofs.Slices.{none}
-use Rattle.format.specs.Digits.{number_from, number}
+use Rattle.format.specs.Digits.{number_from}
 use Rattle.format.specs.Base.{bits}
 use lib.ListN.{get_or}
-use lib.Seq.{slice}
-use Prim.Native.Nat.{◌≤◌, ◌<◌, ◌-◌, ◌+◌, ◌^◌}
-use mathlib.Core.Path.{◌≡◌, sym, ap, ◌∙◌}
+use Prim.Native.Nat.{◌<◌, ◌-◌, ◌+◌}
+use mathlib.Core.Path.{sym, ap, ◌∙◌}
 use native.Mathlib.Nat.{add-zero}
 use native.Mathlib.Omega.{arith}
 use borrow.Author.Rules.{rules}

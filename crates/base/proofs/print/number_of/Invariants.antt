@@ -1,14 +1,8 @@
-use Rattle.base.proofs.Digits.{next_octet, few_octets, more_octets_lem}
-use Rattle.octets.proofs.Slices.{none}
 use Rattle.format.specs.Digits.{number_from, number}
 use Rattle.format.specs.Base.{bits}
-use lib.ListN.{get_or}
 use lib.Seq.{slice}
 use Prim.Native.Nat.{◌≤◌, ◌<◌, ◌-◌, ◌+◌, ◌^◌}
-use mathlib.Core.Path.{◌≡◌, sym, ap, ◌∙◌}
-use native.Mathlib.Nat.{add-zero}
-use native.Mathlib.Omega.{arith}
-use borrow.Author.Rules.{rules}
+use mathlib.Core.Path.{◌≡◌}
 use Rattle.base.proofs.print.number_of.Given as goal
 
 -- The first j octets make v; going on with the bits of the others gives the number of all g octets.

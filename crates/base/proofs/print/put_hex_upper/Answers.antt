@@ -1,6 +1,5 @@
 use Rattle.buffer.proofs.Laws.{wrote_text}
 use Rattle.base.proofs.Hex.{table_hex}
-use borrow.Author.Rules.{rules}
 use Rattle.base.proofs.print.put_hex_upper.Goals as goal
 
 pub returns : goal.returns

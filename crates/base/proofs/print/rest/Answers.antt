@@ -3,7 +3,6 @@ use Prim.Native.Nat.{◌-◌, ◌+◌, ◌*◌}
 use mathlib.Core.Path.{refl}
 use native.Mathlib.Nat.{div-le_self}
 use native.Mathlib.Omega.{arith}
-use borrow.Author.Rules.{rules}
 use Rattle.base.proofs.print.rest.Goals as goal
 
 pub overflow_add-result-2 : goal.overflow_add-result-2

@@ -1,9 +1,5 @@
 use Rattle.digits.proofs.Decimal.{last_digit}
-use Rattle.base.specs.Alphabet.{chars}
-use Rattle.format.specs.Digits.{digits}
-use lib.ListN.{length, get_or, length-set}
-use lib.Seq.{sets}
-use Prim.Native.Nat.{◌≤◌}
+use lib.ListN.{get_or, length-set}
 use mathlib.Core.Path.{◌≡◌, refl, ◌∙◌}
 use native.Mathlib.Nat.{mod-lt}
 use native.Mathlib.Omega.{arith}

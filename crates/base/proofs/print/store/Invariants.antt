@@ -1,13 +1,9 @@
-use Rattle.digits.proofs.Decimal.{last_digit}
 use Rattle.base.specs.Alphabet.{chars}
 use Rattle.format.specs.Digits.{digits}
-use lib.ListN.{length, get_or, length-set}
+use lib.ListN.{length}
 use lib.Seq.{sets}
 use Prim.Native.Nat.{◌≤◌}
-use mathlib.Core.Path.{◌≡◌, refl, ◌∙◌}
-use native.Mathlib.Nat.{mod-lt}
-use native.Mathlib.Omega.{arith}
-use borrow.Author.Rules.{rules}
+use mathlib.Core.Path.{◌≡◌}
 use Rattle.base.proofs.print.store.Given as goal
 
 -- The last k - i digits are stored; storing the i lowest digits of x before them, from n on, would give all k of v.

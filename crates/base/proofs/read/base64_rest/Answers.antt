@@ -1,5 +1,4 @@
 use Rattle.base.proofs.Base64Rest.{base64_fault, base64_missing, base64_got}
-use borrow.Author.Rules.{rules}
 use Rattle.base.proofs.read.base64_rest.Goals as goal
 
 pub returns-then-m-at : goal.returns-then-m-at

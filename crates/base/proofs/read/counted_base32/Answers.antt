@@ -3,7 +3,6 @@ use Rattle.buffer.specs.Writing.{Values}
 use mathlib.Core.Path.{subst}
 use lib.Seq.{slice}
 use native.Mathlib.Omega.{arith}
-use borrow.Author.Rules.{rules}
 use Rattle.base.proofs.read.counted_base32.Goals as goal
 
 pub returns : goal.returns

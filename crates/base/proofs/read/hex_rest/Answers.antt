@@ -1,6 +1,5 @@
 use Rattle.base.proofs.HexRest.{hex_fault, hex_missing, hex_got}
 use native.Mathlib.Omega.{arith}
-use borrow.Author.Rules.{rules}
 use Rattle.base.proofs.read.hex_rest.Goals as goal
 
 pub returns-then-m-at : goal.returns-then-m-at

@@ -1,6 +1,5 @@
-use Rattle.base.proofs.Base64Rest.{Pads, pads_all, pads_one, pads_other, pads_short, pads_more, pads_none}
+use Rattle.base.proofs.Base64Rest.{pads_all, pads_one, pads_other, pads_short, pads_more, pads_none}
 use Rattle.base_group.specs.Group.{left_out}
-use borrow.Author.Rules.{rules}
 use Rattle.base.proofs.read.padded.Goals as goal
 
 pub loop-q-init : goal.loop-q-init

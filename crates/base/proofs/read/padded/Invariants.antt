@@ -1,6 +1,5 @@
-use Rattle.base.proofs.Base64Rest.{Pads, pads_all, pads_one, pads_other, pads_short, pads_more, pads_none}
+use Rattle.base.proofs.Base64Rest.{Pads}
 use Rattle.base_group.specs.Group.{left_out}
-use borrow.Author.Rules.{rules}
 use Rattle.base.proofs.read.padded.Given as goal
 
 -- There are exactly k of `=` from i on exactly if there are q from j on; octets that are left out do not count.

@@ -2,7 +2,6 @@ use Rattle.escape.proofs.Shown.{special_escaped, shown_escaped}
 use Rattle.buffer.proofs.Laws.{wrote_text}
 use Rattle.format.specs.Octets.{ascii}
 use mathlib.Core.Path.{sym, ◌∙◌}
-use borrow.Author.Rules.{rules}
 use Rattle.escape.proofs.print.put_escaped_name.Goals as goal
 
 pub returns-then-name_special : goal.returns-then-name_special

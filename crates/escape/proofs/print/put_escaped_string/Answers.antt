@@ -2,7 +2,6 @@ use Rattle.escape.proofs.Shown.{special_escaped, shown_escaped}
 use Rattle.buffer.proofs.Laws.{wrote_text}
 use Rattle.format.specs.Octets.{ascii}
 use borrow.Author.Tests.{eq-eqb, ne_eqb}
-use borrow.Author.Rules.{rules}
 use Rattle.escape.proofs.print.put_escaped_string.Goals as goal
 
 pub returns-then-b-eq34 : goal.returns-then-b-eq34

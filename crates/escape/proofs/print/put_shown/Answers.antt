@@ -1,6 +1,5 @@
 use Rattle.escape.proofs.Shown.{low_shown, high_shown, plain_shown}
 use Rattle.buffer.proofs.Laws.{wrote_text}
-use borrow.Author.Rules.{rules}
 use Rattle.escape.proofs.print.put_shown.Goals as goal
 
 pub returns-then-b-lo : goal.returns-then-b-lo

@@ -1,5 +1,4 @@
 use Rattle.buffer.proofs.Laws.{wrote_two}
-use borrow.Author.Rules.{rules}
 use Rattle.escape.proofs.print.put_slashed.Goals as goal
 
 pub returns : goal.returns

@@ -1,5 +1,4 @@
 use Rattle.escape.proofs.Escapes.{digit_low, digit_high, digit_between}
-use borrow.Author.Rules.{rules}
 use Rattle.escape.proofs.read.digit_value.Goals as goal
 
 pub returns-then-b-lt48 : goal.returns-then-b-lt48

@@ -1,11 +1,9 @@
-use Prim.Native.Nat.{ℕ, ◌+◌, ◌-◌, ◌*◌, ◌≤◌, ◌<◌}
-use mathlib.Core.Path.{◌≡◌, ap, sym}
-use mathlib.Core.List.{List, [], ◌∷◌, map}
-use lib.Seq.{slice}
+use Prim.Native.Nat.{◌-◌}
+use mathlib.Core.Path.{ap, sym}
+use mathlib.Core.List.{◌∷◌}
 use Rattle.format.specs.Eui.{eui_text}
-use Rattle.format.specs.Digits.{digits, lower_digit}
 use Rattle.octets.proofs.Slices.{next, none}
-use Rattle.buffer.proofs.Laws.{Left, left_all, left_none, wrote_none, wrote_text}
+use Rattle.buffer.proofs.Laws.{left_all, left_none, wrote_none, wrote_text}
 use Rattle.buffer.proofs.Parted.{later, wrote_parted, went_on}
 use native.Mathlib.Omega.{arith}
 use borrow.Author.Rules.{rules}

@@ -1,14 +1,10 @@
 use Prim.Native.Nat.{ℕ, ◌+◌, ◌-◌, ◌*◌, ◌≤◌, ◌<◌}
-use mathlib.Core.Path.{◌≡◌, ap, sym}
-use mathlib.Core.List.{List, [], ◌∷◌, map}
+use mathlib.Core.Path.{◌≡◌}
+use mathlib.Core.List.{List, ◌∷◌, map}
 use lib.Seq.{slice}
-use Rattle.format.specs.Eui.{eui_text}
 use Rattle.format.specs.Digits.{digits, lower_digit}
-use Rattle.octets.proofs.Slices.{next, none}
-use Rattle.buffer.proofs.Laws.{Left, left_all, left_none, wrote_none, wrote_text}
-use Rattle.buffer.proofs.Parted.{later, wrote_parted, went_on}
-use native.Mathlib.Omega.{arith}
-use borrow.Author.Rules.{rules}
+use Rattle.buffer.proofs.Laws.{Left}
+use Rattle.buffer.proofs.Parted.{later}
 use Rattle.eui.proofs.print.field.Given as goal
 
 -- an octet's two digits

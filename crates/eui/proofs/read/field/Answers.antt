@@ -1,6 +1,5 @@
 use lib.Seq.{slice}
 use Rattle.address.proofs.Addresses.{eui_parts}
-use borrow.Author.Rules.{rules}
 use Rattle.eui.proofs.read.field.Goals as goal
 
 pub returns : goal.returns

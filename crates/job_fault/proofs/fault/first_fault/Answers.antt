@@ -1,6 +1,5 @@
 use Rattle.job_fault.proofs.Faults.{no_section, count_small, too_long, within, after_stanza}
 use native.Mathlib.Omega.{arith}
-use borrow.Author.Rules.{rules}
 use Rattle.job_fault.proofs.fault.first_fault.Goals as goal
 
 pub returns-then-j-gt65535 : goal.returns-then-j-gt65535

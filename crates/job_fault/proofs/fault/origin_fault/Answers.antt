@@ -1,6 +1,5 @@
 use Rattle.job_fault.proofs.Faults.{no_section, enough, not_one, has_line, bad_name, good_name}
 use native.Mathlib.Omega.{arith}
-use borrow.Author.Rules.{rules}
 use Rattle.job_fault.proofs.fault.origin_fault.Goals as goal
 
 pub returns-then-n-ne1 : goal.returns-then-n-ne1

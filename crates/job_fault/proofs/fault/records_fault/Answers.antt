@@ -1,6 +1,5 @@
 use Rattle.job_fault.proofs.Faults.{no_section, count_small, line_after, none_after}
 use native.Mathlib.Omega.{arith}
-use borrow.Author.Rules.{rules}
 use Rattle.job_fault.proofs.fault.records_fault.Goals as goal
 
 pub overflow_cast-result : goal.overflow_cast-result

@@ -1,4 +1,3 @@
-use borrow.Author.Rules.{rules}
 use Rattle.job_fault.proofs.reason.count_reason.Goals as goal
 
 pub returns-then-is_marked : goal.returns-then-is_marked

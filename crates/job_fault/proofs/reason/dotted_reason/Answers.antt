@@ -1,6 +1,5 @@
 use Rattle.job_fault.proofs.Reasons.{at_sign, no_name, lacks_dot}
 use native.Mathlib.Omega.{arith}
-use borrow.Author.Rules.{rules}
 use Rattle.job_fault.proofs.reason.dotted_reason.Goals as goal
 
 pub returns-then-same : goal.returns-then-same

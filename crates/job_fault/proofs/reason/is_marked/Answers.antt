@@ -1,6 +1,5 @@
 use Rattle.job_fault.proofs.Reasons.{later_line, first_line}
 use native.Mathlib.Omega.{arith}
-use borrow.Author.Rules.{rules}
 use Rattle.job_fault.proofs.reason.is_marked.Goals as goal
 
 pub returns-then-k-ne1 : goal.returns-then-k-ne1

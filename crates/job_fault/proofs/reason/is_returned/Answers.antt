@@ -1,5 +1,4 @@
 use Rattle.job_fault.proofs.Reasons.{last_octet}
-use borrow.Author.Rules.{rules}
 use Rattle.job_fault.proofs.reason.is_returned.Goals as goal
 
 pub returns : goal.returns

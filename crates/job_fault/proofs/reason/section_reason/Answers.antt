@@ -1,5 +1,4 @@
 use Rattle.job_fault.proofs.Reasons.{missing, not_count, too_large}
-use borrow.Author.Rules.{rules}
 use Rattle.job_fault.proofs.reason.section_reason.Goals as goal
 
 pub returns-then-j-at : goal.returns-then-j-at

@@ -1,4 +1,3 @@
-use borrow.Author.Rules.{rules}
 use Rattle.job_fault.proofs.words.put_reason.Goals as goal
 
 pub returns-in-TooLong : goal.returns-in-TooLong

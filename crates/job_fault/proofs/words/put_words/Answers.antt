@@ -1,7 +1,6 @@
 use Rattle.buffer.proofs.Laws.{wrote_none, wrote_append}
 use Rattle.job_fault.proofs.Lengths.{line_short, reason_short}
 use native.Mathlib.Omega.{arith}
-use borrow.Author.Rules.{rules}
 use Rattle.job_fault.proofs.words.put_words.Goals as goal
 
 pub put_reason-end-requires : goal.put_reason-end-requires

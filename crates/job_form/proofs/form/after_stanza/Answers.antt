@@ -1,5 +1,4 @@
 use Rattle.job_form.proofs.Forms.{cut, no_origin, no_records, bad_origin, after_found}
-use borrow.Author.Rules.{rules}
 use Rattle.job_form.proofs.form.after_stanza.Goals as goal
 
 pub read_origin-v-requires : goal.read_origin-v-requires

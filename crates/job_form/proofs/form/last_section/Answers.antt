@@ -1,5 +1,4 @@
 use Rattle.job_form.proofs.Forms.{no_last, followed, last_found}
-use borrow.Author.Rules.{rules}
 use Rattle.job_form.proofs.form.last_section.Goals as goal
 
 pub returns-then-to-j : goal.returns-then-to-j

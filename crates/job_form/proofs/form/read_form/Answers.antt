@@ -1,6 +1,5 @@
 use Rattle.job_form.proofs.Forms.{too_long, no_stanza, no_after, formed}
 use native.Mathlib.Omega.{arith}
-use borrow.Author.Rules.{rules}
 use Rattle.job_form.proofs.form.read_form.Goals as goal
 
 pub returns-then-j-gt65535 : goal.returns-then-j-gt65535

@@ -1,5 +1,4 @@
 use Rattle.job_form.proofs.Places.{ends_line}
-use borrow.Author.Rules.{rules}
 use Rattle.job_form.proofs.lines.line_end.Goals as goal
 
 pub returns : goal.returns

@@ -1,5 +1,4 @@
 use Rattle.job_form.proofs.Places.{no_section, no_count, too_few, whole_section}
-use borrow.Author.Rules.{rules}
 use Rattle.job_form.proofs.lines.read_section.Goals as goal
 
 pub returns-then-j-at : goal.returns-then-j-at

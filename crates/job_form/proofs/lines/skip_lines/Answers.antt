@@ -1,12 +1,7 @@
 use mathlib.Core.Path.{◌≡◌}
-use Prim.Native.Nat.{◌+◌, ◌≤◌}
-use lib.ListN.{length}
-use Rattle.job_form.specs.declared.lines.Skipped.{Skipped}
 use Rattle.job_form.specs.declared.lines.Skipped.TheVariants.{Short, To}
-use Rattle.job_form.specs.Lines.{Skips}
 use Rattle.job_form.proofs.Places.{skips_on, skips_none, skips_short}
 use native.Mathlib.Omega.{arith}
-use borrow.Author.Rules.{rules}
 use Rattle.job_form.proofs.lines.skip_lines.Goals as goal
 
 pub loop-left-init : goal.loop-left-init

@@ -1,6 +1,5 @@
 use Rattle.job_form.proofs.Origins.{no_token_lem, broken_token, quoted_token, bare_within, part_token, whole_token}
 use native.Mathlib.Omega.{arith}
-use borrow.Author.Rules.{rules}
 use Rattle.job_form.proofs.origin.name_line.Goals as goal
 
 pub overflow_sub-e : goal.overflow_sub-e

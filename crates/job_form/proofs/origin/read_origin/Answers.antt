@@ -2,7 +2,6 @@ use Rattle.job_form.specs.Lines.{lines_at}
 use Rattle.job_form.proofs.Places.{some_lines}
 use Rattle.job_form.proofs.Origins.{not_one, one_line}
 use native.Mathlib.Omega.{arith}
-use borrow.Author.Rules.{rules}
 use Rattle.job_form.proofs.origin.read_origin.Goals as goal
 
 pub returns-then-n-ne1 : goal.returns-then-n-ne1

@@ -1,5 +1,4 @@
 use borrow.Author.Tests.{eq-eqb, ne_eqb}
-use borrow.Author.Rules.{rules}
 use Rattle.job_form.proofs.origin.same_end.Goals as goal
 
 pub returns-then-m-n : goal.returns-then-m-n

@@ -1,10 +1,9 @@
-use Prim.Native.Nat.{◌-◌, ◌≤◌}
+use Prim.Native.Nat.{◌-◌}
 use mathlib.Core.Path.{ap}
-use lib.Seq.{slice}
 use Rattle.format.specs.Name.{name_escape}
 use Rattle.format.specs.Lists.{flat_map}
 use Rattle.octets.proofs.Slices.{next, none}
-use Rattle.buffer.proofs.Laws.{Left, left_all, left_piece, left_none}
+use Rattle.buffer.proofs.Laws.{left_all, left_piece, left_none}
 use Rattle.name.proofs.Labels.{label_length_lem}
 use native.Mathlib.Omega.{arith}
 use borrow.Author.Rules.{rules}

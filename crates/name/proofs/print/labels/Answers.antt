@@ -1,9 +1,8 @@
-use Prim.Native.Nat.{◌+◌, ◌-◌, ◌*◌, ◌≤◌, ◌<◌}
+use Prim.Native.Nat.{◌+◌, ◌-◌}
 use mathlib.Core.Bool.{true}
 use lib.ListN.{get_or}
-use lib.Seq.{slice}
-use Rattle.buffer.proofs.Laws.{Left, left_all, left_piece, left_none, wrote_append}
-use Rattle.name.proofs.Labels.{Named, dotted, label_length_lem, named_first, label_at, dotted_next, dotted_none}
+use Rattle.buffer.proofs.Laws.{left_all, left_piece, left_none, wrote_append}
+use Rattle.name.proofs.Labels.{label_length_lem, named_first, label_at, dotted_next, dotted_none}
 use native.Mathlib.Omega.{arith}
 use borrow.Author.Rules.{rules}
 use Rattle.name.proofs.print.labels.Goals as goal

@@ -1,11 +1,7 @@
 use Prim.Native.Nat.{◌+◌, ◌-◌, ◌*◌, ◌≤◌, ◌<◌}
-use mathlib.Core.Bool.{true}
-use lib.ListN.{get_or}
 use lib.Seq.{slice}
-use Rattle.buffer.proofs.Laws.{Left, left_all, left_piece, left_none, wrote_append}
-use Rattle.name.proofs.Labels.{Named, dotted, label_length_lem, named_first, label_at, dotted_next, dotted_none}
-use native.Mathlib.Omega.{arith}
-use borrow.Author.Rules.{rules}
+use Rattle.buffer.proofs.Laws.{Left}
+use Rattle.name.proofs.Labels.{Named, dotted}
 use Rattle.name.proofs.print.labels.Given as goal
 
 -- The labels before j are written, a dot after each; writing the others from m on would give the whole text.

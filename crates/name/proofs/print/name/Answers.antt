@@ -1,7 +1,6 @@
 use mathlib.Core.Bool.{true}
 use Rattle.buffer.proofs.Laws.{wrote_none, wrote_text}
 use Rattle.name.proofs.Labels.{named_first, none_text, root_text, labels_text}
-use borrow.Author.Rules.{rules}
 use Rattle.name.proofs.print.name.Goals as goal
 
 pub returns-then-e-i : goal.returns-then-e-i

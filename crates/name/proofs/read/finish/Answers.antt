@@ -1,4 +1,3 @@
-use borrow.Author.Rules.{rules}
 use Rattle.name.proofs.read.finish.Goals as goal
 
 pub returns-then-absolute : goal.returns-then-absolute

@@ -1,8 +1,8 @@
-use Rattle.name.proofs.Names.{Part, part_none, item_fault, item_within, part_octet, part_long, part_empty, part_dot, part_last}
+use Rattle.name.proofs.Names.{part_none, item_fault, item_within, part_octet, part_long, part_empty, part_dot, part_last}
 use Rattle.name.proofs.Names.{count_stored}
 use Rattle.buffer.proofs.Laws.{wrote_length}
 use borrow.Author.Tests.{ne_eqb}
-use Prim.Native.Nat.{◌+◌, ◌-◌, ◌≤◌, ◌<◌}
+use Prim.Native.Nat.{◌-◌}
 use native.Mathlib.Omega.{arith}
 use borrow.Author.Rules.{rules}
 use Rattle.name.proofs.read.label.Goals as goal

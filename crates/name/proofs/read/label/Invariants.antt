@@ -1,10 +1,5 @@
-use Rattle.name.proofs.Names.{Part, part_none, item_fault, item_within, part_octet, part_long, part_empty, part_dot, part_last}
-use Rattle.name.proofs.Names.{count_stored}
-use Rattle.buffer.proofs.Laws.{wrote_length}
-use borrow.Author.Tests.{ne_eqb}
+use Rattle.name.proofs.Names.{Part}
 use Prim.Native.Nat.{◌+◌, ◌-◌, ◌≤◌, ◌<◌}
-use native.Mathlib.Omega.{arith}
-use borrow.Author.Rules.{rules}
 use Rattle.name.proofs.read.label.Given as goal
 
 -- The label's octets before j are stored up to m; put before the text from j on, they spell what it does from i on.

@@ -1,10 +1,6 @@
 use Rattle.name.proofs.Names.{no_label, dot_after, dot_count, dot_begun, last_count, with_origin, with_zero, limited_begun}
-use Rattle.buffer.proofs.Values.{Begun, begun_none}
-use Rattle.name.specs.Name.{spelled}
-use lib.Seq.{slice}
-use lib.ListN.{length}
-use mathlib.Core.Path.{◌≡◌}
-use Prim.Native.Nat.{◌+◌, ◌-◌, ◌≤◌}
+use Rattle.buffer.proofs.Values.{begun_none}
+use Prim.Native.Nat.{◌-◌}
 use native.Mathlib.Omega.{arith}
 use borrow.Author.Rules.{rules}
 use Rattle.name.proofs.read.labels.Goals as goal

@@ -1,12 +1,9 @@
-use Rattle.name.proofs.Names.{no_label, dot_after, dot_count, dot_begun, last_count, with_origin, with_zero, limited_begun}
-use Rattle.buffer.proofs.Values.{Begun, begun_none}
+use Rattle.buffer.proofs.Values.{Begun}
 use Rattle.name.specs.Name.{spelled}
 use lib.Seq.{slice}
 use lib.ListN.{length}
 use mathlib.Core.Path.{◌≡◌}
 use Prim.Native.Nat.{◌+◌, ◌-◌, ◌≤◌}
-use native.Mathlib.Omega.{arith}
-use borrow.Author.Rules.{rules}
 use Rattle.name.proofs.read.labels.Given as goal
 
 -- The labels before j are stored up to m; they, and what the text from j on spells, are the whole name.

@@ -1,5 +1,4 @@
 use Rattle.name.proofs.Names.{limit_below, limit_above}
-use borrow.Author.Rules.{rules}
 use Rattle.name.proofs.read.limited_end.Goals as goal
 
 pub returns-then-m-at-gt255 : goal.returns-then-m-at-gt255

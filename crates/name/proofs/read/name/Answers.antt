@@ -2,7 +2,6 @@ use Rattle.name.proofs.Names.{reads_origin, reads_root, reads_labels}
 use lib.Seq.{slice}
 use Rattle.format.proofs.Name.{wire_name_255}
 use native.Mathlib.Omega.{arith}
-use borrow.Author.Rules.{rules}
 use Rattle.name.proofs.read.name.Goals as goal
 
 pub put_all-requires : goal.put_all-requires

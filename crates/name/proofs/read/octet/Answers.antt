@@ -1,6 +1,5 @@
 use Rattle.name.proofs.Names.{one_plain, one_escape}
 use borrow.Author.Tests.{ne_eqb}
-use borrow.Author.Rules.{rules}
 use Rattle.name.proofs.read.octet.Goals as goal
 
 pub returns-then-b-eq92 : goal.returns-then-b-eq92

@@ -1,5 +1,4 @@
 use Rattle.name.proofs.Names.{sole_one, sole_other}
-use borrow.Author.Rules.{rules}
 use Rattle.name.proofs.read.sole_octet.Goals as goal
 
 pub returns-then-e-i-eq1 : goal.returns-then-e-i-eq1

@@ -1,7 +1,7 @@
-use Prim.Native.Nat.{◌-◌, ◌≤◌}
-use mathlib.Core.Path.{◌≡◌, refl, sym, ap, ◌∙◌}
+use Prim.Native.Nat.{◌-◌}
+use mathlib.Core.Path.{refl, sym, ap, ◌∙◌}
 use Rattle.stanza_words.proofs.Laws.{within}
-use Rattle.number.specs.Symbols.{first_in, name_for, spelled}
+use Rattle.number.specs.Symbols.{name_for, spelled}
 use Rattle.number.proofs.Symbols.{first_here, first_none, first_next}
 use native.Mathlib.Omega.{arith}
 use borrow.Author.Rules.{rules}

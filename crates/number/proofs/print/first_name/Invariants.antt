@@ -1,10 +1,6 @@
 use Prim.Native.Nat.{◌-◌, ◌≤◌}
-use mathlib.Core.Path.{◌≡◌, refl, sym, ap, ◌∙◌}
-use Rattle.stanza_words.proofs.Laws.{within}
-use Rattle.number.specs.Symbols.{first_in, name_for, spelled}
-use Rattle.number.proofs.Symbols.{first_here, first_none, first_next}
-use native.Mathlib.Omega.{arith}
-use borrow.Author.Rules.{rules}
+use mathlib.Core.Path.{◌≡◌}
+use Rattle.number.specs.Symbols.{first_in, name_for}
 use Rattle.number.proofs.print.first_name.Given as goal
 
 -- The first symbol with the number v between i and b is the first one between a and b.

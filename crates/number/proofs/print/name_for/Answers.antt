@@ -1,6 +1,5 @@
 use borrow.Author.Tests.{eq-eqb, ne_eqb}
 use Rattle.number.proofs.Symbols.{name_ends}
-use borrow.Author.Rules.{rules}
 use Rattle.number.proofs.print.name_for.Goals as goal
 
 pub returns-then-x-v : goal.returns-then-x-v

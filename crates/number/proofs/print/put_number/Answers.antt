@@ -4,7 +4,6 @@ use Rattle.number.specs.Symbols.{spelled}
 use Rattle.number.proofs.Symbols.{bare_text, found_text}
 use lib.ListN.{length-take, length-drop}
 use native.Mathlib.Omega.{arith}
-use borrow.Author.Rules.{rules}
 use Rattle.octets.proofs.Slices.{lent}
 use Rattle.number.proofs.print.put_number.Goals as goal
 

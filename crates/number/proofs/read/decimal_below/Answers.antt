@@ -1,6 +1,5 @@
 use lib.Seq.{slice}
 use Rattle.format.specs.Number.{decimal_of}
-use borrow.Author.Rules.{rules}
 use Rattle.number.proofs.read.decimal_below.Goals as goal
 
 pub returns : goal.returns

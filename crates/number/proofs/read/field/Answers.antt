@@ -1,6 +1,5 @@
 use lib.Seq.{slice}
 use Rattle.number.proofs.Numbers.{integer_octets}
-use borrow.Author.Rules.{rules}
 use Rattle.number.proofs.read.field.Goals as goal
 
 pub returns : goal.returns

@@ -1,10 +1,10 @@
-use Prim.Native.Nat.{◌-◌, ◌≤◌}
-use mathlib.Core.Path.{◌≡◌, refl, sym, ap, ◌∙◌}
+use Prim.Native.Nat.{◌-◌}
+use mathlib.Core.Path.{refl, sym, ap, ◌∙◌}
 use lib.Seq.{slice}
 use Rattle.octets.specs.Octets.{number_of}
 use Rattle.octets.proofs.Numbers.{number_some, number_none}
 use Rattle.stanza_words.proofs.Laws.{within}
-use Rattle.number.specs.Symbols.{first_in, value_for}
+use Rattle.number.specs.Symbols.{value_for}
 use Rattle.number.proofs.Symbols.{first_here, first_none, first_next}
 use native.Mathlib.Omega.{arith}
 use borrow.Author.Rules.{rules}

@@ -1,13 +1,7 @@
 use Prim.Native.Nat.{◌-◌, ◌≤◌}
-use mathlib.Core.Path.{◌≡◌, refl, sym, ap, ◌∙◌}
+use mathlib.Core.Path.{◌≡◌}
 use lib.Seq.{slice}
-use Rattle.octets.specs.Octets.{number_of}
-use Rattle.octets.proofs.Numbers.{number_some, number_none}
-use Rattle.stanza_words.proofs.Laws.{within}
 use Rattle.number.specs.Symbols.{first_in, value_for}
-use Rattle.number.proofs.Symbols.{first_here, first_none, first_next}
-use native.Mathlib.Omega.{arith}
-use borrow.Author.Rules.{rules}
 use Rattle.number.proofs.read.first_value.Given as goal
 
 -- The first symbol of that name between j and b has the number of the first one between a and b.

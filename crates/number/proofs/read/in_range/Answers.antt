@@ -1,7 +1,6 @@
 use mathlib.Core.Path.{sym, ◌∙◌}
 use Rattle.number.proofs.Numbers.{is_below, not_below, none_below}
 use native.Mathlib.Omega.{arith}
-use borrow.Author.Rules.{rules}
 use Rattle.number.proofs.read.in_range.Goals as goal
 
 pub returns-then-x-m : goal.returns-then-x-m

@@ -2,7 +2,6 @@ use lib.Seq.{slice}
 use Rattle.format.specs.Number.{decimal_of, below, symbol_value}
 use mathlib.Core.Path.{sym, ◌∙◌}
 use Rattle.number.proofs.Numbers.{first_there, first_absent}
-use borrow.Author.Rules.{rules}
 use Rattle.number.proofs.read.number.Goals as goal
 
 pub returns-in-Value : goal.returns-in-Value

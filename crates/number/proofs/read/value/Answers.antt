@@ -1,6 +1,5 @@
 use Rattle.format.specs.Digits.{digits}
 use mathlib.Core.Path.{refl}
-use borrow.Author.Rules.{rules}
 use Rattle.number.proofs.read.value.Goals as goal
 
 pub returns-in-Value : goal.returns-in-Value

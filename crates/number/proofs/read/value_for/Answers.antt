@@ -1,6 +1,5 @@
 use Rattle.number.proofs.Symbols.{name_ends}
 use native.Mathlib.Omega.{arith}
-use borrow.Author.Rules.{rules}
 use Rattle.number.proofs.read.value_for.Goals as goal
 
 pub same-requires : goal.same-requires

@@ -2,7 +2,6 @@ use mathlib.Core.Path.{ap, ◌∙◌}
 use lib.Seq.{slice}
 use Rattle.octets.specs.Octets.{number_of}
 use Rattle.number.proofs.Symbols.{no_value, found_value}
-use borrow.Author.Rules.{rules}
 use Rattle.number.proofs.read.value_of.Goals as goal
 
 pub returns-then-a-b : goal.returns-then-a-b

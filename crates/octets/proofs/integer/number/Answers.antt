@@ -1,11 +1,9 @@
 use Rattle.octets.proofs.Integers.{octet_more, octets_fit, none_yet}
 use Rattle.octets.proofs.Slices.{next, none}
-use Rattle.format.specs.Digits as digits
 use Rattle.format.specs.Digits.{number_from}
 use lib.ListN.{get_or}
-use lib.Seq.{slice}
-use mathlib.Core.Path.{◌≡◌, refl, sym, ap, ◌∙◌}
-use Prim.Native.Nat.{◌-◌, ◌^◌, ◌<◌, ◌≤◌}
+use mathlib.Core.Path.{refl, sym, ap, ◌∙◌}
+use Prim.Native.Nat.{◌-◌}
 use native.Mathlib.Omega.{arith}
 use borrow.Author.Rules.{rules}
 use Rattle.octets.proofs.integer.number.Goals as goal

@@ -3,7 +3,6 @@ use Rattle.format.specs.Catalogue.{type_text_in}
 use Rattle.catalogue.specs.Entries.{names_of}
 use Rattle.buffer.proofs.Laws.{wrote_text}
 use Rattle.octets.proofs.Integers.{two_octets}
-use borrow.Author.Rules.{rules}
 use Rattle.rrtype.proofs.print.field.Goals as goal
 
 pub returns : goal.returns

@@ -1,9 +1,5 @@
-use mathlib.Core.Path.{sym, subst}
 use borrow.Author.Tests.{lt-ltb, le-ltb}
-use native.Mathlib.Omega.{arith}
-use Rattle.catalogue.specs.Entries.{Within}
 use Rattle.catalogue.proofs.Laws.{listed_within, listed_rising, text_at}
-use Rattle.buffer.proofs.Laws.{wrote_text}
 use borrow.Author.Rules.{rules}
 use Rattle.rrtype.proofs.print.number.Goals as goal
 

@@ -1,5 +1,4 @@
 use Rattle.buffer.proofs.Laws.{wrote_append}
-use borrow.Author.Rules.{rules}
 use Rattle.rrtype.proofs.print.plain.Goals as goal
 
 pub returns : goal.returns

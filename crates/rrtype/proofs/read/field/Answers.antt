@@ -1,7 +1,6 @@
 use lib.Seq.{slice}
 use Rattle.catalogue.specs.Entries.{names_of}
 use Rattle.rrtype.proofs.Types.{type_octets}
-use borrow.Author.Rules.{rules}
 use Rattle.rrtype.proofs.read.field.Goals as goal
 
 pub returns : goal.returns

@@ -1,12 +1,8 @@
 use Prim.Native.Nat.{ℕ, ◌+◌, ◌-◌, ◌^◌, ◌≤◌, ◌<◌}
-use mathlib.Core.Path.{◌≡◌, refl, sym, ap, ◌∙◌}
-use lib.ListN.{length, get_or}
+use mathlib.Core.Path.{◌≡◌}
+use lib.ListN.{length}
 use lib.Seq.{slice}
-use Rattle.octets.proofs.Numbers.{value_from, digit_on, digit_more, digits_fit, nothing_yet}
-use Rattle.octets.proofs.Slices.{next}
-use Rattle.rrtype.proofs.Types.{digits_ended}
-use native.Mathlib.Omega.{arith}
-use borrow.Author.Rules.{rules}
+use Rattle.octets.proofs.Numbers.{value_from}
 use Rattle.rrtype.proofs.read.five_digits.Given as goal
 
 -- The digits from i to j make v; for every later end, going on from j gives the number from i to that end.

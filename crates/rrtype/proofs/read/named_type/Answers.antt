@@ -1,8 +1,5 @@
-use Rattle.format.proofs.Lists.{not_true}
-use Rattle.number.proofs.Numbers.{was_true}
 use mathlib.Core.Path.{sym, ◌∙◌}
 use Rattle.rrtype.proofs.Types.{type_word_lem}
-use borrow.Author.Rules.{rules}
 use Rattle.rrtype.proofs.read.named_type.Goals as goal
 
 pub returns-then-not-same_letter-3 : goal.returns-then-not-same_letter-3

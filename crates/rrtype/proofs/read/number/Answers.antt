@@ -3,7 +3,6 @@ use lib.Seq.{slice}
 use Rattle.catalogue.specs.Entries.{names_of}
 use Rattle.catalogue.proofs.Laws.{listed_sound}
 use Rattle.rrtype.proofs.Types.{plain_number, other_number}
-use borrow.Author.Rules.{rules}
 use Rattle.rrtype.proofs.read.number.Goals as goal
 
 pub returns-in-Value : goal.returns-in-Value

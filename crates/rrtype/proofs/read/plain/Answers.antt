@@ -2,7 +2,6 @@ use mathlib.Core.Path.{sym, ap, ◌∙◌}
 use Rattle.octets.specs.Octets.{number_of}
 use Rattle.rrtype.proofs.Types.{type_named, not_named, too_short}
 use native.Mathlib.Omega.{arith}
-use borrow.Author.Rules.{rules}
 use Rattle.rrtype.proofs.read.plain.Goals as goal
 
 pub returns-then-e-i-lt4 : goal.returns-then-e-i-lt4

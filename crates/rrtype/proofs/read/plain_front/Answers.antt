@@ -1,7 +1,6 @@
 use mathlib.Core.Path.{sym, ◌∙◌}
 use Rattle.rrtype.proofs.Types.{type_front}
 use native.Mathlib.Omega.{arith}
-use borrow.Author.Rules.{rules}
 use Rattle.rrtype.proofs.read.plain_front.Goals as goal
 
 pub returns-then-named_type : goal.returns-then-named_type

@@ -2,7 +2,6 @@ use mathlib.Core.Path.{sym, ap}
 use borrow.Author.Tests.{eq-eqb}
 use Rattle.format.specs.Octets.{lowered}
 use Rattle.rrtype.proofs.Types.{other_case}
-use borrow.Author.Rules.{rules}
 use Rattle.rrtype.proofs.read.same_letter.Goals as goal
 
 pub returns-then-b-c : goal.returns-then-b-c

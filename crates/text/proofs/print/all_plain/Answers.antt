@@ -1,10 +1,7 @@
 use Rattle.octets.proofs.Blocks.{all_next, all_none}
 use Rattle.text.specs.Plain.{plain_text}
-use Rattle.format.specs.Lists.{all_of}
-use lib.Seq.{slice}
-use mathlib.Core.Bool.{◌&&◌}
 use mathlib.Core.Path.{◌≡◌, sym, ◌∙◌}
-use Prim.Native.Nat.{◌+◌, ◌-◌, ◌≤◌}
+use Prim.Native.Nat.{◌+◌, ◌-◌}
 use native.Mathlib.Omega.{arith}
 use borrow.Author.Rules.{rules}
 use Rattle.text.proofs.print.all_plain.Goals as goal

@@ -1,12 +1,9 @@
-use Rattle.octets.proofs.Blocks.{all_next, all_none}
 use Rattle.text.specs.Plain.{plain_text}
 use Rattle.format.specs.Lists.{all_of}
 use lib.Seq.{slice}
 use mathlib.Core.Bool.{◌&&◌}
-use mathlib.Core.Path.{◌≡◌, sym, ◌∙◌}
+use mathlib.Core.Path.{◌≡◌}
 use Prim.Native.Nat.{◌+◌, ◌-◌, ◌≤◌}
-use native.Mathlib.Omega.{arith}
-use borrow.Author.Rules.{rules}
 use Rattle.text.proofs.print.all_plain.Given as goal
 
 -- All 32 octets stand for themselves exactly if `all` holds and the octets from i + k on do.

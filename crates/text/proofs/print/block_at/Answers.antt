@@ -1,7 +1,6 @@
 use mathlib.Core.Bool.{true≢false}
 use mathlib.Core.Path.{sym, ◌∙◌}
 use native.Mathlib.Omega.{arith}
-use borrow.Author.Rules.{rules}
 use Rattle.text.proofs.print.block_at.Goals as goal
 
 pub returns-then-e-i-lt32 : goal.returns-then-e-i-lt32

@@ -1,8 +1,7 @@
 use Rattle.text.specs.Plain.{plain_text}
 use Rattle.octets.proofs.Blocks.{all_front}
-use Rattle.text.specs.Plain.{plain_end}
-use mathlib.Core.Path.{◌≡◌, refl, ◌∙◌}
-use Prim.Native.Nat.{◌+◌, ◌-◌, ◌≤◌}
+use mathlib.Core.Path.{refl, ◌∙◌}
+use Prim.Native.Nat.{◌+◌, ◌-◌}
 use native.Mathlib.Omega.{arith}
 use borrow.Author.Rules.{rules}
 use Rattle.text.proofs.print.blocks_end.Goals as goal

@@ -1,10 +1,6 @@
-use Rattle.text.specs.Plain.{plain_text}
-use Rattle.octets.proofs.Blocks.{all_front}
 use Rattle.text.specs.Plain.{plain_end}
-use mathlib.Core.Path.{◌≡◌, refl, ◌∙◌}
-use Prim.Native.Nat.{◌+◌, ◌-◌, ◌≤◌}
-use native.Mathlib.Omega.{arith}
-use borrow.Author.Rules.{rules}
+use mathlib.Core.Path.{◌≡◌}
+use Prim.Native.Nat.{◌-◌, ◌≤◌}
 use Rattle.text.proofs.print.blocks_end.Given as goal
 
 -- The octets from i to j stand for themselves: the run from j on ends where the run from i does.

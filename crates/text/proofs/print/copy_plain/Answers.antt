@@ -5,7 +5,6 @@ use lib.Seq.{length-slice}
 use lib.ListN.{length}
 use mathlib.Core.Path.{ap}
 use native.Mathlib.Omega.{arith}
-use borrow.Author.Rules.{rules}
 use Rattle.text.proofs.print.copy_plain.Goals as goal
 
 pub slice_bounds-put_all-count : goal.slice_bounds-put_all-count

@@ -1,14 +1,12 @@
 use Rattle.text.proofs.Plain.{plain_part, plain_within, escape_then, escape_short}
-use Rattle.buffer.proofs.Laws.{Left, left_all, left_piece, left_none, wrote_append, wrote_text}
+use Rattle.buffer.proofs.Laws.{left_all, left_piece, left_none, wrote_append, wrote_text}
 use Rattle.octets.proofs.Slices.{none}
 use Rattle.format.specs.Text.{string_escape}
 use Rattle.format.specs.Lists.{flat_map}
-use lib.Seq.{slice}
 use lib.ListN.{get_or}
 use mathlib.Core.Path.{sym, ap}
-use Prim.Native.Nat.{◌+◌, ◌-◌, ◌*◌, ◌≤◌}
+use Prim.Native.Nat.{◌+◌, ◌-◌}
 use native.Mathlib.Omega.{arith}
-use borrow.Author.Rules.{rules}
 use Rattle.text.proofs.print.escaped.Goals as goal
 
 pub overflow_add-m : goal.overflow_add-m

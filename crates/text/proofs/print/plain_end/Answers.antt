@@ -1,7 +1,7 @@
-use Rattle.text.specs.Plain.{plain_text, plain_end}
+use Rattle.text.specs.Plain.{plain_text}
 use Rattle.octets.proofs.Slices.{front_on, front_off, front_end_lem}
-use mathlib.Core.Path.{◌≡◌, sym, ◌∙◌}
-use Prim.Native.Nat.{◌-◌, ◌≤◌}
+use mathlib.Core.Path.{sym, ◌∙◌}
+use Prim.Native.Nat.{◌-◌}
 use borrow.Author.Rules.{rules}
 use Rattle.text.proofs.print.plain_end.Goals as goal
 

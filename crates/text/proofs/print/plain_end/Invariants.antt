@@ -1,8 +1,6 @@
-use Rattle.text.specs.Plain.{plain_text, plain_end}
-use Rattle.octets.proofs.Slices.{front_on, front_off, front_end_lem}
-use mathlib.Core.Path.{◌≡◌, sym, ◌∙◌}
+use Rattle.text.specs.Plain.{plain_end}
+use mathlib.Core.Path.{◌≡◌}
 use Prim.Native.Nat.{◌-◌, ◌≤◌}
-use borrow.Author.Rules.{rules}
 use Rattle.text.proofs.print.plain_end.Given as goal
 
 -- The octets from i to j stand for themselves: the run from j on ends where the run from i does.

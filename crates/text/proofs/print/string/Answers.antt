@@ -1,5 +1,4 @@
 use native.Mathlib.Omega.{arith}
-use borrow.Author.Rules.{rules}
 use Rattle.buffer.proofs.Laws.{wrote_append}
 use Rattle.text.proofs.Strings.{escapes_length}
 use Rattle.text.proofs.print.string.Goals as goal

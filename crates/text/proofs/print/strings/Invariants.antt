@@ -1,13 +1,8 @@
 use Prim.Native.Nat.{◌+◌, ◌-◌, ◌*◌, ◌≤◌}
-use mathlib.Core.Path.{sym}
-use lib.ListN.{get_or}
 use lib.Seq.{slice}
 use Rattle.format.specs.Text.{pieces}
-use Rattle.buffer.proofs.Laws.{Left, left_all, left_piece, left_none, wrote_append, wrote_text}
-use Rattle.text.proofs.Strings.{Whole, others, string_length, some_string, whole_at, strings_first, strings_text, others_next}
-use Rattle.text.proofs.Strings.{others_none}
-use native.Mathlib.Omega.{arith}
-use borrow.Author.Rules.{rules}
+use Rattle.buffer.proofs.Laws.{Left}
+use Rattle.text.proofs.Strings.{Whole, others}
 use Rattle.text.proofs.print.strings.Given as goal
 
 -- The strings before j are written; writing the others from m on, a space before each, would give all after the first.

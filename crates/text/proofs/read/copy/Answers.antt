@@ -1,6 +1,5 @@
 use Rattle.buffer.proofs.Laws.{wrote_text}
 use Rattle.octets.proofs.Slices.{lent}
-use borrow.Author.Rules.{rules}
 use Rattle.text.proofs.read.copy.Goals as goal
 
 pub returns : goal.returns

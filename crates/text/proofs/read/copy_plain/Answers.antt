@@ -2,7 +2,6 @@ use lib.Seq.{length-slice}
 use Rattle.escape.specs.Escapes.{no_escape}
 use Rattle.octets.proofs.Slices.{front_within}
 use native.Mathlib.Omega.{arith}
-use borrow.Author.Rules.{rules}
 use Rattle.text.proofs.read.copy_plain.Goals as goal
 
 pub copy-requires : goal.copy-requires

@@ -1,14 +1,10 @@
 use Prim.Native.Nat.{◌+◌, ◌-◌, ◌≤◌}
 use mathlib.Core.Path.{◌≡◌}
 use lib.Seq.{slice}
-use Rattle.text.proofs.Texts.{run_within, run_value, run_stops, quoted_none, escape_fault, escape_octet, ends_within}
-use Rattle.buffer.proofs.Values.{Begun, begun_none, begun_piece, begun_fault, begun_all}
+use Rattle.buffer.proofs.Values.{Begun}
 use Rattle.text.specs.Text.{plain_end}
-use Rattle.buffer.proofs.Laws.{wrote_one, wrote_length}
 use Rattle.format.specs.Text.{string_value}
 use Rattle.format.specs.Token.{quoted}
-use native.Mathlib.Omega.{arith}
-use borrow.Author.Rules.{rules}
 use Rattle.text.proofs.read.escaped.Given as goal
 
 -- The value of the octets before j is stored up to m; it, and the value from j on, are the whole value.

@@ -1,7 +1,6 @@
-use Prim.Native.Nat.{◌+◌, ◌-◌, ◌≤◌}
-use mathlib.Core.Path.{◌≡◌, refl, ◌∙◌}
+use Prim.Native.Nat.{◌+◌, ◌-◌}
+use mathlib.Core.Path.{refl, ◌∙◌}
 use Rattle.escape.specs.Escapes.{no_escape}
-use Rattle.text.specs.Text.{plain_end}
 use Rattle.octets.proofs.Blocks.{all_front}
 use native.Mathlib.Omega.{arith}
 use borrow.Author.Rules.{rules}

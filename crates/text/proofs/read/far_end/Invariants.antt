@@ -1,10 +1,6 @@
-use Prim.Native.Nat.{◌+◌, ◌-◌, ◌≤◌}
-use mathlib.Core.Path.{◌≡◌, refl, ◌∙◌}
-use Rattle.escape.specs.Escapes.{no_escape}
+use Prim.Native.Nat.{◌-◌, ◌≤◌}
+use mathlib.Core.Path.{◌≡◌}
 use Rattle.text.specs.Text.{plain_end}
-use Rattle.octets.proofs.Blocks.{all_front}
-use native.Mathlib.Omega.{arith}
-use borrow.Author.Rules.{rules}
 use Rattle.text.proofs.read.far_end.Given as goal
 
 -- No octet from i to j begins an escape: the run from j on ends where the run from i does.

@@ -1,8 +1,5 @@
-use Prim.Native.Nat.{◌+◌, ◌-◌, ◌≤◌}
-use mathlib.Core.Bool.{◌&&◌}
+use Prim.Native.Nat.{◌+◌, ◌-◌}
 use mathlib.Core.Path.{◌≡◌, sym, ◌∙◌}
-use lib.Seq.{slice}
-use Rattle.format.specs.Lists.{all_of}
 use Rattle.escape.specs.Escapes.{no_escape}
 use Rattle.octets.proofs.Blocks.{all_next, all_none}
 use native.Mathlib.Omega.{arith}

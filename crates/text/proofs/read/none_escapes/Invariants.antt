@@ -1,12 +1,9 @@
 use Prim.Native.Nat.{◌+◌, ◌-◌, ◌≤◌}
 use mathlib.Core.Bool.{◌&&◌}
-use mathlib.Core.Path.{◌≡◌, sym, ◌∙◌}
+use mathlib.Core.Path.{◌≡◌}
 use lib.Seq.{slice}
 use Rattle.format.specs.Lists.{all_of}
 use Rattle.escape.specs.Escapes.{no_escape}
-use Rattle.octets.proofs.Blocks.{all_next, all_none}
-use native.Mathlib.Omega.{arith}
-use borrow.Author.Rules.{rules}
 use Rattle.text.proofs.read.none_escapes.Given as goal
 
 -- None of the 32 octets begins an escape exactly if `all` holds and none from i + k on begins one.

@@ -2,7 +2,6 @@ use lib.Seq.{slice}
 use Rattle.text.proofs.Texts.{empty_fault, raw_value}
 use Rattle.text.specs.Text.{token_of}
 use Rattle.format.specs.Text.{string_value}
-use borrow.Author.Rules.{rules}
 use Rattle.text.proofs.read.raw.Goals as goal
 
 pub returns-then-m-at : goal.returns-then-m-at

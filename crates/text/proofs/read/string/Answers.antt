@@ -3,7 +3,6 @@ use Rattle.buffer.proofs.Values.{count_is, too_long, counted_value}
 use Rattle.text.specs.Text.{token_of}
 use Rattle.format.specs.Text.{string_value}
 use native.Mathlib.Omega.{arith}
-use borrow.Author.Rules.{rules}
 use Rattle.text.proofs.read.string.Goals as goal
 
 pub overflow_sub-count : goal.overflow_sub-count

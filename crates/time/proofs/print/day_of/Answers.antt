@@ -1,6 +1,6 @@
-use Prim.Native.Nat.{◌+◌, ◌*◌, ◌≤◌, ◌<◌}
+use Prim.Native.Nat.{◌+◌, ◌*◌}
 use mathlib.Core.Path.{◌≡◌, ap, sym}
-use Rattle.format.specs.Time.{Day, month_days, days_before}
+use Rattle.format.specs.Time.{Day}
 use Rattle.time.proofs.Days.{month_below, month_here, month_next, month_more, day_is}
 use native.Mathlib.Omega.{arith}
 use borrow.Author.Rules.{rules}

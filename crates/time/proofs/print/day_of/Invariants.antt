@@ -1,9 +1,6 @@
-use Prim.Native.Nat.{◌+◌, ◌*◌, ◌≤◌, ◌<◌}
-use mathlib.Core.Path.{◌≡◌, ap, sym}
-use Rattle.format.specs.Time.{Day, month_days, days_before}
-use Rattle.time.proofs.Days.{month_below, month_here, month_next, month_more, day_is}
-use native.Mathlib.Omega.{arith}
-use borrow.Author.Rules.{rules}
+use Prim.Native.Nat.{◌+◌, ◌≤◌, ◌<◌}
+use mathlib.Core.Path.{◌≡◌}
+use Rattle.format.specs.Time.{month_days, days_before}
 use Rattle.time.proofs.print.day_of.Given as goal
 
 -- m whole months of the year are taken off, and `left` days remain: day d is that many days after the first of month m.

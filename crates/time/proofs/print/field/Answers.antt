@@ -3,7 +3,6 @@ use mathlib.Core.Path.{ap, ◌∙◌}
 use Rattle.format.specs.Time.{day_of, time_text}
 use Rattle.buffer.proofs.Laws.{wrote_text}
 use Rattle.time.proofs.Days.{moment_of_lem}
-use borrow.Author.Rules.{rules}
 use Rattle.time.proofs.print.field.Goals as goal
 
 pub moment-requires : goal.moment-requires

@@ -1,5 +1,4 @@
 use Rattle.buffer.proofs.Laws.{wrote_append}
-use borrow.Author.Rules.{rules}
 use Rattle.time.proofs.print.moment.Goals as goal
 
 pub returns : goal.returns

@@ -1,7 +1,6 @@
-use Prim.Native.Nat.{◌+◌, ◌*◌, ◌-◌, ◌≤◌, ◌<◌}
+use Prim.Native.Nat.{◌+◌, ◌*◌, ◌-◌}
 use mathlib.Core.Path.{◌≡◌}
 use Rattle.format.specs.Time.{days_before}
-use Rattle.time.specs.Years.{year_days}
 use Rattle.time.proofs.Days.{cycle_days, year_next, year_after, month_below}
 use native.Mathlib.Omega.{arith}
 use borrow.Author.Rules.{rules}

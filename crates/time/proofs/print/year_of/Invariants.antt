@@ -2,9 +2,6 @@ use Prim.Native.Nat.{◌+◌, ◌*◌, ◌-◌, ◌≤◌, ◌<◌}
 use mathlib.Core.Path.{◌≡◌}
 use Rattle.format.specs.Time.{days_before}
 use Rattle.time.specs.Years.{year_days}
-use Rattle.time.proofs.Days.{cycle_days, year_next, year_after, month_below}
-use native.Mathlib.Omega.{arith}
-use borrow.Author.Rules.{rules}
 use Rattle.time.proofs.print.year_of.Given as goal
 
 -- y whole years are taken off, and `left` days remain: day d is that many days after the first of January of year y.

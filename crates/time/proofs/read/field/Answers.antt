@@ -1,6 +1,5 @@
 use lib.Seq.{slice}
 use Rattle.time.proofs.Moments.{time_octets}
-use borrow.Author.Rules.{rules}
 use Rattle.time.proofs.read.field.Goals as goal
 
 pub returns : goal.returns

@@ -1,7 +1,6 @@
 use Rattle.time.proofs.Moments.{moment_fault, time_fault, moment_value}
 use Rattle.octets.specs.Octets.{number_of}
 use mathlib.Core.Path.{sym, ap, ◌∙◌}
-use borrow.Author.Rules.{rules}
 use Rattle.time.proofs.read.moment_at.Goals as goal
 
 pub returns-in-Fault : goal.returns-in-Fault

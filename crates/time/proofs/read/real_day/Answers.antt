@@ -3,7 +3,6 @@ use mathlib.Core.Path.{◌≡◌, sym, ap, ◌∙◌}
 use Prim.Native.Nat.{◌*◌, ◌-◌, ◌+◌}
 use Rattle.time.proofs.Moments.{real_month}
 use borrow.Author.Tests.{le-leb, lt-leb}
-use borrow.Author.Rules.{rules}
 use Rattle.time.proofs.read.real_day.Goals as goal
 
 pub returns-then-year-lt1970 : goal.returns-then-year-lt1970

@@ -6,7 +6,6 @@ use mathlib.Core.Path.{ap, ◌∙◌}
 use lib.Seq.{slice}
 use Prim.Native.Nat.{◌^◌}
 use native.Mathlib.Omega.{arith}
-use borrow.Author.Rules.{rules}
 use Rattle.time.proofs.read.seconds.Goals as goal
 
 pub returns-then-e-i-eq14 : goal.returns-then-e-i-eq14
