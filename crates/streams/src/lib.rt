@@ -5,16 +5,16 @@
 // buffer: a read here is one read of the system, a write one write, and none that a signal cut short is tried again.
 //
 // Proved: what an answer of a read means (`told`); that what a function here answers is what answers that a read may give make of
-// it, each judged by `told` (`Once`, `Reading`); and of a reader and a writer whose octets are known, that what is read are its
-// first octets (`Took`, `Drained`) and what is written are the octets handed over (`Written`, `Begun`). Of standard input and
-// output nothing says which octets a call of the system moves: that is tested, by tests/faults, which makes each read and each
-// write fail.
+// it, each judged by `told` (`Once`, `Reading`); and of readers and writers whose octets are known, that what is read are the
+// first octets that were left (`Took`, `Drained`), and what is written are the octets handed over and the words for what was lost
+// (`Written`, `Begun`, `Told`). Of standard input, output and error nothing says which octets a call of the system moves: that is
+// tested, by tests/faults, which makes each read and each write fail.
 #![tactic(auto)]
 
 ghost use Rattle.std.specs.Prelude.{◌<◌, ◌≤◌, ◌≡◌, length, take, drop};
 ghost use Rattle.std.specs.Io.KnownBytes.{Appends};
 ghost use Rattle.streams.specs.Reading.{told, Moved, Left, Once, Took, Reading, Drained};
-ghost use Rattle.streams.specs.Writing.{Written, Begun};
+ghost use Rattle.streams.specs.Writing.{Written, Begun, Told, unread_words, lost_words, ToldIfLost};
 
 use buffer::least;
 use std::io;
@@ -137,24 +137,31 @@ pub fn say<E: Write>(err: &mut E, words: &[u8])
 }
 
 // Writes one line to standard error: the program's name and the words.
-fn tell<E: Write>(err: &mut E, program: &[u8], words: &[u8]) {
+fn tell<E: Write>(err: &mut E, program: &[u8], words: &[u8])
+    ensures { Told (E.contents err.old) (E.contents err.new) program.now words.now }
+{
     say(err, program);
     say(err, words);
 }
 
 // Tells that the input could not be read.
-pub fn unread<E: Write>(err: &mut E, program: &[u8]) {
+pub fn unread<E: Write>(err: &mut E, program: &[u8])
+    ensures { Told (E.contents err.old) (E.contents err.new) program.now unread_words }
+{
     tell(err, program, b": the input could not be read\n");
 }
 
 // Tells that answers are lost.
-pub fn lost<E: Write>(err: &mut E, program: &[u8]) {
+pub fn lost<E: Write>(err: &mut E, program: &[u8])
+    ensures { Told (E.contents err.old) (E.contents err.new) program.now lost_words }
+{
     tell(err, program, b": the answers could not be written\n");
 }
 
 // Writes all octets to standard output, or tells that answers are lost, and returns whether that went well.
 pub fn write_all<O: Write, E: Write>(out: &mut O, err: &mut E, program: &[u8], xs: &[u8]) -> bool
-    ensures { Written (O.contents out.old) (O.contents out.new) result xs.now }
+    ensures written { Written (O.contents out.old) (O.contents out.new) result xs.now }
+    ensures told { ToldIfLost (E.contents err.old) (E.contents err.new) result program.now }
 {
     if put_all(out, xs) {
         return true;
