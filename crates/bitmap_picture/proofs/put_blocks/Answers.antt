@@ -1,6 +1,7 @@
 use Rattle.bitmap_picture.proofs.Windows.{block_length, next_block, no_more}
 use Rattle.buffer.proofs.Laws.{left_all, left_piece, left_none, wrote_length}
 use lib.ListN.{length, get_or}
+use mathlib.Core.List.{[]}
 use mathlib.Core.Path.{refl, ◌∙◌}
 use Prim.Native.Nat.{◌-◌, ◌≤◌}
 use native.Mathlib.Omega.{arith}

@@ -1,3 +1,4 @@
+use mathlib.Core.List.{[]}
 use mathlib.Core.Path.{sym, ap, ◌∙◌}
 use Rattle.format.specs.Run.{got}
 use Rattle.buffer.proofs.Laws.{wrote_none}

@@ -1,6 +1,6 @@
 use Rattle.catalogue.specs.Entries.{names_of}
 use mathlib.Core.Path.{◌≡◌, sym, subst, ◌∙◌}
-use mathlib.Core.List.{◌++◌}
+use mathlib.Core.List.{[], ◌++◌}
 use Prim.Native.Nat.{◌+◌, ◌-◌}
 use Rattle.format.specs.Token.{tokens}
 use Rattle.format.specs.Run.{read_field, read_run, refused}

@@ -1,3 +1,4 @@
+use mathlib.Core.List.{[]}
 use Rattle.stanza_form.specs.Forms.{kind_of}
 use Rattle.stanza_types.proofs.Meanings.{no_type_malformed, no_type, nothing_taken}
 use mathlib.Core.Path.{sym, ◌∙◌}

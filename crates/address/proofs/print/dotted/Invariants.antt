@@ -1,5 +1,5 @@
 use Prim.Native.Nat.{◌+◌, ◌-◌, ◌*◌, ◌≤◌, ◌<◌}
-use mathlib.Core.List.{◌∷◌}
+use mathlib.Core.List.{[], ◌∷◌}
 use lib.Seq.{slice}
 use Rattle.format.specs.Number.{decimal}
 use Rattle.buffer.proofs.Laws.{Left}

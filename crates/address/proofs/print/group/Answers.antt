@@ -2,7 +2,7 @@ use Rattle.address.proofs.GroupTexts.{one_digit_lem, two_digits, three_digits, f
 use Rattle.buffer.proofs.Laws.{wrote_text, wrote_append}
 use Prim.Native.Nat.{ℕ}
 use mathlib.Core.Path.{ap, ◌∙◌}
-use mathlib.Core.List.{List, ◌∷◌}
+use mathlib.Core.List.{List, [], ◌∷◌}
 use Rattle.address.proofs.print.group.Goals as goal
 
 -- a text of one octet

@@ -1,6 +1,6 @@
 use Prim.Native.Nat.{ℕ, ◌-◌}
 use mathlib.Core.Path.{ap, sym}
-use mathlib.Core.List.{List, ◌∷◌}
+use mathlib.Core.List.{List, [], ◌∷◌}
 use Rattle.format.specs.Address.{colons, group_text}
 use Rattle.format.specs.Address as address
 use Rattle.octets.proofs.Slices.{none}

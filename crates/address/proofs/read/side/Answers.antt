@@ -1,3 +1,4 @@
+use mathlib.Core.List.{[]}
 use Rattle.buffer.proofs.Laws.{wrote_none}
 use Rattle.address.proofs.Groups.{side_some, side_none}
 use Rattle.address.proofs.read.side.Goals as goal

@@ -1,7 +1,7 @@
 use Rattle.base_group.proofs.Letters.{octets_part, counted_hex}
 use Rattle.buffer.specs.Writing.{Values}
 use mathlib.Core.Path.{refl, subst}
-use mathlib.Core.List.{◌∷◌}
+use mathlib.Core.List.{[], ◌∷◌}
 use lib.Seq.{slice}
 use native.Mathlib.Omega.{arith}
 use Rattle.base.proofs.read.counted_hex.Goals as goal

@@ -2,7 +2,7 @@ use Rattle.bitmap.proofs.Plain.{after_one, after_all}
 use Rattle.bitmap.specs.Reading.{types_read}
 use Rattle.catalogue.specs.Entries.{names_of}
 use lib.ListN.{drop}
-use mathlib.Core.List.{◌∷◌, ◌++◌}
+use mathlib.Core.List.{[], ◌∷◌, ◌++◌}
 use mathlib.Core.Path.{sym, ap, ◌∙◌}
 use Prim.Native.Nat.{◌-◌}
 use native.Mathlib.Omega.{arith}

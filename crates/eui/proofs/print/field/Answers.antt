@@ -1,6 +1,6 @@
 use Prim.Native.Nat.{◌-◌}
 use mathlib.Core.Path.{ap, sym}
-use mathlib.Core.List.{◌∷◌}
+use mathlib.Core.List.{[], ◌∷◌}
 use Rattle.format.specs.Eui.{eui_text}
 use Rattle.octets.proofs.Slices.{next, none}
 use Rattle.buffer.proofs.Laws.{left_all, left_none, wrote_none, wrote_text}

@@ -1,0 +1,23 @@
+use Rattle.format.specs.Stored.{as_file}
+use Rattle.buffer.proofs.Laws.{wrote_text}
+use Rattle.probe_reply.specs.Entries.{entries_in}
+use Rattle.probe_reply.proofs.Numbers.{lent_entries}
+use Rattle.probe_reply.proofs.Results.{print_within, print_answered, all_printed}
+use native.Mathlib.Omega.{arith}
+use Rattle.probe_reply.proofs.print.Goals as goal
+
+pub slice_bounds-print_with-end : goal.slice_bounds-print_with-end
+slice_bounds-print_with-end c = omega (arith, c.numbers-n.ensures.0)
+
+pub put_reply-requires : goal.put_reply-requires
+put_reply-requires c = (
+  λ z. print_within (as_file _) c.args.first c.args.many (entries_in c.args.catalogue.now) _ _ _ c.print_with-reply.result _
+      (all_printed _ c.args.first c.args.many (entries_in c.args.catalogue.now) _ _ (lent_entries _ c.numbers-n.result _ c.numbers-n.ensures.1) _ _ c.print_with-reply.result _ c.print_with-reply.ensures) z,
+  omega (arith, c.requires),
+)
+
+pub returns : goal.returns
+returns c =
+    wrote_text _ _ (print_answered (as_file _) c.args.first c.args.many (entries_in c.args.catalogue.now) _ _ _ c.print_with-reply.result _
+    (all_printed _ c.args.first c.args.many (entries_in c.args.catalogue.now) _ _ (lent_entries _ c.numbers-n.result _ c.numbers-n.ensures.1) _ _ c.print_with-reply.result _ c.print_with-reply.ensures))
+    c.put_reply.ensures
