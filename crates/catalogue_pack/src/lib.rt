@@ -44,7 +44,7 @@ pub fn pack(numbers: &[u32], starts: &[u16], lengths: &[u16], raw: &mut [u64; 51
     i
 }
 
-// The same from structs. A slice of structs is walked by hand: this, `place_of` and the two exports are the only such walks.
+// The same from structs.
 pub fn packed(es: &[Entry], raw: &mut [u64; 513]) -> usize
     ensures { Packed (entries_of es.now) raw.old raw.new result }
 {

@@ -51,7 +51,7 @@ abbrev pub with_more : Progress → Field → Verdict
 with_more before_header f = faulty 0
 with_more (after_header d) f = goes_on (after_header (record { header = d.header; fields = d.fields ++ f ∷ [] }))
 
--- a description of n fields; `tailSeen` says whether one is a tail, and their names stand from `names` to `ends`
+-- a description of n fields; `tail_seen` says whether one is a tail, and their names stand from `names` to `ends`
 pub record Stands (s : List ℕ) (d : Description) (tail_seen : Bool) (names ends : List ℕ) (n : ℕ) : Type 0 where
   pub many : length d.fields ≡ n
   pub tails : after_tail d.fields ≡ tail_seen
