@@ -13,6 +13,9 @@ use stanza_judge::Outline;
 // The most octets that RDATA may have.
 const RDATA: usize = 65535;
 
+// The longest line: `ok `, two digits for each of 65,535 octets, and the LF.
+const LONGEST_LINE: usize = 131074;
+
 // A job: whether it keeps the form, its places, its origin, its judged stanza, and the codes of its fields.
 #[derive(Clone, Copy)]
 pub struct Job {
@@ -83,8 +86,7 @@ fn put_lines(out: &mut [u8], j: &[u8], job: Job, at: usize, rdata: &mut [u8; RDA
     let mut m = at;
     let mut n = 0;
     while m < j.len() {
-        // the longest line: `ok `, two digits for each of 65,535 octets, and the LF
-        if out.len() - n < 131074 {
+        if out.len() - n < LONGEST_LINE {
             return Turn {
                 taken: n,
                 more: true,

@@ -13,13 +13,13 @@ loop-m-init c = reached_none _ _ _ _
 pub overflow_sub-out : goal.overflow_sub-out
 overflow_sub-out c = omega (arith, c.loop-m.invariant.fits, wrote_length c.loop-m.invariant.wrote)
 
-pub shape_of-out-then-out-n-lt131074 : goal.shape_of-out-then-out-n-lt131074
-shape_of-out-then-out-n-lt131074 c =
+pub shape_of-out-then-out-n-lt-LONGEST_LINE : goal.shape_of-out-then-out-n-lt-LONGEST_LINE
+shape_of-out-then-out-n-lt-LONGEST_LINE c =
     wrote_length c.loop-m.invariant.wrote
 
-pub returns-then-out-n-lt131074 : goal.returns-then-out-n-lt131074
-returns-then-out-n-lt131074 c =
-    turn_full _ c.args.job c.requires.1 c.loop-m.invariant c.loop-m-test.true c.requires.2 (omega (arith, c.if-out-n-lt131074.true))
+pub returns-then-out-n-lt-LONGEST_LINE : goal.returns-then-out-n-lt-LONGEST_LINE
+returns-then-out-n-lt-LONGEST_LINE c =
+    turn_full _ c.args.job c.requires.1 c.loop-m.invariant c.loop-m-test.true c.requires.2 (omega (arith, c.if-out-n-lt-LONGEST_LINE.true))
 
 pub line_end-e-requires : goal.line_end-e-requires
 line_end-e-requires c = c.loop-m-test.true
@@ -71,7 +71,7 @@ loop-m-smaller c =
 
 pub loop-m-preserved : goal.loop-m-preserved
 loop-m-preserved c =
-    reached_next _ _ c.loop-m.invariant c.line_end-e.ensures c.if-out-n-lt131074.false _ _
+    reached_next _ _ c.loop-m.invariant c.line_end-e.ensures c.if-out-n-lt-LONGEST_LINE.false _ _
     (wrote_text _ _
     (line_lent _ c.args.job.origin _ _ c.args.job.places.origin _ _
     (formed _ c.args.job c.requires.1 c.requires.0).stanza_after c.line_end-e.ensures.after)
