@@ -3,7 +3,7 @@ use Prim.Native.Nat.{ℕ, zero, suc, ◌+◌, ◌*◌, ◌-◌, ◌≤◌, ◌<�
 use mathlib.Core.Path.{◌≡◌, refl, sym, ap, ◌∙◌, subst}
 use mathlib.Core.Bool.{Bool, true, false, not, cond}
 use mathlib.Core.List.{List, [], ◌∷◌, ◌++◌, map, append_assoc, append-nil}
-use mathlib.Core.Option.{Option, some}
+use Rattle.std.specs.Prelude.{Option, Some}
 use native.Mathlib.Omega.{arith}
 use lib.ListN.{length, drop, length-append, length-map, replicate, length-replicate, length-drop}
 use lib.Dec.{leb, ltb, eqb}
@@ -53,14 +53,14 @@ low_free : (ds : List ℕ) → Below 16 ds → Free 58 (map lower_digit ds)
 low_free [] h = tt
 low_free (d ∷ ds) h = (not_true (eqb (lower_digit d) 58) (at_each (λ d. not (eqb (lower_digit d) 58)) 16 refl d h.0), low_free ds h.1)
 
-group_reads : (g : ℕ) → g < 65536 → group_of (group_text g) ≡ some g
+group_reads : (g : ℕ) → g < 65536 → group_of (group_text g) ≡ Some g
 group_reads g h =
     rw (
       le-leb 1 (length (group_text g)) (group_size g).0,
       le-leb (length (group_text g)) 4 (group_size g).1,
       chars_back lower_digit (digit_value 16) 16 refl (without_zeros (digits 16 4 g)) (group_below g),
     )
-    (ap some (zeros_number 16 (digits 16 4 g) ∙ number_digits 16 4 g (omega arith) h))
+    (ap Some (zeros_number 16 (digits 16 4 g) ∙ number_digits 16 4 g (omega arith) h))
 
 grouped : Separated 65536 58 group_text group_of
 grouped = record {
@@ -93,14 +93,14 @@ aa_field : (p gs r : List ℕ) → length gs ≡ 4 → Below 65536 gs → group_
 aa_field p [] r l b f q = absurd (omega arith)
 aa_field p (g ∷ gs) r l b f q =
     bare_back read_aa (colons (g ∷ gs)) p r (separated_long 65536 58 group_text group_of grouped g gs b) (separated_plain 65536 58 group_text group_of grouped g gs b)
-    (rw (separated_read 65536 58 group_text group_of grouped g gs b, exact 4 (g ∷ gs) l) (ap some f)) q
+    (rw (separated_read 65536 58 group_text group_of grouped g gs b, exact 4 (g ∷ gs) l) (ap Some f)) q
 
 pub groups_length : (gs : List ℕ) → length (group_octets gs) ≡ 2 * length gs
 groups_length [] = refl
 groups_length (g ∷ gs) = omega (arith, groups_length gs)
 
-groups_octets : (n : ℕ) (o : Option (List ℕ)) (p : List ℕ) → ((gs : List ℕ) → o ≡ some gs → length gs ≡ n) → (o >>= λ gs. some (group_octets gs)) ≡ some p → length p ≡ 2 * n
-groups_octets n o p h e = let (gs, a, b) = bind_some o (λ gs. some (group_octets gs)) p e in let q : group_octets gs ≡ p = cc in rw (← q) (groups_length gs ∙ ap (λ k. 2 * k) (h gs a))
+groups_octets : (n : ℕ) (o : Option (List ℕ)) (p : List ℕ) → ((gs : List ℕ) → o ≡ Some gs → length gs ≡ n) → (o >>= λ gs. Some (group_octets gs)) ≡ Some p → length p ≡ 2 * n
+groups_octets n o p h e = let (gs, a, b) = bind_some o (λ gs. Some (group_octets gs)) p e in let q : group_octets gs ≡ p = cc in rw (← q) (groups_length gs ∙ ap (λ k. 2 * k) (h gs a))
 
 colons_bound : (gs : List ℕ) → length (colons gs) ≤ 5 * length gs
 colons_bound gs = pieces_bound 4 58 group_text gs (λ g. (group_size g).1)
@@ -172,7 +172,7 @@ side_split : (g : ℕ) (gs : List ℕ) → split_on 58 (colons (g ∷ gs)) ≡ m
 side_split g [] = split_last 58 (group_text g) (free_of g)
 side_split g (h ∷ gs) = rw (append_assoc (group_text g) (58 ∷ []) (colons (h ∷ gs)), split_more 58 (group_text g) (colons (h ∷ gs)) (free_of g), side_split h gs)
 
-side_groups : (d : Bool) (g : ℕ) (gs : List ℕ) → Below 65536 (g ∷ gs) → groups_of d (map group_text (g ∷ gs)) ≡ some (g ∷ gs)
+side_groups : (d : Bool) (g : ℕ) (gs : List ℕ) → Below 65536 (g ∷ gs) → groups_of d (map group_text (g ∷ gs)) ≡ Some (g ∷ gs)
 unfolding groups_of
 side_groups d g [] b = rw (group_reads g b.0)
 side_groups d g (h ∷ gs) b = rw (group_reads g b.0, side_groups d h gs b.1)
@@ -181,7 +181,7 @@ side_some : (d : Bool) (t : List ℕ) → 1 ≤ length t → side_of d t ≡ gro
 side_some d [] h = absurd (omega arith)
 side_some d (x ∷ t) h = refl
 
-side_reads : (d : Bool) (gs : List ℕ) → Below 65536 gs → side_of d (colons gs) ≡ some gs
+side_reads : (d : Bool) (gs : List ℕ) → Below 65536 gs → side_of d (colons gs) ≡ Some gs
 side_reads d [] b = refl
 side_reads d (g ∷ gs) b = side_some d (colons (g ∷ gs)) (separated_long 65536 58 group_text group_of grouped g gs b) ∙ ap (groups_of d) (side_split g gs) ∙ side_groups d g gs b
 
@@ -208,26 +208,26 @@ double_at [] u = refl
 double_at (g ∷ gs) u = then_double g gs u
 
 sides_read : (b a : List ℕ) (t : List ℕ) → Below 65536 b → Below 65536 a → length b + length a ≤ 7
-    → eight_groups t (double (colons b) (colons a)) ≡ some (b ++ replicate (8 - (length b + length a)) 0 ++ a)
+    → eight_groups t (double (colons b) (colons a)) ≡ Some (b ++ replicate (8 - (length b + length a)) 0 ++ a)
 sides_read b a t h k l = rw (side_reads false b h, side_reads true a k, le-leb (length b + length a) 7 l)
 
-whole_read : (gs : List ℕ) → length gs ≡ 8 → Below 65536 gs → eight_groups (colons gs) (at_double_colon (colons gs)) ≡ some gs
+whole_read : (gs : List ℕ) → length gs ≡ 8 → Below 65536 gs → eight_groups (colons gs) (at_double_colon (colons gs)) ≡ Some gs
 whole_read [] l b = absurd (omega arith)
 whole_read (g ∷ gs) l b = rw (no_double g gs, side_split g gs, side_groups true g gs b) (exact 8 (g ∷ gs) l)
 
-run_read : (gs b a t : List ℕ) (m : ℕ) → length gs ≡ 8 → Below 65536 gs → 2 ≤ m → gs ≡ b ++ (replicate m 0 ++ a) → eight_groups t (at_double_colon (colons b ++ 58 ∷ 58 ∷ colons a)) ≡ some gs
+run_read : (gs b a t : List ℕ) (m : ℕ) → length gs ≡ 8 → Below 65536 gs → 2 ≤ m → gs ≡ b ++ (replicate m 0 ++ a) → eight_groups t (at_double_colon (colons b ++ 58 ∷ 58 ∷ colons a)) ≡ Some gs
 run_read gs b a t m l h n s =
     let j : length b + (m + length a) ≡ 8 = ap (λ k. length b + (k + length a)) (sym (length-replicate m 0)) ∙ ap (λ k. length b + k) (sym (length-append (replicate m 0) a)) ∙ sym (length-append b (replicate m 0 ++ a)) ∙ ap length (sym s) ∙ l in
     let k : Below 65536 (b ++ (replicate m 0 ++ a)) = rw s at h in
     let c = below_parts 65536 b (replicate m 0 ++ a) k in
     let d = below_parts 65536 (replicate m 0) a c.1 in
     let z : 8 - (length b + length a) ≡ m = omega arith in
-    rw (double_at b (colons a), sides_read b a t c.0 d.1 (omega arith)) (ap some (ap (λ k. b ++ replicate k 0 ++ a) z ∙ append_assoc b (replicate m 0) a ∙ sym s))
+    rw (double_at b (colons a), sides_read b a t c.0 d.1 (omega arith)) (ap Some (ap (λ k. b ++ replicate k 0 ++ a) z ∙ append_assoc b (replicate m 0) a ∙ sym s))
 
-text_read : (gs : List ℕ) → length gs ≡ 8 → Below 65536 gs → eight_groups (aaaa_text gs) (at_double_colon (aaaa_text gs)) ≡ some gs
+text_read : (gs : List ℕ) → length gs ≡ 8 → Below 65536 gs → eight_groups (aaaa_text gs) (at_double_colon (aaaa_text gs)) ≡ Some gs
 text_read gs l b = by (ltb (longest_zeros gs) 2) refl
   where
-    by : (c : Bool) → ltb (longest_zeros gs) 2 ≡ c → eight_groups (aaaa_text gs) (at_double_colon (aaaa_text gs)) ≡ some gs
+    by : (c : Bool) → ltb (longest_zeros gs) 2 ≡ c → eight_groups (aaaa_text gs) (at_double_colon (aaaa_text gs)) ≡ Some gs
     by true e = rw e (whole_read gs l b)
     by false e =
         let n : 2 ≤ longest_zeros gs = ltb-false (longest_zeros gs) 2 e in
@@ -255,7 +255,7 @@ text_fine gs h = by (ltb (longest_zeros gs) 2) refl
         )
 
 -- as long as eight groups
-eight : (t : List ℕ) (d : Doubled) (gs : List ℕ) → eight_groups t d ≡ some gs → length gs ≡ 8
+eight : (t : List ℕ) (d : Doubled) (gs : List ℕ) → eight_groups t d ≡ Some gs → length gs ≡ 8
 eight t single gs e = exactly_length 8 (groups_of true (split_on 58 t)) gs e
 eight t (double s u) gs e =
     let (fs, a, b) = bind_some (side_of false s) _ gs e in
@@ -306,4 +306,4 @@ aaaa_laws c = record {
     by : (p r : List ℕ) → Parted r → Paired 8 p → one_bare read_aaaa (scanned between (aaaa_text (groups p) ++ r)) ≡ got p (scanned between r)
     by p r q (paired l c f) =
         let g = text_fine (groups p) (omega arith) in
-        bare_back read_aaaa (aaaa_text (groups p)) p r g.0 g.1 (rw (text_read (groups p) l c) (ap some f)) q
+        bare_back read_aaaa (aaaa_text (groups p)) p r g.0 g.1 (rw (text_read (groups p) l c) (ap Some f)) q

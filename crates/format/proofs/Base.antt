@@ -4,7 +4,7 @@ use Prim.Native.Char.{code}
 use mathlib.Core.Path.{◌≡◌, refl, ap, ◌∙◌}
 use mathlib.Core.Bool.{Bool, true, false, cond}
 use mathlib.Core.List.{List, [], ◌∷◌, ◌++◌, map, append_assoc, append-nil}
-use mathlib.Core.Option.{some}
+use Rattle.std.specs.Prelude.{Some}
 use native.Mathlib.Omega.{arith}
 use native.Mathlib.Nat.{pow-suc, add-zero, mul-le-mul_right, one-le-pow}
 use lib.ListN.{length, drop, length-append, length-map, replicate, length-replicate, length-drop}
@@ -78,19 +78,19 @@ bits_length w [] = omega arith
 bits_length w (x ∷ xs) = omega (arith, length-append (digits 2 w x) (bits w xs), digits_length 2 w x, bits_length w xs)
 
 -- the bits of an octet
-octet_whole : (w v : ℕ) (bs r : List ℕ) (x : ℕ) (xs : List ℕ) → 1 ≤ length bs → number_from 2 v bs ≡ x → whole_octets w 8 0 r ≡ some xs → whole_octets w (length bs) v (bs ++ r) ≡ some (x ∷ xs)
+octet_whole : (w v : ℕ) (bs r : List ℕ) (x : ℕ) (xs : List ℕ) → 1 ≤ length bs → number_from 2 v bs ≡ x → whole_octets w 8 0 r ≡ Some xs → whole_octets w (length bs) v (bs ++ r) ≡ Some (x ∷ xs)
 octet_whole w v [] r x xs h n e = absurd (omega arith)
 octet_whole w v (b ∷ []) r x xs h n e = rw (e, n)
 octet_whole w v (b ∷ c ∷ bs) r x xs h n e = octet_whole w (v * 2 + b) (c ∷ bs) r x xs (omega arith) n e
 
 -- bits left over
-left_over : (w m z : ℕ) → m ≤ 8 → z < m → 8 - m + z < w → whole_octets w m 0 (replicate z 0) ≡ some []
+left_over : (w m z : ℕ) → m ≤ 8 → z < m → 8 - m + z < w → whole_octets w m 0 (replicate z 0) ≡ Some []
 left_over w m zero e h l = rw (lt-ltb (8 - m) w (omega arith))
 left_over w zero (suc z) e h l = absurd (omega arith)
 left_over w (suc zero) (suc z) e h l = absurd (omega arith)
 left_over w (suc (suc m)) (suc z) e h l = left_over w (suc m) z (omega arith) (omega arith) (omega arith)
 
-octets_whole : (w z : ℕ) (xs : List ℕ) → z < w → w ≤ 8 → Octets xs → whole_octets w 8 0 (bits 8 xs ++ replicate z 0) ≡ some xs
+octets_whole : (w z : ℕ) (xs : List ℕ) → z < w → w ≤ 8 → Octets xs → whole_octets w 8 0 (bits 8 xs ++ replicate z 0) ≡ Some xs
 octets_whole w z [] l h b = left_over w 8 z (omega arith) (omega arith) (omega arith)
 octets_whole w z (x ∷ xs) l h b =
     octet_whole w 0 (digits 2 8 x) (bits 8 xs ++ replicate z 0) x xs (omega arith) (number_digits 2 8 x (omega arith) b.0) (octets_whole w z xs l h b.1)
@@ -103,7 +103,7 @@ module _ (w : ℕ) (lo : 1 ≤ w) where
   digits_bits : (xs : List ℕ) → (z : ℕ) × (z < w) × (bits w (to_digits w xs) ≡ bits 8 xs ++ replicate z 0)
   digits_bits xs = filled_bits w 0 w 0 (bits 8 xs) (omega arith) lo (bits_below 8 xs)
 
-  digits_back : w ≤ 8 → (xs : List ℕ) → Octets xs → from_digits w (to_digits w xs) ≡ some xs
+  digits_back : w ≤ 8 → (xs : List ℕ) → Octets xs → from_digits w (to_digits w xs) ≡ Some xs
   digits_back hi xs b = let (z, l, e) = digits_bits xs in rw e (octets_whole w z xs l hi b)
 
   pub digits_many : (xs : List ℕ) → (8 * length xs ≤ w * length (to_digits w xs)) × (w * length (to_digits w xs) < 8 * length xs + w)
@@ -130,7 +130,7 @@ padded : (P : List ℕ → Type 0) → ((k : ℕ) → k ≤ 3 → P (replicate k
 padded P h n = h ((4 - n % 4) % 4) (omega arith)
 
 module _ (xs : List ℕ) where
-  base64_back : Octets xs → read_base64 (base64_text xs) ≡ some xs
+  base64_back : Octets xs → read_base64 (base64_text xs) ≡ Some xs
   base64_back b =
       let n : ℕ = length (to_digits 6 xs) in
       rw (
@@ -152,7 +152,7 @@ module _ (xs : List ℕ) where
       plain_append (map base64_char (to_digits 6 xs)) (padding (length (to_digits 6 xs))) (chars_plain base64_char 64 refl (to_digits 6 xs) (digits_of 6 xs))
       (padded Plainly (λ k l. plain_many k 61 refl) (length (to_digits 6 xs)))
 
-  base32_back : Octets xs → 1 ≤ length xs → length xs ≤ 255 → read_base32 (base32_text xs) ≡ some (with_count xs)
+  base32_back : Octets xs → 1 ≤ length xs → length xs ≤ 255 → read_base32 (base32_text xs) ≡ Some (with_count xs)
   base32_back b h l = rw (chars_back upper_digit (digit_value 32) 32 refl (to_digits 5 xs) (digits_of 5 xs), digits_back 5 (omega arith) (omega arith) xs b) (counted_some 1 xs h l)
 
   base32_length : (length xs ≤ length (base32_text xs)) × (length (base32_text xs) ≤ 2 * length xs)
@@ -181,7 +181,7 @@ b32_laws c = record {
         rw c (bare_back read_base32 (base32_text xs) (with_count xs) r (omega (arith, (base32_length xs).0))
         (chars_plain upper_digit 32 refl (to_digits 5 xs) (digits_of 5 xs)) (base32_back xs d.1 l (omega (arith, d.0))) q)
 
-    accepted : (t p : List ℕ) → read_base32 t ≡ some p → taken (count 1) p ≡ took (length p)
+    accepted : (t p : List ℕ) → read_base32 t ≡ Some p → taken (count 1) p ≡ took (length p)
     accepted t p e =
         let (ds, a, f) = bind_some (each_of (digit_value 32) t) (λ ds. from_digits 5 ds >>= λ xs. counted 1 xs) p e in
         let (xs, c, g) = bind_some (from_digits 5 ds) (λ xs. counted 1 xs) p f in

@@ -3,7 +3,7 @@ use Prim.Native.Nat.{ℕ, zero, suc, ◌+◌, ◌*◌, ◌-◌, ◌≤◌, ◌<�
 use mathlib.Core.Path.{◌≡◌, refl, sym, ap, ◌∙◌, subst}
 use mathlib.Core.Bool.{Bool, true, false, cond, ◌||◌, or_assoc, or-false}
 use mathlib.Core.List.{List, [], ◌∷◌, ◌++◌, map, append_assoc, append-nil}
-use mathlib.Core.Option.{Option, some}
+use Rattle.std.specs.Prelude.{Option, Some}
 use native.Mathlib.Omega.{arith}
 use native.Mathlib.Nat.{add-zero}
 use lib.ListN.{length, take, drop, length-append, length-map, replicate, length-replicate}
@@ -277,7 +277,7 @@ windows_of (suc k) w p h b e = by (at_window_lem w p b e) (λ q. windows_of k (s
 pub record TypeTexts (text : ℕ → List ℕ) (value : Token → Option ℕ) : Type 0 where
   pub plain : (n : ℕ) → n < 65536 → Plainly (text n)
   pub some_octet : (n : ℕ) → n < 65536 → 1 ≤ length (text n)
-  pub reads : (n : ℕ) → n < 65536 → value (bare (text n)) ≡ some n
+  pub reads : (n : ℕ) → n < 65536 → value (bare (text n)) ≡ Some n
 
 plain_scanned : (t r : List ℕ) → 1 ≤ length t → Plainly t → Parted r → scanned between (t ++ r) ≡ bare t ∷ scanned between r
 plain_scanned [] r h k p = absurd (omega arith)
@@ -290,10 +290,10 @@ parted_weight text (t ∷ []) = omega arith
 parted_weight text (t ∷ u ∷ ts) = omega (arith, parted_weight text (u ∷ ts), length-append (text t) (ascii " "), length-append (text t ++ ascii " ") (parted (ascii " ") (map text (u ∷ ts))))
 
 module _ (text : ℕ → List ℕ) (value : Token → Option ℕ) (w : TypeTexts text value) where
-  one_scanned : (n : ℕ) (r : List ℕ) → n < 65536 → Parted r → each_of value (scanned between (text n ++ r)) ≡ cons_both (some n) (each_of value (scanned between r))
+  one_scanned : (n : ℕ) (r : List ℕ) → n < 65536 → Parted r → each_of value (scanned between (text n ++ r)) ≡ cons_both (Some n) (each_of value (scanned between r))
   one_scanned n r h p = rw (plain_scanned (text n) r (w.some_octet n h) (w.plain n h) p, w.reads n h)
 
-  list_scanned : (ts : List ℕ) → Within 0 65536 ts → each_of value (scanned between (parted (ascii " ") (map text ts))) ≡ some ts
+  list_scanned : (ts : List ℕ) → Within 0 65536 ts → each_of value (scanned between (parted (ascii " ") (map text ts))) ≡ Some ts
   list_scanned [] h = rw none_scanned
   list_scanned (t ∷ []) h = rw (← (append-nil (text t))) (one_scanned t [] h.1 at_end_of_text ∙ rw none_scanned)
   list_scanned (t ∷ u ∷ ts) h =
@@ -307,7 +307,7 @@ module _ (text : ℕ → List ℕ) (value : Token → Option ℕ) (w : TypeTexts
     types_of_bitmap : Within 0 65536 (types p)
     types_of_bitmap = types_within 0 65536 0 256 p of_bitmap (omega arith) (omega arith)
 
-    bitmap_back : read_bitmap value (scanned between (bitmap_text text p)) ≡ some p
+    bitmap_back : read_bitmap value (scanned between (bitmap_text text p)) ≡ Some p
     bitmap_back = rw (list_scanned (types p) types_of_bitmap, blocks_back (types p) 0 256 p of_bitmap (λ i l m. refl))
 
     bitmap_bound : length (bitmap_text text p) ≤ weight text (types p)
@@ -319,9 +319,9 @@ module _ (text : ℕ → List ℕ) (value : Token → Option ℕ) (w : TypeTexts
     types_few : length (types p) ≤ 65536
     types_few = types_short 0 256 p of_bitmap
 
-bitmap_accepted : (value : Token → Option ℕ) (ts : List Token) (p : List ℕ) → read_bitmap value ts ≡ some p → taken (window 0) p ≡ took (length p)
+bitmap_accepted : (value : Token → Option ℕ) (ts : List Token) (p : List ℕ) → read_bitmap value ts ≡ Some p → taken (window 0) p ≡ took (length p)
 bitmap_accepted value ts p e =
-    let (l, a, b) = bind_some (each_of value ts) (λ l. some (blocks l)) p e in
+    let (l, a, b) = bind_some (each_of value ts) (λ l. Some (blocks l)) p e in
     let q : blocks l ≡ p = cc in
     rw (← q) (blocks_taken l 256 0 0 (omega arith))
 

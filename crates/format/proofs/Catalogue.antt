@@ -3,7 +3,7 @@ use Prim.Native.Nat.{ℕ, suc, ◌+◌, ◌*◌, ◌≤◌, ◌<◌}
 use mathlib.Core.Path.{◌≡◌, refl, sym, ap, ◌∙◌}
 use mathlib.Core.Bool.{Bool, true, false, not, cond, ◌&&◌, ◌||◌, true≢false}
 use mathlib.Core.List.{List, [], ◌∷◌, ◌++◌, map}
-use mathlib.Core.Option.{Option, none, some}
+use Rattle.std.specs.Prelude.{Option, None, Some}
 use native.Mathlib.Omega.{arith}
 use lib.ListN.{length, take, drop, length-append}
 use lib.Dec.{leb, ltb, eqb}
@@ -131,7 +131,7 @@ pub record TypeText (ms : List TypeName) (n : ℕ) : Type 0 where
   pub plain : Plainly (type_text_in ms n)
   pub some_octet : 1 ≤ length (type_text_in ms n)
   pub short : length (type_text_in ms n) ≤ 63
-  pub reads : type_number_in ms (type_text_in ms n) ≡ some n
+  pub reads : type_number_in ms (type_text_in ms n) ≡ Some n
 
 text_of_type : (ms : List TypeName) → all_of good_alone ms ≡ true → twice clashes ms ≡ false → (n : ℕ) → n < 65536 → TypeText ms n
 text_of_type [] h d n l = let (a, b) = type_length n l in record { plain = type_plain n; some_octet = a; short = omega arith; reads = type_value n l }
@@ -234,8 +234,8 @@ from_sound earlier names (e ∷ es) c h q = by (ltb (length earlier) 512) refl q
 
     on : ltb (length earlier) 512 ≡ true → (o : Option TypeName) → entry_after earlier names e ≡ o → after_entry o (suc (length earlier)) (λ n. catalogued_from (earlier ++ n ∷ []) names es) ≡ known c → Later
         → (sound_names c ≡ true) × (length c ≡ length earlier + suc (length es))
-    on l none f q ih = let z : ◌≡◌ {A = ℕ} 0 1 = cc in absurd (omega arith)
-    on l (some n) f q ih =
+    on l None f q ih = let z : ◌≡◌ {A = ℕ} 0 1 = cc in absurd (omega arith)
+    on l (Some n) f q ih =
         let (s, i, j) = bind_some (name_of_entry names e) (λ t. if_good earlier (record { type_no = e.type_no; spelled = t })) n f in
         let m : TypeName = record { type_no = e.type_no; spelled = s } in
         let (v, w) = provided_some (good_alone m && not (any_of (λ x. clashes x m) earlier)) m n j in
@@ -247,7 +247,7 @@ from_sound earlier names (e ∷ es) c h q = by (ltb (length earlier) 512) refl q
         let (x, y) = ih m sound (rw (← w) at q) in
         (x, omega (arith, len))
 
-    by : (b : Bool) → ltb (length earlier) 512 ≡ b → after_entry (cond b (entry_after earlier names e) none) (suc (length earlier)) (λ n. catalogued_from (earlier ++ n ∷ []) names es) ≡ known c → Later
+    by : (b : Bool) → ltb (length earlier) 512 ≡ b → after_entry (cond b (entry_after earlier names e) None) (suc (length earlier)) (λ n. catalogued_from (earlier ++ n ∷ []) names es) ≡ known c → Later
         → (sound_names c ≡ true) × (length c ≡ length earlier + suc (length es))
     by true l q ih = on l (entry_after earlier names e) refl q ih
     by false l q ih = let z : ◌≡◌ {A = ℕ} 0 1 = cc in absurd (omega arith)
@@ -256,8 +256,8 @@ pub catalogues : Catalogues
 catalogues names es c e = let (a, b) = from_sound [] names es c refl e in (a, omega arith)
 
 -- R
-two_octets : (c : List TypeName) (t p : List ℕ) → read_type_in c t ≡ some p → length p ≡ 2
-two_octets c t p e = let (v, a, b) = bind_some (type_number_in c t) (λ n. some (digits 256 2 n)) p e in let q : digits 256 2 v ≡ p = cc in rw (← q) (digits_length 256 2 v)
+two_octets : (c : List TypeName) (t p : List ℕ) → read_type_in c t ≡ Some p → length p ≡ 2
+two_octets c t p e = let (v, a, b) = bind_some (type_number_in c t) (λ n. Some (digits 256 2 n)) p e in let q : digits 256 2 v ≡ p = cc in rw (← q) (digits_length 256 2 v)
 
 pub rrtype_laws : (c : List TypeName) → sound_names c ≡ true → FieldLaws c rrtype
 unfolding Back shown read_field
@@ -266,7 +266,7 @@ rrtype_laws c g = record {
       let n : length p ≡ 2 = octets_taken 2 p (omega arith) e in
       let v : number 256 p < 65536 = rw n at (number_bound 256 p b) in
       let x = type_text_lem c g (number 256 p) v in
-      bare_back (read_type_in c) (type_text_in c (number 256 p)) p r x.some_octet x.plain (rw x.reads (ap some ((integers 2).1 p b n))) q;
+      bare_back (read_type_in c) (type_text_in c (number 256 p)) p r x.some_octet x.plain (rw x.reads (ap Some ((integers 2).1 p b n))) q;
   bound = λ p b e.
       let n : length p ≡ 2 = octets_taken 2 p (omega arith) e in
       let v : number 256 p < 65536 = rw n at (number_bound 256 p b) in

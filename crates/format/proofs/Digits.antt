@@ -3,7 +3,7 @@ use Prim.Native.Nat.{ℕ, zero, suc, ◌+◌, ◌*◌, ◌/◌, ◌%◌, ◌^◌
 use mathlib.Core.Path.{◌≡◌, refl, ap, ◌∙◌}
 use mathlib.Core.Bool.{Bool, true, false}
 use mathlib.Core.List.{List, [], ◌∷◌, ◌++◌, map, append_assoc, append-nil}
-use mathlib.Core.Option.{Option, none, some}
+use Rattle.std.specs.Prelude.{Option, None, Some}
 use native.Mathlib.Omega.{arith}
 use native.Mathlib.Nat.{mod-lt, zero-add, div-add-mod', div-lt_iff_lt-mul, mul-add-div_right, mul-add-mod_self_right, mod-eq_of_lt, div-eq_of_lt, pow-suc, pow-zero, add-zero, mul-le-mul_right}
 use lib.ListN.{length, length-append, length-map}
@@ -68,22 +68,22 @@ zeros_length (suc d ∷ e ∷ ds) h = (omega arith, omega arith)
 
 -- digits written by characters that read back, by one computed test of all of them
 abbrev pub gives_back : Option ℕ → ℕ → Bool
-gives_back none d = false
-gives_back (some x) d = eqb x d
+gives_back None d = false
+gives_back (Some x) d = eqb x d
 
-pub gives_some : (v : Option ℕ) (d : ℕ) → gives_back v d ≡ true → v ≡ some d
-gives_some none d h = cc
-gives_some (some x) d h = ap some (eqb-true x d h)
+pub gives_some : (v : Option ℕ) (d : ℕ) → gives_back v d ≡ true → v ≡ Some d
+gives_some None d h = cc
+gives_some (Some x) d h = ap Some (eqb-true x d h)
 
 module _ (char : ℕ → ℕ) (value : ℕ → Option ℕ) (b : ℕ) (t : all_below (λ d. gives_back (value (char d)) d) b ≡ true) where
-  char_back : (d : ℕ) → d < b → value (char d) ≡ some d
+  char_back : (d : ℕ) → d < b → value (char d) ≡ Some d
   char_back d h = gives_some (value (char d)) d (at_each (λ d. gives_back (value (char d)) d) b t d h)
 
-  pub chars_back : (ds : List ℕ) → Below b ds → each_of value (map char ds) ≡ some ds
+  pub chars_back : (ds : List ℕ) → Below b ds → each_of value (map char ds) ≡ Some ds
   chars_back [] h = refl
   chars_back (d ∷ ds) h = rw (char_back d h.0, chars_back ds h.1)
 
-pub decimal_back : (n : ℕ) → n < 10 ^ 10 → decimal_of (decimal n) ≡ some n
+pub decimal_back : (n : ℕ) → n < 10 ^ 10 → decimal_of (decimal n) ≡ Some n
 decimal_back n h =
     let l = zeros_length (digits 10 10 n) (omega (arith, digits_length 10 10 n)) in
     let m : length (decimal n) ≡ length (without_zeros (digits 10 10 n)) = length-map (without_zeros (digits 10 10 n)) upper_digit in
@@ -92,7 +92,7 @@ decimal_back n h =
       le-leb (length (decimal n)) 10 (omega (arith, digits_length 10 10 n)),
       chars_back upper_digit (digit_value 10) 10 refl (without_zeros (digits 10 10 n)) (zeros_below 10 (digits 10 10 n) (digits_below 10 10 n (omega arith))),
     )
-    (ap some (zeros_number 10 (digits 10 10 n) ∙ number_digits 10 10 n (omega arith) h))
+    (ap Some (zeros_number 10 (digits 10 10 n) ∙ number_digits 10 10 n (omega arith) h))
 
 number_from_bound : (b a : ℕ) (ds : List ℕ) → Below b ds → number_from b a ds < suc a * b ^ length ds
 number_from_bound b a [] h = rw (pow-zero b) (omega arith)

@@ -3,7 +3,7 @@ use Prim.Native.Nat.{ℕ, zero, suc, ◌+◌, ◌*◌, ◌≤◌, ◌<◌}
 use mathlib.Core.Path.{◌≡◌, refl, sym, ap, subst}
 use mathlib.Core.Bool.{Bool, true, false, not, cond}
 use mathlib.Core.List.{List, [], ◌∷◌, ◌++◌, map, append_assoc, append-nil}
-use mathlib.Core.Option.{Option, none, some}
+use Rattle.std.specs.Prelude.{Option, None, Some}
 use native.Mathlib.Omega.{arith}
 use lib.ListN.{length, length-append, length-map}
 use lib.Dec.{leb, ltb, eqb}
@@ -59,40 +59,40 @@ pub record FieldLaws (c : List TypeName) (k : Kind) : Type 0 where
   pub accepted : (o : List ℕ) → is_wire_name o ≡ true → (ts us : List Token) (p : List ℕ) → read_field c k o ts ≡ got p us → taken (start k) p ≡ took (length p)
 
 -- one bare token of plain octets
-pub bare_back : (f : List ℕ → Option (List ℕ)) (t p r : List ℕ) → 1 ≤ length t → Plainly t → f t ≡ some p → Parted r
+pub bare_back : (f : List ℕ → Option (List ℕ)) (t p r : List ℕ) → 1 ≤ length t → Plainly t → f t ≡ Some p → Parted r
     → one_bare f (scanned between (t ++ r)) ≡ got p (scanned between r)
 bare_back f [] p r n h e q = absurd (omega arith)
 bare_back f (x ∷ t) p r n h e q = rw (bare_scanned x t r h q, e)
 
 -- all the tokens that are left, printed as one bare token of plain octets
-some_octets : (p : List ℕ) → 1 ≤ length p → not_empty p ≡ some p
+some_octets : (p : List ℕ) → 1 ≤ length p → not_empty p ≡ Some p
 some_octets [] h = absurd (omega arith)
 some_octets (x ∷ p) h = refl
 
-joined_one : (f : List ℕ → Option (List ℕ)) (t p : List ℕ) → f t ≡ some p → 1 ≤ length p → joined_bares f (bare t ∷ []) ≡ got p []
+joined_one : (f : List ℕ → Option (List ℕ)) (t p : List ℕ) → f t ≡ Some p → 1 ≤ length p → joined_bares f (bare t ∷ []) ≡ got p []
 joined_one f t p e h = rw (append-nil t, e, some_octets p h)
 
-pub all_back : (f : List ℕ → Option (List ℕ)) (t p r : List ℕ) → 1 ≤ length t → Plainly t → f t ≡ some p → 1 ≤ length p → r ≡ []
+pub all_back : (f : List ℕ → Option (List ℕ)) (t p r : List ℕ) → 1 ≤ length t → Plainly t → f t ≡ Some p → 1 ≤ length p → r ≡ []
     → joined_bares f (scanned between (t ++ r)) ≡ got p (scanned between r)
 all_back f [] p r n h e l z = absurd (omega arith)
 all_back f (x ∷ t) p r n h e l z = rw (z, bare_scanned x t [] h at_end_of_text, none_scanned) (joined_one f (x ∷ t) p e l)
 
 -- what one token gives
-pub got_some : (o : Option (List ℕ)) (us vs : List Token) (p : List ℕ) → got_or o us ≡ got p vs → o ≡ some p
-got_some none us vs p e = let z : ◌≡◌ {A = ℕ} 0 1 = cc in absurd (omega arith)
-got_some (some q) us vs p e = let w : q ≡ p = cc in ap some w
+pub got_some : (o : Option (List ℕ)) (us vs : List Token) (p : List ℕ) → got_or o us ≡ got p vs → o ≡ Some p
+got_some None us vs p e = let z : ◌≡◌ {A = ℕ} 0 1 = cc in absurd (omega arith)
+got_some (Some q) us vs p e = let w : q ≡ p = cc in ap Some w
 
-pub token_accepted : (s : Stage) (f : Token → Option (List ℕ)) → ((t : Token) (p : List ℕ) → f t ≡ some p → taken s p ≡ took (length p))
+pub token_accepted : (s : Stage) (f : Token → Option (List ℕ)) → ((t : Token) (p : List ℕ) → f t ≡ Some p → taken s p ≡ took (length p))
     → (ts us : List Token) (p : List ℕ) → one_token f ts ≡ got p us → taken s p ≡ took (length p)
 token_accepted s f h [] us p e = let z : ◌≡◌ {A = ℕ} 0 1 = cc in absurd (omega arith)
 token_accepted s f h (t ∷ ts) us p e = h t p (got_some (f t) ts us p e)
 
-pub bare_accepted : (s : Stage) (f : List ℕ → Option (List ℕ)) → ((t p : List ℕ) → f t ≡ some p → taken s p ≡ took (length p))
+pub bare_accepted : (s : Stage) (f : List ℕ → Option (List ℕ)) → ((t p : List ℕ) → f t ≡ Some p → taken s p ≡ took (length p))
     → (ts us : List Token) (p : List ℕ) → one_bare f ts ≡ got p us → taken s p ≡ took (length p)
 bare_accepted s f h ts us p e = token_accepted s (λ t. bare_of t >>= f) (λ t p e. let (u, a, b) = bind_some (bare_of t) f p e in h u p b) ts us p e
 
 -- values that are not empty
-pub not_empty_lem : (t p : List ℕ) → not_empty t ≡ some p → 1 ≤ length p
+pub not_empty_lem : (t p : List ℕ) → not_empty t ≡ Some p → 1 ≤ length p
 not_empty_lem [] p e = let z : ◌≡◌ {A = ℕ} 0 1 = cc in absurd (omega arith)
 not_empty_lem (x ∷ t) p e = let w : x ∷ t ≡ p = cc in rw (← w) (omega arith)
 
@@ -104,12 +104,12 @@ all_accepted f (t ∷ ts) us p e =
     takes_end false p (λ z. not_empty_lem q p d)
 
 -- values of w octets
-pub width_accepted : (w : ℕ) → 1 ≤ w → (f : List ℕ → Option (List ℕ)) → ((t p : List ℕ) → f t ≡ some p → length p ≡ w)
+pub width_accepted : (w : ℕ) → 1 ≤ w → (f : List ℕ → Option (List ℕ)) → ((t p : List ℕ) → f t ≡ Some p → length p ≡ w)
     → (ts us : List Token) (p : List ℕ) → one_bare f ts ≡ got p us → taken (any_octets w) p ≡ took (length p)
 width_accepted w n f h ts us p e = bare_accepted (any_octets w) f (λ t p e. takes_width w p n (h t p e)) ts us p e
 
 -- values after their count
-pub counted_accepted : (lo : ℕ) (t p : List ℕ) → counted lo t ≡ some p → taken (count lo) p ≡ took (length p)
+pub counted_accepted : (lo : ℕ) (t p : List ℕ) → counted lo t ≡ Some p → taken (count lo) p ≡ took (length p)
 counted_accepted lo t p e =
     let (a, b) = provided_some (in_range lo 255 (length t)) (with_count t) p e in
     rw (← b) (takes_count lo t (leb-true lo (length t) (and_left (leb lo (length t)) (leb (length t) 255) a)))
@@ -144,7 +144,7 @@ counted_octets lo (x ∷ xs) e = by (came (count lo) x xs (suc (length xs)) e)
     by (stops p q) = let (a, b) = count_moves lo x stop p (λ z. let y : ◌≡◌ {A = ℕ} 0 1 = cc in omega arith) in is (omega (arith, none_more x b)) a
     by (goes t m p q r) = let (a, b) = count_moves lo x (go t) p (λ z. let y : ◌≡◌ {A = ℕ} 0 1 = cc in omega arith) in is (omega (arith, more_takes x xs t m b q)) a
 
-pub counted_some : (lo : ℕ) (t : List ℕ) → lo ≤ length t → length t ≤ 255 → counted lo t ≡ some (with_count t)
+pub counted_some : (lo : ℕ) (t : List ℕ) → lo ≤ length t → length t ≤ 255 → counted lo t ≡ Some (with_count t)
 counted_some lo t h k = rw (le-leb lo (length t) h, le-leb (length t) 255 k)
 
 -- several texts with a separator between them
@@ -182,11 +182,11 @@ pub record Separated (m s : ℕ) (g : ℕ → List ℕ) (f : List ℕ → Option
   pub plain_mark : plainly s ≡ true
   pub plain : (x : ℕ) → x < m → Plainly (g x)
   pub free : (x : ℕ) → x < m → Free s (g x)
-  pub back : (x : ℕ) → x < m → f (g x) ≡ some x
+  pub back : (x : ℕ) → x < m → f (g x) ≡ Some x
   pub long : (x : ℕ) → x < m → 1 ≤ length (g x)
 
 module _ (m s : ℕ) (g : ℕ → List ℕ) (f : List ℕ → Option ℕ) (w : Separated m s g f) where
-  pub separated_read : (x : ℕ) (xs : List ℕ) → Below m (x ∷ xs) → each_of f (split_on s (parted (s ∷ []) (map g (x ∷ xs)))) ≡ some (x ∷ xs)
+  pub separated_read : (x : ℕ) (xs : List ℕ) → Below m (x ∷ xs) → each_of f (split_on s (parted (s ∷ []) (map g (x ∷ xs)))) ≡ Some (x ∷ xs)
   separated_read x [] b = rw (split_last s (g x) (w.free x b.0), w.back x b.0)
   separated_read x (y ∷ xs) b =
       rw (append_assoc (g x) (s ∷ []) (parted (s ∷ []) (map g (y ∷ xs))), split_more s (g x) (parted (s ∷ []) (map g (y ∷ xs))) (w.free x b.0), w.back x b.0, separated_read y xs b.1)
@@ -220,10 +220,10 @@ octets_separated s g f a b c d e = record {
 }
 
 -- a list of exactly n
-pub exact : (n : ℕ) (p : List ℕ) → length p ≡ n → exactly n (some p) ≡ some p
+pub exact : (n : ℕ) (p : List ℕ) → length p ≡ n → exactly n (Some p) ≡ Some p
 exact n p e = rw (eq-eqb (length p) n e)
 
-pub exactly_length : (n : ℕ) (o : Option (List ℕ)) (p : List ℕ) → exactly n o ≡ some p → length p ≡ n
+pub exactly_length : (n : ℕ) (o : Option (List ℕ)) (p : List ℕ) → exactly n o ≡ Some p → length p ≡ n
 exactly_length n o p e =
     let (l, a, b) = bind_some o (λ l. provided (eqb (length l) n) l) p e in
     let (c, d) = provided_some (eqb (length l) n) l p b in

@@ -2,7 +2,7 @@
 use Prim.Native.Nat.{ℕ, zero, suc, ◌<◌}
 use mathlib.Core.Path.{◌≡◌, refl, ap}
 use mathlib.Core.Bool.{Bool, true, false, ◌&&◌}
-use mathlib.Core.Option.{Option, none, some}
+use Rattle.std.specs.Prelude.{Option, None, Some}
 use native.Mathlib.Omega.{arith}
 use lib.Dec.{eqb, ltb}
 use borrow.Author.Tests.{eqb-true, ltb-true, ltb-false}
@@ -22,16 +22,16 @@ at_each f (suc n) h x l = by (ltb x n) refl (λ k. at_each f n (and_right (f n) 
 
 -- two functions with the same values below a bound
 abbrev pub same_option : Option ℕ → Option ℕ → Bool
-same_option none none = true
-same_option none (some y) = false
-same_option (some x) none = false
-same_option (some x) (some y) = eqb x y
+same_option None None = true
+same_option None (Some y) = false
+same_option (Some x) None = false
+same_option (Some x) (Some y) = eqb x y
 
 same_option_lem : (o p : Option ℕ) → same_option o p ≡ true → o ≡ p
-same_option_lem none none h = refl
-same_option_lem none (some y) h = cc
-same_option_lem (some x) none h = cc
-same_option_lem (some x) (some y) h = ap some (eqb-true x y h)
+same_option_lem None None h = refl
+same_option_lem None (Some y) h = cc
+same_option_lem (Some x) None h = cc
+same_option_lem (Some x) (Some y) h = ap Some (eqb-true x y h)
 
 pub all_same : (n : ℕ) (f g : ℕ → Option ℕ) → all_below (λ x. same_option (f x) (g x)) n ≡ true → (x : ℕ) → x < n → f x ≡ g x
 all_same n f g h x l = same_option_lem (f x) (g x) (at_each (λ x. same_option (f x) (g x)) n h x l)

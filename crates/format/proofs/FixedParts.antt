@@ -4,7 +4,7 @@ use mathlib.Core.Path.{◌≡◌, refl, sym, ap, ap₂, ◌∙◌, subst}
 use mathlib.Core.Logic.{◌⊎◌, inl, inr}
 use mathlib.Core.Bool.{Bool, true, false, not, cond, ◌&&◌, true≢false}
 use mathlib.Core.List.{List, [], ◌∷◌, ◌++◌, append_assoc, append-nil}
-use mathlib.Core.Option.{Option, none, some}
+use Rattle.std.specs.Prelude.{Option, None, Some}
 use native.Mathlib.Omega.{arith}
 use lib.ListN.{length}
 use lib.Dec.{eqb}
@@ -77,7 +77,7 @@ module _ (f : ℕ → Bool) where
     clear_span : (t : List ℕ) → ClearTo t (span f t).rest
     clear_span t = record { front = (span f t).front; parts = span_whole t; clears = span_clear t }
 
-clear_after : (c : ℕ) → clear c ≡ true → (t r : List ℕ) → after c t ≡ some r → ClearTo t r
+clear_after : (c : ℕ) → clear c ≡ true → (t r : List ℕ) → after c t ≡ Some r → ClearTo t r
 clear_after c h [] r e = let z : ◌≡◌ {A = ℕ} 0 1 = cc in absurd (omega arith)
 clear_after c h (x ∷ t) r e =
     let (a, b) = provided_some (eqb x c) t r e in
@@ -91,7 +91,7 @@ pub data Ends (r text : List ℕ) : Type 0 where
   nothing : r ≡ [] → text ≡ [] → Ends r text
   blank_first : (b : ℕ) → blank b ≡ true → r ≡ b ∷ text → Ends r text
 
-text_ends : (end : ℕ) (r : List ℕ) (p : Part) → free_text_at end r ≡ some p → Ends r p.octets
+text_ends : (end : ℕ) (r : List ℕ) (p : Part) → free_text_at end r ≡ Some p → Ends r p.octets
 text_ends end [] p e = let z : part_at end [] [] ≡ p = cc in nothing refl (rw (← z))
 text_ends end (x ∷ t) p e =
     let (a, b) = provided_some (blank x && all_of (in_range 0x20 0xFE) t) (part_at end t t) p e in
@@ -121,17 +121,17 @@ fixed_then t r text c e = by e
     by (blank_first b k q) = inr (b, k, c.parts ∙ ap₂ (λ u v. u ++ v) (sym front) q)
 
 -- the header
-options_clear : (t r : List ℕ) → after_options t ≡ some r → ClearTo t r
+options_clear : (t r : List ℕ) → after_options t ≡ Some r → ClearTo t r
 options_clear [] r e = let z : [] ≡ r = cc in rw (← z) (clear_none [])
 options_clear (x ∷ t) r e = by (eqb x 58) refl e
   where
-    by : (b : Bool) → eqb x 58 ≡ b → cond b (if_letters (span letter t)) (some (x ∷ t)) ≡ some r → ClearTo (x ∷ t) r
+    by : (b : Bool) → eqb x 58 ≡ b → cond b (if_letters (span letter t)) (Some (x ∷ t)) ≡ Some r → ClearTo (x ∷ t) r
     by true h e =
         let (a, b) = provided_some (not (null (span letter t).front)) (span letter t).rest r e in
         clear_trans (x ∷ t) t r (record { front = x ∷ []; parts = refl; clears = rw (eqb-true x 58 h) }) (rw (← b) (clear_span letter (λ y k. passes_clear letter refl refl y k) t))
     by false h e = let z : x ∷ t ≡ r = cc in rw (← z) (clear_none (x ∷ t))
 
-header_fixed : (end : ℕ) (t : List ℕ) (h : Header) → header_line end t ≡ some h → ThenText t h.header_text.octets
+header_fixed : (end : ℕ) (t : List ℕ) (h : Header) → header_line end t ≡ Some h → ThenText t h.header_text.octets
 header_fixed end t h e =
     let (m, a, b) = bind_some (name_at t) _ h e in
     let (u, c, d) = bind_some (after 58 m.rest) _ h b in
@@ -139,7 +139,7 @@ header_fixed end t h e =
     let (r, i, j) = bind_some (after_options n.rest) _ h g in
     let (p, k, l) = bind_some (free_text_at end r) _ h j in
     let (v, w) = provided_some (is_name (span name_octet t).front) (span name_octet t) m a in
-    let (x, y, z) = bind_some (decimal_of (span digit u).front) (λ n. some (record { value = n; rest = (span digit u).rest })) n f in
+    let (x, y, z) = bind_some (decimal_of (span digit u).front) (λ n. Some (record { value = n; rest = (span digit u).rest })) n f in
     let q : ◌≡◌ {A = Numbered} (record { value = x; rest = (span digit u).rest }) n = cc in
     let s : ◌≡◌ {A = Header} (record { type_name = part_at end t m.front; type_no = n.value; header_text = p }) h = cc in
     let c1 : ClearTo t m.rest = subst (λ (o : Spanned). ClearTo t o.rest) w (clear_span name_octet name_clear t) in
@@ -149,41 +149,41 @@ header_fixed end t h e =
     rw (← s) (fixed_then t r p.octets (clear_trans t m.rest r c1 (clear_trans m.rest u r c2 (clear_trans u n.rest r c3 c4))) (text_ends end r p k))
 
 -- a field line: digits, one qualifier, all of them
-some_not : (f : ℕ → Option ℕ) (c x y : ℕ) → f c ≡ none → f x ≡ some y → eqb x c ≡ false
+some_not : (f : ℕ → Option ℕ) (c x y : ℕ) → f c ≡ None → f x ≡ Some y → eqb x c ≡ false
 some_not f c x y h k = by (eqb x c) refl
   where
     by : (b : Bool) → eqb x c ≡ b → b ≡ false
-    by true e = let q : none ≡ some y = sym h ∙ ap f (sym (eqb-true x c e)) ∙ k in let z : ◌≡◌ {A = ℕ} 0 1 = cc in absurd (omega arith)
+    by true e = let q : None ≡ Some y = sym h ∙ ap f (sym (eqb-true x c e)) ∙ k in let z : ◌≡◌ {A = ℕ} 0 1 = cc in absurd (omega arith)
     by false e = refl
 
-each_clear : (f : ℕ → Option ℕ) → f 32 ≡ none → f 9 ≡ none → (xs ys : List ℕ) → each_of f xs ≡ some ys → all_of clear xs ≡ true
+each_clear : (f : ℕ → Option ℕ) → f 32 ≡ None → f 9 ≡ None → (xs ys : List ℕ) → each_of f xs ≡ Some ys → all_of clear xs ≡ true
 each_clear f h k [] ys e = refl
 each_clear f h k (x ∷ xs) ys e = by (f x) refl (each_of f xs) refl e (λ zs. each_clear f h k xs zs)
   where
-    by : (o : Option ℕ) → f x ≡ o → (p : Option (List ℕ)) → each_of f xs ≡ p → cons_both o p ≡ some ys → ((zs : List ℕ) → each_of f xs ≡ some zs → all_of clear xs ≡ true) → all_of clear (x ∷ xs) ≡ true
-    by none a p b e ih = let z : ◌≡◌ {A = ℕ} 0 1 = cc in absurd (omega arith)
-    by (some y) a none b e ih = let z : ◌≡◌ {A = ℕ} 0 1 = cc in absurd (omega arith)
-    by (some y) a (some zs) b e ih = rw (some_not f 32 x y h a, some_not f 9 x y k a, ih zs b)
+    by : (o : Option ℕ) → f x ≡ o → (p : Option (List ℕ)) → each_of f xs ≡ p → cons_both o p ≡ Some ys → ((zs : List ℕ) → each_of f xs ≡ Some zs → all_of clear xs ≡ true) → all_of clear (x ∷ xs) ≡ true
+    by None a p b e ih = let z : ◌≡◌ {A = ℕ} 0 1 = cc in absurd (omega arith)
+    by (Some y) a None b e ih = let z : ◌≡◌ {A = ℕ} 0 1 = cc in absurd (omega arith)
+    by (Some y) a (Some zs) b e ih = rw (some_not f 32 x y h a, some_not f 9 x y k a, ih zs b)
 
-decimal_clear : (t : List ℕ) (n : ℕ) → decimal_of t ≡ some n → all_of clear t ≡ true
+decimal_clear : (t : List ℕ) (n : ℕ) → decimal_of t ≡ Some n → all_of clear t ≡ true
 decimal_clear t n e = by (in_range 1 10 (length t)) e
   where
-    by : (b : Bool) → cond b (each_of (digit_value 10) t >>= λ ds. some (number 10 ds)) none ≡ some n → all_of clear t ≡ true
-    by true e = let (ds, a, b) = bind_some (each_of (digit_value 10) t) (λ ds. some (number 10 ds)) n e in each_clear (digit_value 10) refl refl t ds a
+    by : (b : Bool) → cond b (each_of (digit_value 10) t >>= λ ds. Some (number 10 ds)) None ≡ Some n → all_of clear t ≡ true
+    by true e = let (ds, a, b) = bind_some (each_of (digit_value 10) t) (λ ds. Some (number 10 ds)) n e in each_clear (digit_value 10) refl refl t ds a
     by false e = let z : ◌≡◌ {A = ℕ} 0 1 = cc in absurd (omega arith)
 
 null_is : (t : List ℕ) → null t ≡ true → t ≡ []
 null_is [] h = refl
 null_is (x ∷ t) h = absurd (true≢false (sym h))
 
-qualifier_clear : (p : Part) (q : Qualifier) → qualifier p ≡ some q → all_of clear p.octets ≡ true
+qualifier_clear : (p : Part) (q : Qualifier) → qualifier p ≡ Some q → all_of clear p.octets ≡ true
 qualifier_clear p q e =
     let (s, a, b) = bind_some (name_at p.octets) (if_qualifier p.place) q e in
     let (v, w) = provided_some (is_name (span name_octet p.octets).front) (span name_octet p.octets) s a in
     by s (subst (λ (o : Spanned). ClearTo p.octets o.rest) w (clear_span name_octet name_clear p.octets)) (null s.rest) refl b
   where
     by : (s : Spanned) → ClearTo p.octets s.rest → (b : Bool) → null s.rest ≡ b
-        → cond b (some (word s.front)) (after 61 s.rest >>= λ ds. decimal_of ds >>= λ n. some (symbol (record { spelling = record { place = p.place; octets = s.front }; value = n }))) ≡ some q
+        → cond b (Some (word s.front)) (after 61 s.rest >>= λ ds. decimal_of ds >>= λ n. Some (symbol (record { spelling = record { place = p.place; octets = s.front }; value = n }))) ≡ Some q
         → all_of clear p.octets ≡ true
     by s c true n e = rw (c.parts, null_is s.rest n, append-nil c.front) c.clears
     by s c false n e =
@@ -192,15 +192,15 @@ qualifier_clear p q e =
         let d = clear_trans p.octets s.rest ds c (clear_after 61 refl s.rest ds f) in
         rw d.parts (all_append d.front ds d.clears (decimal_clear ds m i))
 
-pieces_clear : (at : ℕ) (ts : List (List ℕ)) (qs : List Qualifier) → each_of qualifier (placed at ts) ≡ some qs → all_of (all_of clear) ts ≡ true
+pieces_clear : (at : ℕ) (ts : List (List ℕ)) (qs : List Qualifier) → each_of qualifier (placed at ts) ≡ Some qs → all_of (all_of clear) ts ≡ true
 pieces_clear at [] qs e = refl
 pieces_clear at (t ∷ ts) qs e = by (qualifier (record { place = at; octets = t })) refl (each_of qualifier (placed (at + length t + 1) ts)) refl e (λ rs. pieces_clear (at + length t + 1) ts rs)
   where
-    by : (o : Option Qualifier) → qualifier (record { place = at; octets = t }) ≡ o → (p : Option (List Qualifier)) → each_of qualifier (placed (at + length t + 1) ts) ≡ p → cons_both o p ≡ some qs
-        → ((rs : List Qualifier) → each_of qualifier (placed (at + length t + 1) ts) ≡ some rs → all_of (all_of clear) ts ≡ true) → all_of (all_of clear) (t ∷ ts) ≡ true
-    by none a p b e ih = let z : ◌≡◌ {A = ℕ} 0 1 = cc in absurd (omega arith)
-    by (some q) a none b e ih = let z : ◌≡◌ {A = ℕ} 0 1 = cc in absurd (omega arith)
-    by (some q) a (some rs) b e ih = rw (qualifier_clear (record { place = at; octets = t }) q a, ih rs b)
+    by : (o : Option Qualifier) → qualifier (record { place = at; octets = t }) ≡ o → (p : Option (List Qualifier)) → each_of qualifier (placed (at + length t + 1) ts) ≡ p → cons_both o p ≡ Some qs
+        → ((rs : List Qualifier) → each_of qualifier (placed (at + length t + 1) ts) ≡ Some rs → all_of (all_of clear) ts ≡ true) → all_of (all_of clear) (t ∷ ts) ≡ true
+    by None a p b e ih = let z : ◌≡◌ {A = ℕ} 0 1 = cc in absurd (omega arith)
+    by (Some q) a None b e ih = let z : ◌≡◌ {A = ℕ} 0 1 = cc in absurd (omega arith)
+    by (Some q) a (Some rs) b e ih = rw (qualifier_clear (record { place = at; octets = t }) q a, ih rs b)
 
 commas_clear : (xs : List ℕ) → all_of (all_of clear) (split_on 44 xs) ≡ true → all_of clear xs ≡ true
 commas_clear [] h = refl
@@ -214,11 +214,11 @@ commas_clear (x ∷ xs) h = by (eqb x 44) refl (split_on 44 xs) refl h (commas_c
         let b = and_right (clear x && all_of clear t) (all_of (all_of clear) ts) h in
         rw (and_left (clear x) (all_of clear t) a, ih (rw (w, and_right (clear x) (all_of clear t) a, b)))
 
-qualifiers_clear : (end : ℕ) (t : List ℕ) (q : Qualified) → qualifiers_at end t ≡ some q → ClearTo t q.rest
+qualifiers_clear : (end : ℕ) (t : List ℕ) (q : Qualified) → qualifiers_at end t ≡ Some q → ClearTo t q.rest
 qualifiers_clear end [] q e = let w : ◌≡◌ {A = Qualified} (record { qualifiers = []; rest = [] }) q = cc in rw (← w) (clear_none [])
 qualifiers_clear end (x ∷ t) q e = by (eqb x 91) refl e
   where
-    by : (b : Bool) → eqb x 91 ≡ b → cond b (if_qualifiers (end - length t) (span not_bracket t)) (some (record { qualifiers = []; rest = x ∷ t })) ≡ some q → ClearTo (x ∷ t) q.rest
+    by : (b : Bool) → eqb x 91 ≡ b → cond b (if_qualifiers (end - length t) (span not_bracket t)) (Some (record { qualifiers = []; rest = x ∷ t })) ≡ Some q → ClearTo (x ∷ t) q.rest
     by true h e =
         let (qs, a, b) = bind_some (each_of qualifier (placed (end - length t) (split_on 44 (span not_bracket t).front))) _ q e in
         let (r, c, d) = bind_some (after 93 (span not_bracket t).rest) _ q b in
@@ -230,17 +230,17 @@ qualifiers_clear end (x ∷ t) q e = by (eqb x 91) refl e
         rw (← w) (clear_trans (x ∷ t) t r c1 (clear_trans t (span not_bracket t).rest r c2 c3))
     by false h e = let w : ◌≡◌ {A = Qualified} (record { qualifiers = []; rest = x ∷ t }) q = cc in rw (← w) (clear_none (x ∷ t))
 
-field_name_clear : (t : List ℕ) (n : Spanned) → field_name_at t ≡ some n → ClearTo t n.rest
+field_name_clear : (t : List ℕ) (n : Spanned) → field_name_at t ≡ Some n → ClearTo t n.rest
 field_name_clear [] n e = let w : ◌≡◌ {A = Spanned} (record { front = []; rest = [] }) n = cc in rw (← w) (clear_none [])
 field_name_clear (x ∷ t) n e = by (eqb x 58) refl e
   where
-    by : (b : Bool) → eqb x 58 ≡ b → cond b (name_at t) (some (record { front = []; rest = x ∷ t })) ≡ some n → ClearTo (x ∷ t) n.rest
+    by : (b : Bool) → eqb x 58 ≡ b → cond b (name_at t) (Some (record { front = []; rest = x ∷ t })) ≡ Some n → ClearTo (x ∷ t) n.rest
     by true h e =
         let (v, w) = provided_some (is_name (span name_octet t).front) (span name_octet t) n e in
         clear_trans (x ∷ t) t n.rest (record { front = x ∷ []; parts = refl; clears = rw (eqb-true x 58 h) }) (subst (λ (o : Spanned). ClearTo t o.rest) w (clear_span name_octet name_clear t))
     by false h e = let w : ◌≡◌ {A = Spanned} (record { front = []; rest = x ∷ t }) n = cc in rw (← w) (clear_none (x ∷ t))
 
-field_fixed : (end : ℕ) (t : List ℕ) (l : FieldLine) → field_line end t ≡ some l → ThenText t l.free_text.octets
+field_fixed : (end : ℕ) (t : List ℕ) (l : FieldLine) → field_line end t ≡ Some l → ThenText t l.free_text.octets
 field_fixed end t l e =
     let (k, a, b) = bind_some (if_type (span alphanumeric t)) _ l e in
     let (q, c, d) = bind_some (qualifiers_at end k.rest) _ l b in

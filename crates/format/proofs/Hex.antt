@@ -3,7 +3,7 @@ use Prim.Native.Nat.{ℕ, ◌+◌, ◌*◌, ◌/◌, ◌%◌, ◌≤◌, ◌<◌
 use mathlib.Core.Path.{◌≡◌, refl, ap, ◌∙◌, ap₂}
 use mathlib.Core.Bool.{Bool, true, false, cond, ◌&&◌}
 use mathlib.Core.List.{List, [], ◌∷◌, ◌++◌, map}
-use mathlib.Core.Option.{Option, some}
+use Rattle.std.specs.Prelude.{Option, Some}
 use native.Mathlib.Omega.{arith}
 use lib.ListN.{length, drop, length-drop}
 use Rattle.format.specs.Lists.{◌>>=◌, cons_both}
@@ -23,10 +23,10 @@ use Rattle.format.proofs.Wire.{end_some, takes_count}
 use Rattle.format.proofs.Token.{Parted, Plainly, chars_plain, plain_append}
 use Rattle.format.proofs.Field.{Back, FieldLaws, bare_back, all_back, bare_accepted, all_accepted, counted_accepted, Counted, is_counted, counted_octets, counted_some}
 
-pair_reads : (x : ℕ) → x < 256 → hex_pair (map upper_digit (digits 16 2 x)) ≡ some x
-pair_reads x h = ap (λ (o : Option (List ℕ)). o >>= λ ds. some (number 16 ds)) (chars_back upper_digit (digit_value 16) 16 refl (digits 16 2 x) (digits_below 16 2 x (omega arith))) ∙ ap some (number_digits 16 2 x (omega arith) h)
+pair_reads : (x : ℕ) → x < 256 → hex_pair (map upper_digit (digits 16 2 x)) ≡ Some x
+pair_reads x h = ap (λ (o : Option (List ℕ)). o >>= λ ds. Some (number 16 ds)) (chars_back upper_digit (digit_value 16) 16 refl (digits 16 2 x) (digits_below 16 2 x (omega arith))) ∙ ap Some (number_digits 16 2 x (omega arith) h)
 
-hex_reads : (p : List ℕ) → Octets p → from_hex (hex_text p) ≡ some p
+hex_reads : (p : List ℕ) → Octets p → from_hex (hex_text p) ≡ Some p
 hex_reads [] b = refl
 hex_reads (x ∷ p) b = ap₂ cons_both (pair_reads x b.0) (hex_reads p b.1)
 
@@ -59,14 +59,14 @@ counted_length : (xs : List ℕ) → length (counted_hex_text xs) ≤ 2 * length
 counted_length [] = omega arith
 counted_length (x ∷ xs) = omega (arith, hex_length (x ∷ xs))
 
-counted_reads : (xs : List ℕ) → Octets xs → length xs ≤ 255 → read_counted_hex (counted_hex_text xs) ≡ some (with_count xs)
+counted_reads : (xs : List ℕ) → Octets xs → length xs ≤ 255 → read_counted_hex (counted_hex_text xs) ≡ Some (with_count xs)
 counted_reads [] b l = refl
 counted_reads (x ∷ xs) b l = rw (longer _ (upper_digit (x / 16 % 16)) (upper_digit (x % 16)) (hex_text xs), hex_reads (x ∷ xs) b) (counted_some 1 (x ∷ xs) (omega arith) l)
 
-counted_value : (t p : List ℕ) → read_counted_hex t ≡ some p → taken (count 0) p ≡ took (length p)
+counted_value : (t p : List ℕ) → read_counted_hex t ≡ Some p → taken (count 0) p ≡ took (length p)
 counted_value t p e = by (same_octets t (counted_hex_text [])) e
   where
-    by : (c : Bool) → cond c (some (with_count [])) (from_hex t >>= counted 1) ≡ some p → taken (count 0) p ≡ took (length p)
+    by : (c : Bool) → cond c (Some (with_count [])) (from_hex t >>= counted 1) ≡ Some p → taken (count 0) p ≡ took (length p)
     by true e = counted_accepted 0 [] p e
     by false e =
         let (u, a, b) = bind_some (from_hex t) (counted 1) p e in

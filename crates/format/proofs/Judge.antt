@@ -3,7 +3,7 @@ use Prim.Native.Nat.{ℕ, suc, ◌+◌, ◌-◌, ◌^◌, ◌≤◌}
 use mathlib.Core.Path.{◌≡◌, refl, ap, ◌∙◌, subst}
 use mathlib.Core.Bool.{Bool, true, false, not, cond, ◌&&◌, ◌||◌}
 use mathlib.Core.List.{List, [], ◌∷◌, ◌++◌}
-use mathlib.Core.Option.{Option, none, some}
+use Rattle.std.specs.Prelude.{Option, None, Some}
 use native.Mathlib.Omega.{arith}
 use lib.ListN.{length, drop, length-append}
 use lib.Dec.{leb, ltb, eqb}
@@ -27,14 +27,14 @@ abbrev named_symbol : Qualifier → Bool
 named_symbol (word w) = true
 named_symbol (symbol s) = is_name s.spelling.octets
 
-qualifier_named : (p : Part) (q : Qualifier) → qualifier p ≡ some q → named_symbol q ≡ true
+qualifier_named : (p : Part) (q : Qualifier) → qualifier p ≡ Some q → named_symbol q ≡ true
 qualifier_named p q e =
     let (s, a, b) = bind_some (name_at p.octets) (if_qualifier p.place) q e in
     let (c, d) = provided_some (is_name (span name_octet p.octets).front) (span name_octet p.octets) s a in
     by s (rw d at c) (null s.rest) b
   where
     by : (s : Spanned) → is_name s.front ≡ true → (b : Bool)
-        → cond b (some (word s.front)) (after 61 s.rest >>= λ ds. decimal_of ds >>= λ n. some (symbol (record { spelling = record { place = p.place; octets = s.front }; value = n }))) ≡ some q
+        → cond b (Some (word s.front)) (after 61 s.rest >>= λ ds. decimal_of ds >>= λ n. Some (symbol (record { spelling = record { place = p.place; octets = s.front }; value = n }))) ≡ Some q
         → named_symbol q ≡ true
     by s h true e = let w : word s.front ≡ q = cc in rw (← w)
     by s h false e =
@@ -43,17 +43,17 @@ qualifier_named p q e =
         let w : symbol (record { spelling = record { place = p.place; octets = s.front }; value = n }) ≡ q = cc in
         rw (← w) h
 
-no_qualifiers : (r : List ℕ) (q : Qualified) → some (record { qualifiers = []; rest = r }) ≡ some q → all_of named_symbol q.qualifiers ≡ true
+no_qualifiers : (r : List ℕ) (q : Qualified) → Some (record { qualifiers = []; rest = r }) ≡ Some q → all_of named_symbol q.qualifiers ≡ true
 no_qualifiers r q e = let w : ◌≡◌ {A = Qualified} (record { qualifiers = []; rest = r }) q = cc in rw (← w)
 
-qualifiers_named : (end : ℕ) (t : List ℕ) (q : Qualified) → qualifiers_at end t ≡ some q → all_of named_symbol q.qualifiers ≡ true
+qualifiers_named : (end : ℕ) (t : List ℕ) (q : Qualified) → qualifiers_at end t ≡ Some q → all_of named_symbol q.qualifiers ≡ true
 qualifiers_named end [] q e = no_qualifiers [] q e
 qualifiers_named end (x ∷ t) q e = by (eqb x 91) e
   where
     s : Spanned
     s = span not_bracket t
 
-    by : (b : Bool) → cond b (if_qualifiers (end - length t) (span not_bracket t)) (some (record { qualifiers = []; rest = x ∷ t })) ≡ some q → all_of named_symbol q.qualifiers ≡ true
+    by : (b : Bool) → cond b (if_qualifiers (end - length t) (span not_bracket t)) (Some (record { qualifiers = []; rest = x ∷ t })) ≡ Some q → all_of named_symbol q.qualifiers ≡ true
     by true e =
         let (qs, a, b) = bind_some (each_of qualifier (placed (end - length t) (split_on 44 s.front))) _ q e in
         let (r, c, d) = bind_some (after 93 s.rest) _ q b in
@@ -61,7 +61,7 @@ qualifiers_named end (x ∷ t) q e = by (eqb x 91) e
         rw (← w) (each_all qualifier named_symbol qualifier_named (placed (end - length t) (split_on 44 s.front)) qs a)
     by false e = no_qualifiers (x ∷ t) q e
 
-line_named : (end : ℕ) (t : List ℕ) (l : FieldLine) → field_line end t ≡ some l → all_of named_symbol l.qualifiers ≡ true
+line_named : (end : ℕ) (t : List ℕ) (l : FieldLine) → field_line end t ≡ Some l → all_of named_symbol l.qualifiers ≡ true
 line_named end t l e =
     let (k, a, b) = bind_some (if_type (span alphanumeric t)) _ l e in
     let (q, c, d) = bind_some (qualifiers_at end k.rest) _ l b in
@@ -73,23 +73,23 @@ line_named end t l e =
 -- the types: what each row makes is sound
 abbrev Sound-row : Takes → Type 0
 Sound-row (symbols w) = among w (1 ∷ 2 ∷ 4 ∷ []) ≡ true
-Sound-row (words ws f) = (given : List (List ℕ)) (k : Kind) → f given ≡ some k → sound_kind k ≡ true
+Sound-row (words ws f) = (given : List (List ℕ)) (k : Kind) → f given ≡ Some k → sound_kind k ≡ true
 
 abbrev Sound-rows : List TypeRow → Type 0
 Sound-rows [] = Unit {0}
 Sound-rows (r ∷ rs) = Sound-row r.takes × Sound-rows rs
 
-always : (j : Kind) → sound_kind j ≡ true → (given : List (List ℕ)) (k : Kind) → some j ≡ some k → sound_kind k ≡ true
+always : (j : Kind) → sound_kind j ≡ true → (given : List (List ℕ)) (k : Kind) → Some j ≡ Some k → sound_kind k ≡ true
 always j h given k e = let w : j ≡ k = cc in rw (← w) h
 
 either : (i j : Kind) → sound_kind i ≡ true → sound_kind j ≡ true → (b : Bool) → sound_kind (cond b i j) ≡ true
 either i j h k true = h
 either i j h k false = k
 
-strings_sound : (given : List (List ℕ)) (k : Kind) → string_kind given ≡ some k → sound_kind k ≡ true
+strings_sound : (given : List (List ℕ)) (k : Kind) → string_kind given ≡ Some k → sound_kind k ≡ true
 strings_sound given k e = by (has_word given (ascii "M")) (has_word given (ascii "X")) e
   where
-    by : (m x : Bool) → cond m (provided (not x) strs) (some (cond x raw str)) ≡ some k → sound_kind k ≡ true
+    by : (m x : Bool) → cond m (provided (not x) strs) (Some (cond x raw str)) ≡ Some k → sound_kind k ≡ true
     by true true e = cc
     by true false e = always strs refl given k e
     by false x e = always (cond x raw str) (either raw str refl refl x) given k e
@@ -125,44 +125,44 @@ rows_sound =
       ),
     )
   where
-    with_or_without : (i j : Kind) → sound_kind i ≡ true → sound_kind j ≡ true → (given : List (List ℕ)) (k : Kind) → some (cond (null given) i j) ≡ some k → sound_kind k ≡ true
+    with_or_without : (i j : Kind) → sound_kind i ≡ true → sound_kind j ≡ true → (given : List (List ℕ)) (k : Kind) → Some (cond (null given) i j) ≡ Some k → sound_kind k ≡ true
     with_or_without i j h l given k e = always (cond (null given) i j) (either i j h l (null given)) given k e
 
-    names_sound : (given : List (List ℕ)) (k : Kind) → some (name_kind given) ≡ some k → sound_kind k ≡ true
+    names_sound : (given : List (List ℕ)) (k : Kind) → Some (name_kind given) ≡ Some k → sound_kind k ≡ true
     names_sound given k e = always (name_kind given) refl given k e
 
-row_of : (rs : List TypeRow) → Sound-rows rs → (k : List ℕ) (t : Takes) → takes_of rs k ≡ some t → Sound-row t
+row_of : (rs : List TypeRow) → Sound-rows rs → (k : List ℕ) (t : Takes) → takes_of rs k ≡ Some t → Sound-row t
 row_of [] h k t e = let z : ◌≡◌ {A = ℕ} 0 1 = cc in absurd (omega arith)
 row_of (r ∷ rs) h k t e = by (same_octets k r.type_word) e (row_of rs h.1 k t)
   where
-    by : (b : Bool) → cond b (some r.takes) (takes_of rs k) ≡ some t → (takes_of rs k ≡ some t → Sound-row t) → Sound-row t
+    by : (b : Bool) → cond b (Some r.takes) (takes_of rs k) ≡ Some t → (takes_of rs k ≡ Some t → Sound-row t) → Sound-row t
     by true e ih = let w : r.takes ≡ t = cc in subst Sound-row w h.0
     by false e ih = ih e
 
-symbol_sound : (w : ℕ) (q : Qualifier) (s : Symbol) → named_symbol q ≡ true → symbol_of w q ≡ some s → sound_symbol w s ≡ true
+symbol_sound : (w : ℕ) (q : Qualifier) (s : Symbol) → named_symbol q ≡ true → symbol_of w q ≡ Some s → sound_symbol w s ≡ true
 symbol_sound w (word t) s h e = cc
 symbol_sound w (symbol u) s h e = let (a, b) = provided_some (ltb u.value (256 ^ w)) u s e in rw (← b, h, a)
 
-symbols_sound : (w : ℕ) (qs : List Qualifier) (l : List Symbol) → all_of named_symbol qs ≡ true → each_of (symbol_of w) qs ≡ some l → all_of (sound_symbol w) l ≡ true
+symbols_sound : (w : ℕ) (qs : List Qualifier) (l : List Symbol) → all_of named_symbol qs ≡ true → each_of (symbol_of w) qs ≡ Some l → all_of (sound_symbol w) l ≡ true
 symbols_sound w [] l h e = let q : [] ≡ l = cc in rw (← q)
 symbols_sound w (q ∷ qs) l h e = by (symbol_of w q) refl (each_of (symbol_of w) qs) refl e (λ m. symbols_sound w qs m (and_right (named_symbol q) (all_of named_symbol qs) h))
   where
-    by : (o : Option Symbol) → symbol_of w q ≡ o → (p : Option (List Symbol)) → each_of (symbol_of w) qs ≡ p → cons_both o p ≡ some l
-        → ((m : List Symbol) → each_of (symbol_of w) qs ≡ some m → all_of (sound_symbol w) m ≡ true) → all_of (sound_symbol w) l ≡ true
-    by none a p b e ih = cc
-    by (some s) a none b e ih = cc
-    by (some s) a (some m) b e ih = let z : s ∷ m ≡ l = cc in rw (← z, symbol_sound w q s (and_left (named_symbol q) (all_of named_symbol qs) h) a, ih m b)
+    by : (o : Option Symbol) → symbol_of w q ≡ o → (p : Option (List Symbol)) → each_of (symbol_of w) qs ≡ p → cons_both o p ≡ Some l
+        → ((m : List Symbol) → each_of (symbol_of w) qs ≡ Some m → all_of (sound_symbol w) m ≡ true) → all_of (sound_symbol w) l ≡ true
+    by None a p b e ih = cc
+    by (Some s) a None b e ih = cc
+    by (Some s) a (Some m) b e ih = let z : s ∷ m ≡ l = cc in rw (← z, symbol_sound w q s (and_left (named_symbol q) (all_of named_symbol qs) h) a, ih m b)
 
-allowed_sound : (t : Takes) (qs : List Qualifier) (k : Kind) → Sound-row t → all_of named_symbol qs ≡ true → allowed t qs ≡ some k → sound_kind k ≡ true
+allowed_sound : (t : Takes) (qs : List Qualifier) (k : Kind) → Sound-row t → all_of named_symbol qs ≡ true → allowed t qs ≡ Some k → sound_kind k ≡ true
 allowed_sound (symbols w) qs k r h e =
     let (l, a, b) = bind_some (each_of (symbol_of w) qs) (λ l. provided (not (twice same_symbol l)) (int w l)) k e in
     let (c, d) = provided_some (not (twice same_symbol l)) (int w l) k b in
     rw (← d, r, symbols_sound w qs l h a, c)
 allowed_sound (words ws f) qs k r h e =
-    let (given, a, b) = bind_some (each_of word_of qs) (λ given. cond (all_of (has_word ws) given && not (twice same_octets given)) (f given) none) k e in
+    let (given, a, b) = bind_some (each_of word_of qs) (λ given. cond (all_of (has_word ws) given && not (twice same_octets given)) (f given) None) k e in
     by given (all_of (has_word ws) given && not (twice same_octets given)) b
   where
-    by : (given : List (List ℕ)) (b : Bool) → cond b (f given) none ≡ some k → sound_kind k ≡ true
+    by : (given : List (List ℕ)) (b : Bool) → cond b (f given) None ≡ Some k → sound_kind k ≡ true
     by given true e = r given k e
     by given false e = cc
 
@@ -171,12 +171,12 @@ meaning_sound w qs k h e = by (takes_of type_rows w) refl e
   where
     on : (t : Takes) → Sound-row t → (b : Bool) (o : Option Kind) → allowed t qs ≡ o → cond b unknown (or_forbidden o) ≡ means k → sound_kind k ≡ true
     on t r true o a e = cc
-    on t r false none a e = cc
-    on t r false (some j) a e = let z : j ≡ k = cc in allowed_sound t qs k r h (a ∙ ap some z)
+    on t r false None a e = cc
+    on t r false (Some j) a e = let z : j ≡ k = cc in allowed_sound t qs k r h (a ∙ ap Some z)
 
     by : (o : Option Takes) → takes_of type_rows w ≡ o → meaning_of o qs ≡ means k → sound_kind k ≡ true
-    by none a e = cc
-    by (some t) a e = on t (row_of type_rows rows_sound w t a) (any_of unknown_word qs) (allowed t qs) refl e
+    by None a e = cc
+    by (Some t) a e = on t (row_of type_rows rows_sound w t a) (any_of unknown_word qs) (allowed t qs) refl e
 
 -- through the lines
 record Fine (fs : List Field) : Type 0 where
@@ -226,12 +226,12 @@ line_leads : (d : Description) (end : ℕ) (t : List ℕ) → Fine d.fields → 
 line_leads d end t h = by (field_line end t) refl
   where
     by : (o : Option FieldLine) → field_line end t ≡ o → Leading (of_field_line d o)
-    by none e = tt
-    by (some l) e = meaning_leads d l (meaning l.keyword l.qualifiers) h (λ k. meaning_sound l.keyword l.qualifiers k (line_named end t l e))
+    by None e = tt
+    by (Some l) e = meaning_leads d l (meaning l.keyword l.qualifiers) h (λ k. meaning_sound l.keyword l.qualifiers k (line_named end t l e))
 
 header_leads : (o : Option Header) → Leading (of_header o)
-header_leads none = tt
-header_leads (some h) = by (in_range 1 65535 h.type_no)
+header_leads None = tt
+header_leads (Some h) = by (in_range 1 65535 h.type_no)
   where
     by : (b : Bool) → Leading (cond b (goes_on (after_header (record { header = h; fields = [] }))) (faulty 4))
     by true = record { most = omega arith; tails = refl; names = refl; sound = refl }

@@ -3,7 +3,7 @@ use Prim.Native.Nat.{ℕ, zero, suc, ◌+◌, ◌≤◌, ◌<◌}
 use mathlib.Core.Path.{◌≡◌, refl, sym, ap}
 use mathlib.Core.Bool.{Bool, true, false, not, ◌&&◌, ◌||◌}
 use mathlib.Core.List.{List, [], ◌∷◌, ◌++◌, map}
-use mathlib.Core.Option.{Option, none, some}
+use Rattle.std.specs.Prelude.{Option, None, Some}
 use native.Mathlib.Omega.{arith}
 use native.Mathlib.Numerals.{add-one}
 use lib.ListN.{take, drop, length, get_or, drop_of_length-le}
@@ -39,23 +39,23 @@ implied true b h e = h
 implied false b h e = cc
 
 -- what an option that came out was made of
-pub bind_some : {A B : Type 0} (o : Option A) (f : A → Option B) (y : B) → (o >>= f) ≡ some y → (x : A) × (o ≡ some x) × (f x ≡ some y)
-bind_some none f y e = let z : ◌≡◌ {A = ℕ} 0 1 = cc in absurd (omega arith)
-bind_some (some x) f y e = (x, refl, e)
+pub bind_some : {A B : Type 0} (o : Option A) (f : A → Option B) (y : B) → (o >>= f) ≡ Some y → (x : A) × (o ≡ Some x) × (f x ≡ Some y)
+bind_some None f y e = let z : ◌≡◌ {A = ℕ} 0 1 = cc in absurd (omega arith)
+bind_some (Some x) f y e = (x, refl, e)
 
-pub provided_some : {A : Type 0} (b : Bool) (x y : A) → provided b x ≡ some y → (b ≡ true) × (x ≡ y)
+pub provided_some : {A : Type 0} (b : Bool) (x y : A) → provided b x ≡ Some y → (b ≡ true) × (x ≡ y)
 provided_some true x y e = (refl, cc)
 provided_some false x y e = let z : ◌≡◌ {A = ℕ} 0 1 = cc in absurd (omega arith)
 
 -- a test of every value that a partial function gives
-pub each_all : {A B : Type 0} (f : A → Option B) (g : B → Bool) → ((x : A) (y : B) → f x ≡ some y → g y ≡ true) → (xs : List A) (ys : List B) → each_of f xs ≡ some ys → all_of g ys ≡ true
+pub each_all : {A B : Type 0} (f : A → Option B) (g : B → Bool) → ((x : A) (y : B) → f x ≡ Some y → g y ≡ true) → (xs : List A) (ys : List B) → each_of f xs ≡ Some ys → all_of g ys ≡ true
 each_all f g h [] ys e = let q : [] ≡ ys = cc in rw (← q)
 each_all f g h (x ∷ xs) ys e = by (f x) refl (each_of f xs) refl e (each_all f g h xs)
   where
-    by : (o : Option _) → f x ≡ o → (p : Option (List _)) → each_of f xs ≡ p → cons_both o p ≡ some ys → ((zs : List _) → each_of f xs ≡ some zs → all_of g zs ≡ true) → all_of g ys ≡ true
-    by none a p b e ih = cc
-    by (some y) a none b e ih = cc
-    by (some y) a (some zs) b e ih = let q : y ∷ zs ≡ ys = cc in rw (← q, h x y a, ih zs b)
+    by : (o : Option _) → f x ≡ o → (p : Option (List _)) → each_of f xs ≡ p → cons_both o p ≡ Some ys → ((zs : List _) → each_of f xs ≡ Some zs → all_of g zs ≡ true) → all_of g ys ≡ true
+    by None a p b e ih = cc
+    by (Some y) a None b e ih = cc
+    by (Some y) a (Some zs) b e ih = let q : y ∷ zs ≡ ys = cc in rw (← q, h x y a, ih zs b)
 
 -- a split has a part
 pub split_some : {A : Type 0} (f : A → Bool) (xs : List A) → null (split f xs) ≡ false

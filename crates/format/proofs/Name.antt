@@ -3,7 +3,7 @@ use Prim.Native.Nat.{ℕ, zero, suc, ◌+◌, ◌*◌, ◌≤◌, ◌<◌}
 use mathlib.Core.Path.{◌≡◌, refl, sym, ap, ◌∙◌, subst}
 use mathlib.Core.Bool.{Bool, true, false, not, cond, ◌&&◌}
 use mathlib.Core.List.{List, [], ◌∷◌, ◌++◌, map, append_assoc}
-use mathlib.Core.Option.{Option, some}
+use Rattle.std.specs.Prelude.{Option, Some}
 use native.Mathlib.Omega.{arith}
 use lib.ListN.{length, length-append}
 use lib.Dec.{leb, eqb}
@@ -110,13 +110,13 @@ label_kept [] t b = refl
 label_kept (x ∷ l) t b =
     rw (append_assoc (name_escape x) (flat_map name_escape l) (46 ∷ t)) (kept_append (in_bare false) (in_bare false) (name_escape x) (flat_map name_escape l ++ 46 ∷ t) (name_kept x b.0) ∙ label_kept l t b.1)
 
-labels_kept : (ls : List (List ℕ)) → Octets (wire ls) → kept (in_bare false) (dotted ls) ≡ some (in_bare false)
+labels_kept : (ls : List (List ℕ)) → Octets (wire ls) → kept (in_bare false) (dotted ls) ≡ Some (in_bare false)
 labels_kept [] b = refl
 labels_kept (l ∷ ls) b = let (c, d) = below_parts 256 l (wire ls) b.1 in label_kept l (dotted ls) c ∙ labels_kept ls d
 
 -- and its items, split at the dots, are the pieces
 data Reads (t : List ℕ) (ps : List (List ℕ)) : Type 0 where
-  reads : (is : List Item) → unescaped t ≡ some is → map (map octet_of) (split is_dot is) ≡ ps → Reads t ps
+  reads : (is : List Item) → unescaped t ≡ Some is → map (map octet_of) (split is_dot is) ≡ ps → Reads t ps
 
 octet_reads : (x : ℕ) (t l : List ℕ) (ps : List (List ℕ)) → x < 256 → Reads t (l ∷ ps) → Reads (name_escape x ++ t) ((x ∷ l) ∷ ps)
 octet_reads x t l ps h (reads is e f) = by (name_item x h)
@@ -135,12 +135,12 @@ labels_read [] b = reads [] refl refl
 labels_read (l ∷ ls) b = let (c, d) = below_parts 256 l (wire ls) b.1 in label_reads l (dotted ls) (ls ++ [] ∷ []) c (labels_read ls d)
 
 -- which give the wire name back
-label_wire : (o : Option (List ℕ)) (l w : List ℕ) (ps : List (List ℕ)) → 1 ≤ length l → length l ≤ 63 → wire_name o ps ≡ some w → wire_name o (l ∷ ps) ≡ some (with_count l ++ w)
+label_wire : (o : Option (List ℕ)) (l w : List ℕ) (ps : List (List ℕ)) → 1 ≤ length l → length l ≤ 63 → wire_name o ps ≡ Some w → wire_name o (l ∷ ps) ≡ Some (with_count l ++ w)
 unfolding wire_name
 label_wire o l w [] h k e = cc
 label_wire o l w (m ∷ ps) h k e = rw (e, le-leb 1 (length l) h, le-leb (length l) 63 k)
 
-labels_wire : (o : Option (List ℕ)) (ls : List (List ℕ)) → Labels ls → wire_name o (ls ++ [] ∷ []) ≡ some (wire ls)
+labels_wire : (o : Option (List ℕ)) (ls : List (List ℕ)) → Labels ls → wire_name o (ls ++ [] ∷ []) ≡ Some (wire ls)
 unfolding wire_name
 labels_wire o [] h = refl
 labels_wire o (l ∷ ls) h = label_wire o l (wire ls) (ls ++ [] ∷ []) h.0 h.1 (labels_wire o ls h.2)
@@ -158,13 +158,13 @@ begun (c ∷ t) r h = (refl, rw (not_true (eqb c 46) (and_left (not (eqb c 46)) 
 abbrev one_or_none : Bool → (List ℕ → Option (List ℕ)) → List Token → Got
 one_or_none b f ts = cond (b && null ts) (got [] []) (one_bare f ts)
 
-word_back : (b : Bool) (f : List ℕ → Option (List ℕ)) (t p r : List ℕ) → kept between t ≡ some (in_bare false) → f t ≡ some p → Parted r
+word_back : (b : Bool) (f : List ℕ → Option (List ℕ)) (t p r : List ℕ) → kept between t ≡ Some (in_bare false) → f t ≡ Some p → Parted r
     → one_or_none b f (scanned between (t ++ r)) ≡ got p (scanned between r)
 word_back true f t p r k e q = rw (word_scanned t r k q, e)
 word_back false f t p r k e q = rw (word_scanned t r k q, e)
 
-name_reads : (o t : List ℕ) (ls : List (List ℕ)) → same_octets t (ascii ".") ≡ false → same_octets t (ascii "@") ≡ false → Reads t (ls ++ [] ∷ []) → Labels ls → length (wire ls) ≤ 255 → read_name o t ≡ some (wire ls)
-name_reads o t ls a b (reads is e f) h k = rw (b, a, e, f, labels_wire (some o) ls h, le-leb (length (wire ls)) 255 k)
+name_reads : (o t : List ℕ) (ls : List (List ℕ)) → same_octets t (ascii ".") ≡ false → same_octets t (ascii "@") ≡ false → Reads t (ls ++ [] ∷ []) → Labels ls → length (wire ls) ≤ 255 → read_name o t ≡ Some (wire ls)
+name_reads o t ls a b (reads is e f) h k = rw (b, a, e, f, labels_wire (Some o) ls h, le-leb (length (wire ls)) 255 k)
 
 labels_back : (b : Bool) (o r : List ℕ) (ls : List (List ℕ)) → Octets (wire ls) → Labels ls → length (wire ls) ≤ 255 → Parted r
     → one_or_none b (read_name o) (scanned between (name_text (wire ls) ++ r)) ≡ got (wire ls) (scanned between r)
@@ -176,7 +176,7 @@ labels_back b o r ((x ∷ l) ∷ ls) c h k q =
     let a : dotted ((x ∷ l) ∷ ls) ≡ name_escape x ++ t = append_assoc (name_escape x) (flat_map name_escape l) (46 ∷ dotted ls) in
     let (u, v, w) = begun (name_escape x) t (at_each (λ x. begins (name_escape x)) 256 refl x d.0) in
     let m : name_text (wire ((x ∷ l) ∷ ls)) ≡ name_escape x ++ t = name_dotted (x ∷ l) ls ∙ ap or_root a ∙ u in
-    let i : kept between (name_escape x ++ t) ≡ some (in_bare false) = kept_append between (in_bare false) (name_escape x) t (name_begins x d.0) ∙ label_kept l (dotted ls) d.1 ∙ labels_kept ls g in
+    let i : kept between (name_escape x ++ t) ≡ Some (in_bare false) = kept_append between (in_bare false) (name_escape x) t (name_begins x d.0) ∙ label_kept l (dotted ls) d.1 ∙ labels_kept ls g in
     let j = name_reads o (name_escape x ++ t) ((x ∷ l) ∷ ls) v w (rw a at (labels_read ((x ∷ l) ∷ ls) c)) h k in
     rw m (word_back b (read_name o) (name_escape x ++ t) (wire ((x ∷ l) ∷ ls)) r i j q)
 
@@ -205,33 +205,33 @@ origin_name o h = taken_name false o (name_some 0 o (origin_taken o h)) (origin_
 pub wire_name_255 : (o : List ℕ) → is_wire_name o ≡ true → (1 ≤ length o) × (length o ≤ 255)
 wire_name_255 o h = (name_some 0 o (origin_taken o h), (origin_name o h).1)
 
-before_name : (l v w : List ℕ) → Labelled v → label_before l v ≡ some w → Labelled w
+before_name : (l v w : List ℕ) → Labelled v → label_before l v ≡ Some w → Labelled w
 before_name l v w (ls, f, h) e =
     let (a, b) = provided_some (in_range 1 63 (length l)) (with_count l ++ v) w e in
     let (c, d) = both_le 1 (length l) (length l) 63 a in
     (l ∷ ls, sym b ∙ ap (λ r. with_count l ++ r) f, (c, d, h))
 
-wire_accepted : (o w : List ℕ) (ps : List (List ℕ)) → Labelled o → wire_name (some o) ps ≡ some w → Labelled w
+wire_accepted : (o w : List ℕ) (ps : List (List ℕ)) → Labelled o → wire_name (Some o) ps ≡ Some w → Labelled w
 unfolding wire_name
 wire_accepted o w [] n e = let z : ◌≡◌ {A = ℕ} 0 1 = cc in absurd (omega arith)
 wire_accepted o w ([] ∷ []) n e = ([], cc, tt)
 wire_accepted o w ((x ∷ l) ∷ []) n e = before_name (x ∷ l) o w n e
-wire_accepted o w (l ∷ m ∷ ps) n e = let (v, a, b) = bind_some (wire_name (some o) (m ∷ ps)) (label_before l) w e in before_name l v w (wire_accepted o v (m ∷ ps) n a) b
+wire_accepted o w (l ∷ m ∷ ps) n e = let (v, a, b) = bind_some (wire_name (Some o) (m ∷ ps)) (label_before l) w e in before_name l v w (wire_accepted o v (m ∷ ps) n a) b
 
 -- a test's first answer, or what its other one gives
-if_some : {A : Type 0} (P : A → Type 0) (c : Bool) (x p : A) (y : Option A) → P x → (y ≡ some p → P p) → cond c (some x) y ≡ some p → P p
+if_some : {A : Type 0} (P : A → Type 0) (c : Bool) (x p : A) (y : Option A) → P x → (y ≡ Some p → P p) → cond c (Some x) y ≡ Some p → P p
 if_some P true x p y h k e = subst P (cc) h
 if_some P false x p y h k e = k e
 
-text_accepted : (o t p : List ℕ) → WireName o → name_of (some o) t ≡ some p → WireName p
+text_accepted : (o t p : List ℕ) → WireName o → name_of (Some o) t ≡ Some p → WireName p
 text_accepted o t p n e = if_some WireName (same_octets t (ascii ".")) (0 ∷ []) p _ (([], refl, tt), omega arith) (λ f.
     let (is, a, g) = bind_some (unescaped t) _ p f in
-    let (w, b, h) = bind_some (wire_name (some o) _) _ p g in
+    let (w, b, h) = bind_some (wire_name (Some o) _) _ p g in
     let (c, d) = provided_some (leb (length w) 255) w p h in
     subst WireName d (wire_accepted o w _ n.0 b, leb-true (length w) 255 c)) e
 
-name_accepted : (b : Bool) (o : List ℕ) → is_wire_name o ≡ true → (t p : List ℕ) → read_name o t ≡ some p → taken (label_length b 0) p ≡ took (length p)
-name_accepted b o h t p e = let n = origin_name o h in name_taken b p (if_some WireName (same_octets t (ascii "@")) o p (name_of (some o) t) n (text_accepted o t p n) e)
+name_accepted : (b : Bool) (o : List ℕ) → is_wire_name o ≡ true → (t p : List ℕ) → read_name o t ≡ Some p → taken (label_length b 0) p ≡ took (length p)
+name_accepted b o h t p e = let n = origin_name o h in name_taken b p (if_some WireName (same_octets t (ascii "@")) o p (name_of (Some o) t) n (text_accepted o t p n) e)
 
 field_accepted : (b : Bool) (o : List ℕ) → is_wire_name o ≡ true → (ts us : List Token) (p : List ℕ) → one_or_none b (read_name o) ts ≡ got p us → taken (label_length b 0) p ≡ took (length p)
 unfolding taken

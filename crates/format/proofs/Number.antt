@@ -3,7 +3,7 @@ use Prim.Native.Nat.{ℕ, zero, suc, ◌/◌, ◌^◌, ◌≤◌, ◌<◌}
 use mathlib.Core.Path.{◌≡◌, refl, sym, ap, ◌∙◌}
 use mathlib.Core.Bool.{Bool, true, false, not, cond, ◌&&◌, ◌||◌, true≢false}
 use mathlib.Core.List.{List, [], ◌∷◌}
-use mathlib.Core.Option.{Option, none, some}
+use Rattle.std.specs.Prelude.{Option, None, Some}
 use native.Mathlib.Omega.{arith}
 use native.Mathlib.Nat.{div-lt_iff_lt-mul, pow-suc, pow-zero, zero-mod, pow-le-pow_right}
 use lib.ListN.{length, length-map}
@@ -68,16 +68,16 @@ letter_name : (x : ℕ) → letter x ≡ true → name_octet x ≡ true
 letter_name x h = rw h
 
 -- a letter is no decimal digit
-letter_no_digit : (x : ℕ) → letter x ≡ true → digit_value 10 x ≡ none
+letter_no_digit : (x : ℕ) → letter x ≡ true → digit_value 10 x ≡ None
 letter_no_digit x h = is_none_lem (digit_value 10 x) (implied (letter x) (is_none (digit_value 10 x)) (at_each (λ x. not (letter x) || is_none (digit_value 10 x)) 123 refl x (small_name x (letter_name x h))) h)
   where
     is_none : Option ℕ → Bool
-    is_none none = true
-    is_none (some v) = false
+    is_none None = true
+    is_none (Some v) = false
 
-    is_none_lem : (o : Option ℕ) → is_none o ≡ true → o ≡ none
-    is_none_lem none e = refl
-    is_none_lem (some v) e = cc
+    is_none_lem : (o : Option ℕ) → is_none o ≡ true → o ≡ None
+    is_none_lem None e = refl
+    is_none_lem (Some v) e = cc
 
 names_plain : (t : List ℕ) → all_of name_octet t ≡ true → Plainly t
 names_plain [] h = tt
@@ -88,7 +88,7 @@ pub record Named (t : List ℕ) : Type 0 where
   pub plain : Plainly t
   pub some_octet : 1 ≤ length t
   pub short : length t ≤ 63
-  pub no_number : decimal_of t ≡ none
+  pub no_number : decimal_of t ≡ None
 
 pub named : (t : List ℕ) → is_name t ≡ true → Named t
 named [] h = let z : ◌≡◌ {A = ℕ} 0 1 = cc in absurd (omega arith)
@@ -101,7 +101,7 @@ named (x ∷ t) h =
       no_number = rw (letter_no_digit x (and_left (letter x) (all_of name_octet (x ∷ t)) a)) (either (in_range 1 10 (suc (length t))));
     }
   where
-    either : (b : Bool) → cond {A = Option ℕ} b none none ≡ none
+    either : (b : Bool) → cond {A = Option ℕ} b None None ≡ None
     either true = refl
     either false = refl
 
@@ -112,7 +112,7 @@ same_word_lem (x ∷ t) = rw (eq-eqb (lowered x) (lowered x) refl, same_word_lem
 -- A number prints in decimal, or as a symbol that reads back; a test that no spelling passes, the symbol does not pass.
 data Printed (l : List Symbol) (v : ℕ) : Type 0 where
   in_decimal : symbol_or_decimal l v ≡ decimal v → Printed l v
-  by_symbol : (t : List ℕ) → is_name t ≡ true → symbol_or_decimal l v ≡ t → symbol_value l t ≡ some v
+  by_symbol : (t : List ℕ) → is_name t ≡ true → symbol_or_decimal l v ≡ t → symbol_value l t ≡ Some v
       → ((f : List ℕ → Bool) → any_of (λ s. f s.spelling.octets) l ≡ false → f t ≡ false) → Printed l v
 
 printed : (w : ℕ) (l : List Symbol) (v : ℕ) → all_of (sound_symbol w) l ≡ true → twice same_symbol l ≡ false → Printed l v
@@ -137,7 +137,7 @@ printed w (s ∷ ss) v h d =
 
 -- what a number's text is
 record Text (w : ℕ) (l : List Symbol) (v : ℕ) : Type 0 where
-  reads : read_integer w l (symbol_or_decimal l v) ≡ some (digits 256 w v)
+  reads : read_integer w l (symbol_or_decimal l v) ≡ Some (digits 256 w v)
   some_octet : 1 ≤ length (symbol_or_decimal l v)
   plain : Plainly (symbol_or_decimal l v)
   short : length (symbol_or_decimal l v) ≤ 63
@@ -181,15 +181,15 @@ module _ (w : ℕ) (l : List Symbol) (h : sound_kind (int w l) ≡ true) where
       (and_right (among w (1 ∷ 2 ∷ 4 ∷ [])) (all_of (sound_symbol w) l) (and_left (among w (1 ∷ 2 ∷ 4 ∷ []) && all_of (sound_symbol w) l) (not (twice same_symbol l)) h))
       (not_true (twice same_symbol l) (and_right (among w (1 ∷ 2 ∷ 4 ∷ []) && all_of (sound_symbol w) l) (not (twice same_symbol l)) h)))
 
-  reads_octets : (t p : List ℕ) → read_integer w l t ≡ some p → length p ≡ w
-  reads_octets t p e = let (v, a, b) = bind_some (or_else (below (256 ^ w) (decimal_of t)) (symbol_value l t)) (λ v. some (digits 256 w v)) p e in let q : digits 256 w v ≡ p = cc in rw (← q) (digits_length 256 w v)
+  reads_octets : (t p : List ℕ) → read_integer w l t ≡ Some p → length p ≡ w
+  reads_octets t p e = let (v, a, b) = bind_some (or_else (below (256 ^ w) (decimal_of t)) (symbol_value l t)) (λ v. Some (digits 256 w v)) p e in let q : digits 256 w v ≡ p = cc in rw (← q) (digits_length 256 w v)
 
   pub int_laws : (c : List TypeName) → FieldLaws c (int w l)
   unfolding Back shown read_field
   int_laws c = record {
     back = λ o p b e r q t.
         let x = text p b e in
-        bare_back (read_integer w l) (symbol_or_decimal l (number 256 p)) p r x.some_octet x.plain (x.reads ∙ ap some ((integers w).1 p b (octets_taken w p small.0 e))) q;
+        bare_back (read_integer w l) (symbol_or_decimal l (number 256 p)) p r x.some_octet x.plain (x.reads ∙ ap Some ((integers w).1 p b (octets_taken w p small.0 e))) q;
     bound = λ p b e. omega (arith, (text p b e).short);
     accepted = λ o n ts us p e. width_accepted w small.0 (read_integer w l) reads_octets ts us p e;
   }

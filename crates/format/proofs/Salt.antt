@@ -3,7 +3,7 @@ use Prim.Native.Nat.{ℕ}
 use mathlib.Core.Path.{◌≡◌, refl, ap}
 use mathlib.Core.Bool.{false}
 use mathlib.Core.List.{List, [], ◌∷◌, ◌++◌}
-use mathlib.Core.Option.{Option, none, some}
+use Rattle.std.specs.Prelude.{Option, None, Some}
 use lib.ListN.{drop}
 use Rattle.format.specs.Lists.{◌>>=◌, cons_both, null}
 use Rattle.format.specs.Octets.{ascii, same_octets}
@@ -15,14 +15,14 @@ use Rattle.format.specs.Salt.{NoSalt}
 use Rattle.format.proofs.Lists.{longer}
 
 -- `-` is no digit, and one that is none leaves no value
-none_after : (o : Option ℕ) (p : Option (List ℕ)) → p ≡ none → cons_both o p ≡ none
-none_after none p e = refl
-none_after (some x) p e = rw e refl
+none_after : (o : Option ℕ) (p : Option (List ℕ)) → p ≡ None → cons_both o p ≡ None
+none_after None p e = refl
+none_after (Some x) p e = rw e refl
 
-no_pair : (x : ℕ) → hex_pair (x ∷ ascii "-") ≡ none
-no_pair x = ap (λ (p : Option (List ℕ)). p >>= λ ds. some (number 16 ds)) (none_after (digit_value 16 x) none refl)
+no_pair : (x : ℕ) → hex_pair (x ∷ ascii "-") ≡ None
+no_pair x = ap (λ (p : Option (List ℕ)). p >>= λ ds. Some (number 16 ds)) (none_after (digit_value 16 x) None refl)
 
-no_hex : (a b : List ℕ) → from_hex (a ++ ascii "-" ++ b) ≡ none
+no_hex : (a b : List ℕ) → from_hex (a ++ ascii "-" ++ b) ≡ None
 no_hex [] [] = refl
 no_hex [] (y ∷ b) = refl
 no_hex (x ∷ []) b = rw (no_pair x) refl

@@ -3,7 +3,7 @@ use Prim.Native.Nat.{ℕ, zero, suc, ◌+◌, ◌*◌, ◌≤◌}
 use mathlib.Core.Path.{◌≡◌, refl, sym, ap, ◌∙◌, subst}
 use mathlib.Core.Bool.{Bool, true, false, cond}
 use mathlib.Core.List.{List, [], ◌∷◌, ◌++◌, map, append_assoc, append-nil}
-use mathlib.Core.Option.{Option, none, some}
+use Rattle.std.specs.Prelude.{Option, None, Some}
 use native.Mathlib.Omega.{arith}
 use lib.ListN.{length, drop, length-append, length-drop}
 use Rattle.format.specs.Lists.{◌>>=◌, cons_both, each_of, null, flat, flat_map, parted}
@@ -58,10 +58,10 @@ string_bound xs = omega (arith, escapes_bound string_escape (escape_bound 0x20 (
 string_scanned : (s r : List ℕ) → Octets s → Parted r → scanned between (string_text s ++ r) ≡ quoted (flat_map string_escape s) ∷ scanned between r
 string_scanned s r b q = quote_scanned (flat_map string_escape s) r (strings_kept s b) q
 
-string_reads : (s : List ℕ) → Octets s → length s ≤ 255 → read_string (quoted (flat_map string_escape s)) ≡ some (with_count s)
+string_reads : (s : List ℕ) → Octets s → length s ≤ 255 → read_string (quoted (flat_map string_escape s)) ≡ Some (with_count s)
 string_reads s b h = let (is, g, k) = string_read s b in rw (g, k) (counted_some 0 s (omega arith) h)
 
-string_back : (f : List ℕ → Option (List ℕ)) (s p r : List ℕ) → Octets s → f s ≡ some p → Parted r → one_token (λ t. string_value t >>= f) (scanned between (string_text s ++ r)) ≡ got p (scanned between r)
+string_back : (f : List ℕ → Option (List ℕ)) (s p r : List ℕ) → Octets s → f s ≡ Some p → Parted r → one_token (λ t. string_value t >>= f) (scanned between (string_text s ++ r)) ≡ got p (scanned between r)
 string_back f s p r b e q = let (is, g, h) = string_read s b in rw (string_scanned s r b q, g, h, e)
 
 pub str_laws : (c : List TypeName) → FieldLaws c str
@@ -133,7 +133,7 @@ strings_taken (suc m) b (suc n ∷ p) h o e =
     (s ∷ ss, with_rest (suc n) p s q (flat_map with_count ss) f l g, (omega (arith, o.0), c, k))
 
 -- their text reads to them
-list_read : (ss : List (List ℕ)) → Strings ss → each_of read_string (scanned between (parted (32 ∷ []) (map string_text ss))) ≡ some (map with_count ss)
+list_read : (ss : List (List ℕ)) → Strings ss → each_of read_string (scanned between (parted (32 ∷ []) (map string_text ss))) ≡ Some (map with_count ss)
 list_read [] h = rw none_scanned
 list_read (s ∷ []) h = rw (← (append-nil (string_text s))) (rw (string_scanned s [] h.1 at_end_of_text, none_scanned, string_reads s h.1 h.0))
 list_read (s ∷ t ∷ ss) h =
@@ -151,12 +151,12 @@ unfolding taken
 string_before b [] q e = rw e
 string_before b (x ∷ s) q e = rw (takes_piece string_octet (string_count true) (λ x. refl) (λ n x. refl) (λ n. refl) (length s) (x ∷ s) q refl e)
 
-both_some : {A : Type 0} (o : Option A) (v : Option (List A)) (l : List A) → cons_both o v ≡ some l → (x : A) × (xs : List A) × (o ≡ some x) × (v ≡ some xs) × (l ≡ x ∷ xs)
-both_some none v l e = let z : ◌≡◌ {A = ℕ} 0 1 = cc in absurd (omega arith)
-both_some (some x) none l e = let z : ◌≡◌ {A = ℕ} 0 1 = cc in absurd (omega arith)
-both_some (some x) (some xs) l e = (x, xs, refl, refl, cc)
+both_some : {A : Type 0} (o : Option A) (v : Option (List A)) (l : List A) → cons_both o v ≡ Some l → (x : A) × (xs : List A) × (o ≡ Some x) × (v ≡ Some xs) × (l ≡ x ∷ xs)
+both_some None v l e = let z : ◌≡◌ {A = ℕ} 0 1 = cc in absurd (omega arith)
+both_some (Some x) None l e = let z : ◌≡◌ {A = ℕ} 0 1 = cc in absurd (omega arith)
+both_some (Some x) (Some xs) l e = (x, xs, refl, refl, cc)
 
-strings_accepted : (b : Bool) (ts : List Token) (l : List (List ℕ)) → (null ts ≡ true → b ≡ true) → each_of read_string ts ≡ some l → taken (string_count b) (flat l) ≡ took (length (flat l))
+strings_accepted : (b : Bool) (ts : List Token) (l : List (List ℕ)) → (null ts ≡ true → b ≡ true) → each_of read_string ts ≡ Some l → taken (string_count b) (flat l) ≡ took (length (flat l))
 unfolding taken
 strings_accepted b [] l n e = let f : l ≡ [] = cc in rw (f, n refl)
 strings_accepted b (t ∷ ts) l n e =
@@ -177,7 +177,7 @@ strs_laws c = record {
   accepted = λ o n ts us p e. accepted o ts us p e;
 }
   where
-    reads : (o : List ℕ) (ts : List Token) (s : List ℕ) (ss : List (List ℕ)) → each_of read_string ts ≡ some (map with_count (s ∷ ss)) → read_field c strs o ts ≡ got (flat_map with_count (s ∷ ss)) []
+    reads : (o : List ℕ) (ts : List Token) (s : List ℕ) (ss : List (List ℕ)) → each_of read_string ts ≡ Some (map with_count (s ∷ ss)) → read_field c strs o ts ≡ got (flat_map with_count (s ∷ ss)) []
     reads o [] s ss e = cc
     reads o (t ∷ ts) s ss e = rw (e, flat_map_lem with_count ss)
 
@@ -193,6 +193,6 @@ strs_laws c = record {
     accepted : (o : List ℕ) (ts us : List Token) (p : List ℕ) → read_field c strs o ts ≡ got p us → taken (string_count false) p ≡ took (length p)
     accepted o [] us p e = let z : ◌≡◌ {A = ℕ} 0 1 = cc in absurd (omega arith)
     accepted o (t ∷ ts) us p e =
-        let (l, a, d) = bind_some (each_of read_string (t ∷ ts)) (λ l. some (flat l)) p (got_some (each_of read_string (t ∷ ts) >>= λ l. some (flat l)) [] us p e) in
+        let (l, a, d) = bind_some (each_of read_string (t ∷ ts)) (λ l. Some (flat l)) p (got_some (each_of read_string (t ∷ ts) >>= λ l. Some (flat l)) [] us p e) in
         let w : flat l ≡ p = cc in
         rw w at (strings_accepted false (t ∷ ts) l (λ z. z) a)

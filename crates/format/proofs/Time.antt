@@ -3,7 +3,7 @@ use Prim.Native.Nat.{ℕ, zero, suc, ◌+◌, ◌*◌, ◌-◌, ◌/◌, ◌%◌
 use mathlib.Core.Path.{◌≡◌, refl, ap, ◌∙◌}
 use mathlib.Core.Bool.{Bool, true, false, cond}
 use mathlib.Core.List.{List, [], ◌∷◌, ◌++◌}
-use mathlib.Core.Option.{some}
+use Rattle.std.specs.Prelude.{Some}
 use native.Mathlib.Omega.{arith}
 use native.Mathlib.Nat.{div-div-eq-div-mul}
 use lib.ListN.{length}
@@ -47,7 +47,7 @@ day_found (suc f) k d h = by (ltb d (month_length k)) refl (λ j. day_found f (s
         rw t (on l (day_from f (suc k) (d - month_length k)) (ih (omega arith)))
 
 moment_back : (m e s : ℕ) → m < 1644 → e < month_length m → s < 86400
-    → moment (1970 + m / 12) (m % 12 + 1) (e + 1) (s / 3600) (s / 60 % 60) (s % 60) ≡ some ((days_before m + e) * 86400 + s)
+    → moment (1970 + m / 12) (m % 12 + 1) (e + 1) (s / 3600) (s / 60 % 60) (s % 60) ≡ Some ((days_before m + e) * 86400 + s)
 moment_back m e s h k l =
     let i : (1970 + m / 12 - 1970) * 12 + (m % 12 + 1 - 1) ≡ m = omega arith in
     let d : s / 60 / 60 ≡ s / 3600 = div-div-eq-div-mul s 60 60 in
@@ -63,7 +63,7 @@ moment_back m e s h k l =
       le-leb (s / 60 % 60) 59 (omega arith),
       le-leb (s % 60) 59 (omega arith),
     )
-    (ap some (omega arith))
+    (ap Some (omega arith))
 
 abbrev moment_digits : Day → ℕ → List ℕ
 moment_digits r s = digits 10 4 (1970 + r.month / 12) ++ digits 10 2 (r.month % 12 + 1) ++ digits 10 2 (r.day + 1) ++ digits 10 2 (s / 3600) ++ digits 10 2 (s / 60 % 60) ++ digits 10 2 (s % 60)
@@ -72,7 +72,7 @@ moment_below : (r : Day) (s : ℕ) → Below 10 (moment_digits r s)
 moment_below r s = omega arith
 
 time_reads : (r : Day) (s n : ℕ) → r.month < 1644 → r.day < month_length r.month → s < 86400 → (days_before r.month + r.day) * 86400 + s ≡ n → n < 2 ^ 32 → r.day < 99
-    → read_time (moment_text r s) ≡ some (digits 256 4 n)
+    → read_time (moment_text r s) ≡ Some (digits 256 4 n)
 time_reads r s n h k l e f g =
     rw (
       chars_back upper_digit (digit_value 10) 10 refl (moment_digits r s) (moment_below r s),
@@ -96,15 +96,15 @@ short_month false b false = omega arith
 month_31 : (k : ℕ) → month_length k ≤ 31
 month_31 k = short_month (eqb (k % 12) 1) (leap (1970 + k / 12)) (among (k % 12) (3 ∷ 5 ∷ 8 ∷ 10 ∷ []))
 
-time_text_lem : (n : ℕ) → n < 2 ^ 32 → read_time (time_text n) ≡ some (digits 256 4 n)
+time_text_lem : (n : ℕ) → n < 2 ^ 32 → read_time (time_text n) ≡ Some (digits 256 4 n)
 time_text_lem n h = by (day_of (n / 86400)) (day_found 1644 0 (n / 86400) (omega arith))
   where
-    by : (r : Day) → Found 0 (n / 86400) r (0 + 1644) → read_time (moment_text r (n % 86400)) ≡ some (digits 256 4 n)
+    by : (r : Day) → Found 0 (n / 86400) r (0 + 1644) → read_time (moment_text r (n % 86400)) ≡ Some (digits 256 4 n)
     by r (found a b c) = time_reads r (n % 86400) n (omega arith) b (omega arith) (omega arith) h (omega (arith, month_31 r.month))
 
-four_octets : (t p : List ℕ) → read_time t ≡ some p → length p ≡ 4
+four_octets : (t p : List ℕ) → read_time t ≡ Some p → length p ≡ 4
 four_octets t p e =
-    let (v, a, b) = bind_some (below (2 ^ 32) (cond (eqb (length t) 14) (each_of (digit_value 10) t >>= moment_of) (decimal_of t))) (λ v. some (digits 256 4 v)) p e in
+    let (v, a, b) = bind_some (below (2 ^ 32) (cond (eqb (length t) 14) (each_of (digit_value 10) t >>= moment_of) (decimal_of t))) (λ v. Some (digits 256 4 v)) p e in
     let q : digits 256 4 v ≡ p = cc in rw (← q) (digits_length 256 4 v)
 
 pub time_laws : (c : List TypeName) → FieldLaws c time
@@ -115,7 +115,7 @@ time_laws c = record {
       let v : number 256 p < 256 ^ 4 = rw w at (number_bound 256 p b) in
       bare_back read_time (time_text (number 256 p)) p r (omega arith)
       (chars_plain upper_digit 10 refl (moment_digits (day_of (number 256 p / 86400)) (number 256 p % 86400)) (moment_below (day_of (number 256 p / 86400)) (number 256 p % 86400)))
-      (time_text_lem (number 256 p) (omega arith) ∙ ap some ((integers 4).1 p b w)) q;
+      (time_text_lem (number 256 p) (omega arith) ∙ ap Some ((integers 4).1 p b w)) q;
   bound = λ p b e. omega arith;
   accepted = λ o n ts us p e. width_accepted 4 (omega arith) read_time four_octets ts us p e;
 }

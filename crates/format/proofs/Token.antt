@@ -3,7 +3,7 @@ use Prim.Native.Nat.{ℕ, ◌<◌}
 use mathlib.Core.Path.{◌≡◌, refl, ◌∙◌}
 use mathlib.Core.Bool.{Bool, true, false, not, ◌&&◌, ◌||◌}
 use mathlib.Core.List.{List, [], ◌∷◌, ◌++◌, map, append_assoc, append-nil}
-use mathlib.Core.Option.{Option, none, some}
+use Rattle.std.specs.Prelude.{Option, None, Some}
 use native.Mathlib.Omega.{arith}
 use lib.Dec.{eqb}
 use borrow.Author.Tests.{eqb-true}
@@ -66,25 +66,25 @@ bare_scanned x t r h p = rw (from_between x h.0, rest_scanned t r h.1 p)
 
 -- where a scan comes to that keeps every octet
 abbrev pub on_keep : ScanMove → (Scan → Option Scan) → Option Scan
-on_keep (skip s) f = none
+on_keep (skip s) f = None
 on_keep (keep s) f = f s
-on_keep end_bare f = none
-on_keep end_quoted f = none
-on_keep breaks f = none
+on_keep end_bare f = None
+on_keep end_quoted f = None
+on_keep breaks f = None
 
 abbrev pub kept : Scan → List ℕ → Option Scan
-kept s [] = some s
+kept s [] = Some s
 kept s (x ∷ xs) = on_keep (scan_step s x) (λ t. kept t xs)
 
 abbrev pub onto_all : List ℕ → List Token → List Token
 onto_all [] ts = ts
 onto_all (x ∷ xs) ts = into_first x (onto_all xs ts)
 
-pub kept_append : (s t : Scan) (xs ys : List ℕ) → kept s xs ≡ some t → kept s (xs ++ ys) ≡ kept t ys
+pub kept_append : (s t : Scan) (xs ys : List ℕ) → kept s xs ≡ Some t → kept s (xs ++ ys) ≡ kept t ys
 kept_append s t [] ys e = let h : s ≡ t = cc in rw h
 kept_append s t (x ∷ xs) ys e = by (scan_step s x) refl e (λ u. kept_append u t xs ys)
   where
-    by : (m : ScanMove) → scan_step s x ≡ m → on_keep m (λ t. kept t xs) ≡ some t → ((u : Scan) → kept u xs ≡ some t → kept u (xs ++ ys) ≡ kept t ys)
+    by : (m : ScanMove) → scan_step s x ≡ m → on_keep m (λ t. kept t xs) ≡ Some t → ((u : Scan) → kept u xs ≡ Some t → kept u (xs ++ ys) ≡ kept t ys)
         → on_keep (scan_step s x) (λ t. kept t (xs ++ ys)) ≡ kept t ys
     by (skip u) p f ih = cc
     by (keep u) p f ih = rw (p, ih u f)
@@ -92,12 +92,12 @@ kept_append s t (x ∷ xs) ys e = by (scan_step s x) refl e (λ u. kept_append u
     by end_quoted p f ih = cc
     by breaks p f ih = cc
 
-kept_scanned : (s t : Scan) (xs r : List ℕ) → kept s xs ≡ some t → scanned s (xs ++ r) ≡ onto_all xs (scanned t r)
+kept_scanned : (s t : Scan) (xs r : List ℕ) → kept s xs ≡ Some t → scanned s (xs ++ r) ≡ onto_all xs (scanned t r)
 unfolding scanned
 kept_scanned s t [] r e = let h : s ≡ t = cc in rw h
 kept_scanned s t (x ∷ xs) r e = by (scan_step s x) refl e (λ u. kept_scanned u t xs r)
   where
-    by : (m : ScanMove) → scan_step s x ≡ m → on_keep m (λ t. kept t xs) ≡ some t → ((u : Scan) → kept u xs ≡ some t → scanned u (xs ++ r) ≡ onto_all xs (scanned t r))
+    by : (m : ScanMove) → scan_step s x ≡ m → on_keep m (λ t. kept t xs) ≡ Some t → ((u : Scan) → kept u xs ≡ Some t → scanned u (xs ++ r) ≡ onto_all xs (scanned t r))
         → after_scan x (scan_step s x) (λ t. scanned t (xs ++ r)) ≡ into_first x (onto_all xs (scanned t r))
     by (skip u) p f ih = cc
     by (keep u) p f ih = rw (p, ih u f)
@@ -132,120 +132,120 @@ unfolding scanned
 closing xs = refl
 
 -- a quoted token
-pub quote_scanned : (t r : List ℕ) → kept (in_quotes 34 false) t ≡ some (in_quotes 34 false) → Parted r → scanned between (34 ∷ (t ++ 34 ∷ []) ++ r) ≡ quoted t ∷ scanned between r
+pub quote_scanned : (t r : List ℕ) → kept (in_quotes 34 false) t ≡ Some (in_quotes 34 false) → Parted r → scanned between (34 ∷ (t ++ 34 ∷ []) ++ r) ≡ quoted t ∷ scanned between r
 quote_scanned t r e p =
     rw (opening ((t ++ 34 ∷ []) ++ r), append_assoc t (34 ∷ []) r, kept_scanned (in_quotes 34 false) (in_quotes 34 false) t (34 ∷ r) e, closing r, closed_scanned r p, onto_quote t [] (scanned between r), append-nil t)
 
 -- a bare token
-pub word_scanned : (t r : List ℕ) → kept between t ≡ some (in_bare false) → Parted r → scanned between (t ++ r) ≡ bare t ∷ scanned between r
+pub word_scanned : (t r : List ℕ) → kept between t ≡ Some (in_bare false) → Parted r → scanned between (t ++ r) ≡ bare t ∷ scanned between r
 word_scanned t r e p = rw (kept_scanned between (in_bare false) t r e, open_scanned r p, onto_bare t [] (scanned between r), append-nil t)
 
 -- the escapes of each octet, by a test of all 256
 abbrev same_scan : Bool → Option Scan → Bool
-same_scan q none = false
-same_scan q (some between) = false
-same_scan q (some (in_bare e)) = not q && not e
-same_scan q (some (in_quotes c e)) = q && not e && eqb c 34
-same_scan q (some closed) = false
+same_scan q None = false
+same_scan q (Some between) = false
+same_scan q (Some (in_bare e)) = not q && not e
+same_scan q (Some (in_quotes c e)) = q && not e && eqb c 34
+same_scan q (Some closed) = false
 
-is_quote : (v : Option Scan) → same_scan true v ≡ true → v ≡ some (in_quotes 34 false)
-is_quote none h = cc
-is_quote (some between) h = cc
-is_quote (some (in_bare e)) h = cc
-is_quote (some (in_quotes c true)) h = cc
-is_quote (some (in_quotes c false)) h = let e : c ≡ 34 = eqb-true c 34 h in rw e
-is_quote (some closed) h = cc
+is_quote : (v : Option Scan) → same_scan true v ≡ true → v ≡ Some (in_quotes 34 false)
+is_quote None h = cc
+is_quote (Some between) h = cc
+is_quote (Some (in_bare e)) h = cc
+is_quote (Some (in_quotes c true)) h = cc
+is_quote (Some (in_quotes c false)) h = let e : c ≡ 34 = eqb-true c 34 h in rw e
+is_quote (Some closed) h = cc
 
-is_bare : (v : Option Scan) → same_scan false v ≡ true → v ≡ some (in_bare false)
-is_bare none h = cc
-is_bare (some between) h = cc
-is_bare (some (in_bare true)) h = cc
-is_bare (some (in_bare false)) h = refl
-is_bare (some (in_quotes c e)) h = cc
-is_bare (some closed) h = cc
+is_bare : (v : Option Scan) → same_scan false v ≡ true → v ≡ Some (in_bare false)
+is_bare None h = cc
+is_bare (Some between) h = cc
+is_bare (Some (in_bare true)) h = cc
+is_bare (Some (in_bare false)) h = refl
+is_bare (Some (in_quotes c e)) h = cc
+is_bare (Some closed) h = cc
 
-string_kept : (x : ℕ) → x < 256 → kept (in_quotes 34 false) (string_escape x) ≡ some (in_quotes 34 false)
+string_kept : (x : ℕ) → x < 256 → kept (in_quotes 34 false) (string_escape x) ≡ Some (in_quotes 34 false)
 string_kept x h = is_quote _ (at_each (λ x. same_scan true (kept (in_quotes 34 false) (string_escape x))) 256 refl x h)
 
-pub name_kept : (x : ℕ) → x < 256 → kept (in_bare false) (name_escape x) ≡ some (in_bare false)
+pub name_kept : (x : ℕ) → x < 256 → kept (in_bare false) (name_escape x) ≡ Some (in_bare false)
 name_kept x h = is_bare _ (at_each (λ x. same_scan false (kept (in_bare false) (name_escape x))) 256 refl x h)
 
-pub name_begins : (x : ℕ) → x < 256 → kept between (name_escape x) ≡ some (in_bare false)
+pub name_begins : (x : ℕ) → x < 256 → kept between (name_escape x) ≡ Some (in_bare false)
 name_begins x h = is_bare _ (at_each (λ x. same_scan false (kept between (name_escape x))) 256 refl x h)
 
-pub strings_kept : (xs : List ℕ) → Below 256 xs → kept (in_quotes 34 false) (flat_map string_escape xs) ≡ some (in_quotes 34 false)
+pub strings_kept : (xs : List ℕ) → Below 256 xs → kept (in_quotes 34 false) (flat_map string_escape xs) ≡ Some (in_quotes 34 false)
 strings_kept [] h = refl
 strings_kept (x ∷ xs) h = kept_append (in_quotes 34 false) (in_quotes 34 false) (string_escape x) (flat_map string_escape xs) (string_kept x h.0) ∙ strings_kept xs h.1
 
 -- what the last octet of an escape, and one before it, do
 abbrev pub at_last : EscapeMove → Option Item
-at_last (moves e) = none
-at_last (gives i) = some i
-at_last bad_escape = none
+at_last (moves e) = None
+at_last (gives i) = Some i
+at_last bad_escape = None
 
 abbrev pub before : EscapeMove → (Escaping → Option Item) → Option Item
 before (moves e) f = f e
-before (gives i) f = none
-before bad_escape f = none
+before (gives i) f = None
+before bad_escape f = None
 
 -- the one item of an octet's text
 abbrev pub given : Escaping → List ℕ → Option Item
-given e [] = none
+given e [] = None
 given e (x ∷ []) = at_last (escape_step e x)
 given e (x ∷ y ∷ xs) = before (escape_step e x) (λ f. given f (y ∷ xs))
 
-pub given_unescaped : (e : Escaping) (t r : List ℕ) (i : Item) → given e t ≡ some i → unescaped_from e (t ++ r) ≡ cons_both (some i) (unescaped_from outside r)
+pub given_unescaped : (e : Escaping) (t r : List ℕ) (i : Item) → given e t ≡ Some i → unescaped_from e (t ++ r) ≡ cons_both (Some i) (unescaped_from outside r)
 unfolding unescaped_from
 given_unescaped e [] r i h = cc
 given_unescaped e (x ∷ []) r i h = by (escape_step e x) refl h
   where
-    by : (m : EscapeMove) → escape_step e x ≡ m → at_last m ≡ some i → after_escape (escape_step e x) (λ f. unescaped_from f r) ≡ cons_both (some i) (unescaped_from outside r)
+    by : (m : EscapeMove) → escape_step e x ≡ m → at_last m ≡ Some i → after_escape (escape_step e x) (λ f. unescaped_from f r) ≡ cons_both (Some i) (unescaped_from outside r)
     by (moves f) p h = cc
     by (gives j) p h = let q : j ≡ i = cc in rw (p, q)
     by bad_escape p h = cc
 given_unescaped e (x ∷ y ∷ xs) r i h = by (escape_step e x) refl h (λ f. given_unescaped f (y ∷ xs) r i)
   where
-    by : (m : EscapeMove) → escape_step e x ≡ m → before m (λ f. given f (y ∷ xs)) ≡ some i → ((f : Escaping) → given f (y ∷ xs) ≡ some i → unescaped_from f (y ∷ xs ++ r) ≡ cons_both (some i) (unescaped_from outside r))
-        → after_escape (escape_step e x) (λ f. unescaped_from f (y ∷ xs ++ r)) ≡ cons_both (some i) (unescaped_from outside r)
+    by : (m : EscapeMove) → escape_step e x ≡ m → before m (λ f. given f (y ∷ xs)) ≡ Some i → ((f : Escaping) → given f (y ∷ xs) ≡ Some i → unescaped_from f (y ∷ xs ++ r) ≡ cons_both (Some i) (unescaped_from outside r))
+        → after_escape (escape_step e x) (λ f. unescaped_from f (y ∷ xs ++ r)) ≡ cons_both (Some i) (unescaped_from outside r)
     by (moves f) p h ih = rw (p, ih f h)
     by (gives j) p h ih = cc
     by bad_escape p h ih = cc
 
 -- an item that is x and no dot
 abbrev item_ok : ℕ → Option Item → Bool
-item_ok x none = false
-item_ok x (some i) = eqb (octet_of i) x && not (is_dot i)
+item_ok x None = false
+item_ok x (Some i) = eqb (octet_of i) x && not (is_dot i)
 
 pub data Itemed (t : List ℕ) (x : ℕ) : Type 0 where
-  item : (i : Item) → given outside t ≡ some i → octet_of i ≡ x → is_dot i ≡ false → Itemed t x
+  item : (i : Item) → given outside t ≡ Some i → octet_of i ≡ x → is_dot i ≡ false → Itemed t x
 
 itemed : (t : List ℕ) (x : ℕ) → item_ok x (given outside t) ≡ true → Itemed t x
 itemed t x h = by (given outside t) refl h
   where
     by : (v : Option Item) → given outside t ≡ v → item_ok x v ≡ true → Itemed t x
-    by none e f = let z : ◌≡◌ {A = ℕ} 0 1 = cc in absurd (omega arith)
-    by (some i) e f = item i e (eqb-true (octet_of i) x (and_left (eqb (octet_of i) x) (not (is_dot i)) f)) (not_true (is_dot i) (and_right (eqb (octet_of i) x) (not (is_dot i)) f))
+    by None e f = let z : ◌≡◌ {A = ℕ} 0 1 = cc in absurd (omega arith)
+    by (Some i) e f = item i e (eqb-true (octet_of i) x (and_left (eqb (octet_of i) x) (not (is_dot i)) f)) (not_true (is_dot i) (and_right (eqb (octet_of i) x) (not (is_dot i)) f))
 
 pub name_item : (x : ℕ) → x < 256 → Itemed (name_escape x) x
 name_item x h = itemed (name_escape x) x (at_each (λ x. item_ok x (given outside (name_escape x))) 256 refl x h)
 
 abbrev string_ok : ℕ → Option Item → Bool
-string_ok x none = false
-string_ok x (some i) = eqb (octet_of i) x
+string_ok x None = false
+string_ok x (Some i) = eqb (octet_of i) x
 
-string_item : (x : ℕ) → x < 256 → (i : Item) × (given outside (string_escape x) ≡ some i) × (octet_of i ≡ x)
+string_item : (x : ℕ) → x < 256 → (i : Item) × (given outside (string_escape x) ≡ Some i) × (octet_of i ≡ x)
 string_item x h = by (given outside (string_escape x)) refl (at_each (λ x. string_ok x (given outside (string_escape x))) 256 refl x h)
   where
-    by : (v : Option Item) → given outside (string_escape x) ≡ v → string_ok x v ≡ true → (i : Item) × (given outside (string_escape x) ≡ some i) × (octet_of i ≡ x)
-    by none e f = let z : ◌≡◌ {A = ℕ} 0 1 = cc in absurd (omega arith)
-    by (some i) e f = (i, e, eqb-true (octet_of i) x f)
+    by : (v : Option Item) → given outside (string_escape x) ≡ v → string_ok x v ≡ true → (i : Item) × (given outside (string_escape x) ≡ Some i) × (octet_of i ≡ x)
+    by None e f = let z : ◌≡◌ {A = ℕ} 0 1 = cc in absurd (omega arith)
+    by (Some i) e f = (i, e, eqb-true (octet_of i) x f)
 
-pub none_left : unescaped_from outside [] ≡ some []
+pub none_left : unescaped_from outside [] ≡ Some []
 unfolding unescaped_from
 none_left = refl
 
 -- a string's text reads back
-pub string_read : (xs : List ℕ) → Below 256 xs → (is : List Item) × (unescaped_from outside (flat_map string_escape xs) ≡ some is) × (map octet_of is ≡ xs)
+pub string_read : (xs : List ℕ) → Below 256 xs → (is : List Item) × (unescaped_from outside (flat_map string_escape xs) ≡ Some is) × (map octet_of is ≡ xs)
 string_read [] h = ([], none_left, refl)
 string_read (x ∷ xs) h =
     let (i, e, f) = string_item x h.0 in

@@ -3,7 +3,7 @@ use Prim.Native.Nat.{ℕ, zero, suc, ◌+◌, ◌-◌, ◌^◌, ◌≤◌, ◌<�
 use mathlib.Core.Path.{◌≡◌, refl, sym, ap, ap₂, ◌∙◌, subst}
 use mathlib.Core.Bool.{Bool, true, false, not, cond, ◌&&◌, ◌||◌, true≢false}
 use mathlib.Core.List.{List, [], ◌∷◌, ◌++◌, map, append_assoc}
-use mathlib.Core.Option.{Option, none, some}
+use Rattle.std.specs.Prelude.{Option, None, Some}
 use native.Mathlib.Omega.{arith}
 use lib.ListN.{length, take, drop, length-map}
 use lib.Dec.{leb, ltb, eqb}
@@ -155,8 +155,8 @@ read_under_same (described d) first len es names o t =
 
 -- 2. The grammar does not look at places.
 data Alike {A : Type 0} (e : A → A) : Option A → Option A → Type 0 where
-  neither : Alike e none none
-  both : (x y : A) → e x ≡ e y → Alike e (some x) (some y)
+  neither : Alike e None None
+  both : (x y : A) → e x ≡ e y → Alike e (Some x) (Some y)
 
 abbrev unplaced_qualifier : Qualifier → Qualifier
 unplaced_qualifier (word w) = word w
@@ -170,8 +170,8 @@ unplaced_line l = record { keyword = l.keyword; qualifiers = map unplaced_qualif
 
 -- what is read next, the same in both or alike in both
 then_same : {A B : Type 0} (e : B → B) (o : Option A) (f g : A → Option B) → ((x : A) → Alike e (f x) (g x)) → Alike e (o >>= f) (o >>= g)
-then_same e none f g h = neither
-then_same e (some x) f g h = h x
+then_same e None f g h = neither
+then_same e (Some x) f g h = h x
 
 then_alike : {A B : Type 0} (d : A → A) (e : B → B) (o p : Option A) (f g : A → Option B) → Alike d o p → ((x y : A) → d x ≡ d y → Alike e (f x) (g y)) → Alike e (o >>= f) (p >>= g)
 then_alike d e o p f g neither h = neither
@@ -246,8 +246,8 @@ unplaced_meaning forbidden = forbidden
 unplaced_meaning (means k) = means (unplaced_kind k)
 
 abbrev unplaced_option : Option Kind → Option Kind
-unplaced_option none = none
-unplaced_option (some k) = some (unplaced_kind k)
+unplaced_option None = None
+unplaced_option (Some k) = Some (unplaced_kind k)
 
 abbrev Fixed-row : Takes → Type 0
 Fixed-row (symbols w) = Unit {0}
@@ -264,20 +264,20 @@ either_fixed i j h k false = k
 strings_fixed : (given : List (List ℕ)) → unplaced_option (string_kind given) ≡ string_kind given
 strings_fixed given = by (has_word given (ascii "M")) (has_word given (ascii "X"))
   where
-    by : (m x : Bool) → unplaced_option (cond m (provided (not x) strs) (some (cond x raw str))) ≡ cond m (provided (not x) strs) (some (cond x raw str))
+    by : (m x : Bool) → unplaced_option (cond m (provided (not x) strs) (Some (cond x raw str))) ≡ cond m (provided (not x) strs) (Some (cond x raw str))
     by true true = refl
     by true false = refl
     by false true = refl
     by false false = refl
 
 rows_fixed : Fixed-rows type_rows
-rows_fixed = (tt, (tt, (tt, (λ g. ap some (either_fixed rrtype bitmap refl refl (null g)), (λ g. refl, (λ g. refl, (λ g. refl, (λ g. refl, (strings_fixed, (λ g. refl, (λ g. refl, (λ g. ap some (either_fixed hex hexc refl refl (null g)), (λ g. refl, (λ g. refl, (λ g. refl, (λ g. refl, (λ g. refl, tt)))))))))))))))))
+rows_fixed = (tt, (tt, (tt, (λ g. ap Some (either_fixed rrtype bitmap refl refl (null g)), (λ g. refl, (λ g. refl, (λ g. refl, (λ g. refl, (strings_fixed, (λ g. refl, (λ g. refl, (λ g. ap Some (either_fixed hex hexc refl refl (null g)), (λ g. refl, (λ g. refl, (λ g. refl, (λ g. refl, (λ g. refl, tt)))))))))))))))))
 
-row_of : (rs : List TypeRow) → Fixed-rows rs → (k : List ℕ) (t : Takes) → takes_of rs k ≡ some t → Fixed-row t
+row_of : (rs : List TypeRow) → Fixed-rows rs → (k : List ℕ) (t : Takes) → takes_of rs k ≡ Some t → Fixed-row t
 row_of [] h k t e = let z : ◌≡◌ {A = ℕ} 0 1 = cc in absurd (omega arith)
 row_of (r ∷ rs) h k t e = by (same_octets k r.type_word) e (row_of rs h.1 k t)
   where
-    by : (b : Bool) → cond b (some r.takes) (takes_of rs k) ≡ some t → (takes_of rs k ≡ some t → Fixed-row t) → Fixed-row t
+    by : (b : Bool) → cond b (Some r.takes) (takes_of rs k) ≡ Some t → (takes_of rs k ≡ Some t → Fixed-row t) → Fixed-row t
     by true e ih = let w : r.takes ≡ t = cc in subst Fixed-row w h.0
     by false e ih = ih e
 
@@ -292,8 +292,8 @@ words_same (word w ∷ qs) = rw (words_same qs)
 words_same (symbol s ∷ qs) = refl
 
 abbrev unplaced_symbols : Option (List Symbol) → Option (List Symbol)
-unplaced_symbols none = none
-unplaced_symbols (some l) = some (map unplaced_symbol l)
+unplaced_symbols None = None
+unplaced_symbols (Some l) = Some (map unplaced_symbol l)
 
 symbols_same : (w : ℕ) (qs : List Qualifier) → each_of (symbol_of w) (map unplaced_qualifier qs) ≡ unplaced_symbols (each_of (symbol_of w) qs)
 symbols_same w [] = refl
@@ -301,8 +301,8 @@ symbols_same w (word t ∷ qs) = refl
 symbols_same w (symbol s ∷ qs) = rw (symbols_same w qs) (by (ltb s.value (256 ^ w)) (each_of (symbol_of w) qs))
   where
     by : (b : Bool) (o : Option (List Symbol)) → cons_both (provided b (unplaced_symbol s)) (unplaced_symbols o) ≡ unplaced_symbols (cons_both (provided b s) o)
-    by true none = refl
-    by true (some l) = refl
+    by true None = refl
+    by true (Some l) = refl
     by false o = refl
 
 any_symbol : (s : Symbol) (l : List Symbol) → any_of (same_symbol (unplaced_symbol s)) (map unplaced_symbol l) ≡ any_of (same_symbol s) l
@@ -321,32 +321,32 @@ allowed_same (symbols w) h qs = rw (symbols_same w qs) (by (each_of (symbol_of w
     on false l = refl
 
     by : (o : Option (List Symbol)) → (unplaced_symbols o >>= λ l. provided (not (twice same_symbol l)) (int w l)) ≡ unplaced_option (o >>= λ l. provided (not (twice same_symbol l)) (int w l))
-    by none = refl
-    by (some l) = rw (twice_symbol l) (on (not (twice same_symbol l)) l)
+    by None = refl
+    by (Some l) = rw (twice_symbol l) (on (not (twice same_symbol l)) l)
 allowed_same (words ws f) h qs = rw (words_same qs) (by (each_of word_of qs))
   where
-    on : (b : Bool) (g : List (List ℕ)) → cond b (f g) none ≡ unplaced_option (cond b (f g) none)
+    on : (b : Bool) (g : List (List ℕ)) → cond b (f g) None ≡ unplaced_option (cond b (f g) None)
     on true g = sym (h g)
     on false g = refl
 
-    by : (o : Option (List (List ℕ))) → (o >>= λ given. cond (all_of (has_word ws) given && not (twice same_octets given)) (f given) none) ≡ unplaced_option (o >>= λ given. cond (all_of (has_word ws) given && not (twice same_octets given)) (f given) none)
-    by none = refl
-    by (some g) = on (all_of (has_word ws) g && not (twice same_octets g)) g
+    by : (o : Option (List (List ℕ))) → (o >>= λ given. cond (all_of (has_word ws) given && not (twice same_octets given)) (f given) None) ≡ unplaced_option (o >>= λ given. cond (all_of (has_word ws) given && not (twice same_octets given)) (f given) None)
+    by None = refl
+    by (Some g) = on (all_of (has_word ws) g && not (twice same_octets g)) g
 
 meaning_same : (k : List ℕ) (qs : List Qualifier) → meaning k (map unplaced_qualifier qs) ≡ unplaced_meaning (meaning k qs)
 meaning_same k qs = by (takes_of type_rows k) refl
   where
     or_same : (o : Option Kind) → or_forbidden (unplaced_option o) ≡ unplaced_meaning (or_forbidden o)
-    or_same none = refl
-    or_same (some j) = refl
+    or_same None = refl
+    or_same (Some j) = refl
 
     on : (b : Bool) (o : Option Kind) → cond b unknown (or_forbidden (unplaced_option o)) ≡ unplaced_meaning (cond b unknown (or_forbidden o))
     on true o = refl
     on false o = or_same o
 
     by : (o : Option Takes) → takes_of type_rows k ≡ o → meaning_of o (map unplaced_qualifier qs) ≡ unplaced_meaning (meaning_of o qs)
-    by none e = refl
-    by (some t) e = rw (unknown_same qs, allowed_same t (row_of type_rows rows_fixed k t e) qs) (on (any_of unknown_word qs) (allowed t qs))
+    by None e = refl
+    by (Some t) e = rw (unknown_same qs, allowed_same t (row_of type_rows rows_fixed k t e) qs) (on (any_of unknown_word qs) (allowed t qs))
 
 -- 4. What a line does, without places.
 abbrev unplaced_progress : Progress → Progress
@@ -383,14 +383,14 @@ meant_same d l unknown = refl
 meant_same d l forbidden = refl
 meant_same d l (means k) = with_same d (record { kind = k; field_name = l.field_name; free_text = l.free_text })
 
-line_same : (d : Description) (l : FieldLine) → of_field_line (unplaced_description d) (some (unplaced_line l)) ≡ unplaced_verdict (of_field_line d (some l))
+line_same : (d : Description) (l : FieldLine) → of_field_line (unplaced_description d) (Some (unplaced_line l)) ≡ unplaced_verdict (of_field_line d (Some l))
 line_same d l = rw (meaning_same l.keyword l.qualifiers) (meant_same d l (meaning l.keyword l.qualifiers))
 
 field_verdicts : (d e : Description) → unplaced_description d ≡ unplaced_description e → (o p : Option FieldLine) → Alike unplaced_line o p → unplaced_verdict (of_field_line d o) ≡ unplaced_verdict (of_field_line e p)
 field_verdicts d e h o p neither = refl
-field_verdicts d e h o p (both x y k) = sym (line_same d x) ∙ ap₂ (λ c l. of_field_line c (some l)) h k ∙ line_same e y
+field_verdicts d e h o p (both x y k) = sym (line_same d x) ∙ ap₂ (λ c l. of_field_line c (Some l)) h k ∙ line_same e y
 
-header_same : (h : Header) → of_header (some (unplaced_header h)) ≡ unplaced_verdict (of_header (some h))
+header_same : (h : Header) → of_header (Some (unplaced_header h)) ≡ unplaced_verdict (of_header (Some h))
 header_same h = by (in_range 1 65535 h.type_no)
   where
     by : (b : Bool) → cond b (goes_on (after_header (record { header = unplaced_header h; fields = [] }))) (faulty 4) ≡ unplaced_verdict (cond b (goes_on (after_header (record { header = h; fields = [] }))) (faulty 4))
@@ -399,7 +399,7 @@ header_same h = by (in_range 1 65535 h.type_no)
 
 header_verdicts : (o p : Option Header) → Alike unplaced_header o p → unplaced_verdict (of_header o) ≡ unplaced_verdict (of_header p)
 header_verdicts o p neither = refl
-header_verdicts o p (both x y k) = sym (header_same x) ∙ ap (λ h. of_header (some h)) k ∙ header_same y
+header_verdicts o p (both x y k) = sym (header_same x) ∙ ap (λ h. of_header (Some h)) k ∙ header_same y
 
 no_blank : (l : List ℕ) → starts_blank l ≡ false → span blank l ≡ record { front = []; rest = l }
 no_blank [] h = refl
@@ -424,16 +424,16 @@ Goes (goes_on before_header) = ⊥
 Goes (goes_on (after_header d)) = Unit {0}
 
 header_goes : (o : Option Header) → Goes (of_header o)
-header_goes none = tt
-header_goes (some h) = by (in_range 1 65535 h.type_no)
+header_goes None = tt
+header_goes (Some h) = by (in_range 1 65535 h.type_no)
   where
     by : (b : Bool) → Goes (cond b (goes_on (after_header (record { header = h; fields = [] }))) (faulty 4))
     by true = tt
     by false = tt
 
 field_goes : (d : Description) (o : Option FieldLine) → Goes (of_field_line d o)
-field_goes d none = tt
-field_goes d (some l) = by (meaning l.keyword l.qualifiers)
+field_goes d None = tt
+field_goes d (Some l) = by (meaning l.keyword l.qualifiers)
   where
     on : (k : Kind) (a b : Bool) → Goes (cond a (faulty 4) (cond b (faulty 5) (goes_on (after_header (record { header = d.header; fields = d.fields ++ (record { kind = k; field_name = l.field_name; free_text = l.free_text }) ∷ [] })))))
     on k true b = tt

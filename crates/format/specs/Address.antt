@@ -1,7 +1,7 @@
 -- A, AA and AAAA: four octets; four and eight groups of two octets.
 use Rattle.std.specs.Prelude.{ℕ, zero, suc, ◌+◌, ◌*◌, ◌-◌, max, Bool, true, false, cond, ◌&&◌, List, [], ◌∷◌, ◌++◌, map, length, drop, replicate, leb, ltb, eqb}
 use Prim.Native.Char.{code}
-use Rattle.std.proofs.Math.Option.{Option, none, some}
+use Rattle.std.specs.Prelude.{Option, None, Some}
 use Rattle.format.specs.Lists.{◌>>=◌, provided, or_else, cons_both, each_of, exactly, null, flat_map, parted}
 use Rattle.format.specs.Octets.{ascii, in_range, same_octets, split_on}
 use Rattle.format.specs.Digits.{digits, number, without_zeros, lower_digit, digit_value}
@@ -39,11 +39,11 @@ colons gs = parted (ascii ":") (map group_text gs)
 
 -- "groups of 1 to 4 hex digits"
 abbrev pub group_of : List ℕ → Option ℕ
-group_of t = cond (in_range 1 4 (length t)) (each_of (digit_value 16) t >>= λ ds. some (number 16 ds)) none
+group_of t = cond (in_range 1 4 (length t)) (each_of (digit_value 16) t >>= λ ds. Some (number 16 ds)) None
 
 -- "exactly four colon-parted groups"
 abbrev pub read_aa : List ℕ → Option (List ℕ)
-read_aa t = exactly 4 (each_of group_of (split_on (code ":") t)) >>= λ gs. some (group_octets gs)
+read_aa t = exactly 4 (each_of group_of (split_on (code ":") t)) >>= λ gs. Some (group_octets gs)
 
 -- "prints RFC 5952 style, always in hex": the first of the longest runs of zero groups, two at least, is written `::`
 abbrev pub zeros_at : List ℕ → ℕ
@@ -71,17 +71,17 @@ aaaa_text gs = cond (ltb (longest_zeros gs) 2) (colons gs) (colons (before_run (
 
 -- "a dotted tail by A's rule included": the last text may be dotted where the Bool says so
 abbrev pub last_groups : Bool → List ℕ → Option (List ℕ)
-last_groups dotted t = or_else (group_of t >>= λ g. some (g ∷ [])) (cond dotted (read_a t >>= λ xs. some (groups xs)) none)
+last_groups dotted t = or_else (group_of t >>= λ g. Some (g ∷ [])) (cond dotted (read_a t >>= λ xs. Some (groups xs)) None)
 
 -- groups with colons between; the last may be dotted
 unfoldable pub groups_of : Bool → List (List ℕ) → Option (List ℕ)
-groups_of dotted [] = some []
+groups_of dotted [] = Some []
 groups_of dotted (t ∷ []) = last_groups dotted t
 groups_of dotted (t ∷ u ∷ ts) = cons_both (group_of t) (groups_of dotted (u ∷ ts))
 
 -- the groups on one side of `::`, perhaps none
 abbrev pub side_of : Bool → List ℕ → Option (List ℕ)
-side_of dotted t = cond (null t) (some []) (groups_of dotted (split_on (code ":") t))
+side_of dotted t = cond (null t) (Some []) (groups_of dotted (split_on (code ":") t))
 
 -- A text without `::`, or what stands before and after the first one.
 pub data Doubled : Type 0 where
@@ -109,4 +109,4 @@ eight_groups t (double s u) = do
 
 -- eight groups, as octets
 abbrev pub read_aaaa : List ℕ → Option (List ℕ)
-read_aaaa t = eight_groups t (at_double_colon t) >>= λ gs. some (group_octets gs)
+read_aaaa t = eight_groups t (at_double_colon t) >>= λ gs. Some (group_octets gs)

@@ -1,7 +1,7 @@
 -- B32 and B64: octets as digits of 5 and of 6 bits.
 use Rattle.std.specs.Prelude.{ℕ, zero, suc, ◌+◌, ◌*◌, ◌-◌, ◌%◌, ◌^◌, Bool, not, cond, ◌&&◌, List, [], ◌∷◌, ◌++◌, map, length, replicate, ltb, eqb}
 use Prim.Native.Char.{code}
-use Rattle.std.proofs.Math.Option.{Option, none, some}
+use Rattle.std.specs.Prelude.{Option, None, Some}
 use Rattle.format.specs.Lists.{◌>>=◌, provided, cons_both, each_of, flat_map, Spanned, span}
 use Rattle.format.specs.Octets.{in_range, digit, same_octets}
 use Rattle.format.specs.Digits.{digits, upper_digit, digit_value}
@@ -21,8 +21,8 @@ filled w (suc (suc m)) v (b ∷ bs) = filled w (suc m) (v * 2 + b) bs
 -- Bits as octets, "under five left-over bits, all zero": fewer than w are left over. m more bits are wanted by the octet begun.
 abbrev pub whole_octets : ℕ → ℕ → ℕ → List ℕ → Option (List ℕ)
 whole_octets w m v [] = provided (ltb (8 - m) w && eqb v 0) []
-whole_octets w zero v (b ∷ bs) = none
-whole_octets w (suc zero) v (b ∷ bs) = cons_both (some (v * 2 + b)) (whole_octets w 8 0 bs)
+whole_octets w zero v (b ∷ bs) = None
+whole_octets w (suc zero) v (b ∷ bs) = cons_both (Some (v * 2 + b)) (whole_octets w 8 0 bs)
 whole_octets w (suc (suc m)) v (b ∷ bs) = whole_octets w (suc m) (v * 2 + b) bs
 
 -- octets as digits of w bits, and back
@@ -50,9 +50,9 @@ base64_char d =
 -- and back
 abbrev pub base64_value : ℕ → Option ℕ
 base64_value x =
-    cond (in_range (code "A") (code "Z") x) (some (x - code "A"))
-    (cond (in_range (code "a") (code "z") x) (some (x - code "a" + 26))
-    (cond (digit x) (some (x - code "0" + 52)) (cond (eqb x (code "+")) (some 62) (provided (eqb x (code "/")) 63))))
+    cond (in_range (code "A") (code "Z") x) (Some (x - code "A"))
+    (cond (in_range (code "a") (code "z") x) (Some (x - code "a" + 26))
+    (cond (digit x) (Some (x - code "0" + 52)) (cond (eqb x (code "+")) (Some 62) (provided (eqb x (code "/")) 63))))
 
 -- "padding required": up to a multiple of four characters
 abbrev pub padding : ℕ → List ℕ
@@ -68,7 +68,7 @@ not_padding x = not (eqb x (code "="))
 
 -- the padding is exactly what the digits need
 abbrev pub unpadded : Spanned → Option (List ℕ)
-unpadded s = cond (same_octets s.rest (padding (length s.front))) (each_of base64_value s.front >>= from_digits 6) none
+unpadded s = cond (same_octets s.rest (padding (length s.front))) (each_of base64_value s.front >>= from_digits 6) None
 
 -- the digits end where the padding begins
 abbrev pub read_base64 : List ℕ → Option (List ℕ)

@@ -1,6 +1,6 @@
 -- R[L]: "blocks of window, count 1 to 32, octets" (RFC 4034). "It is a picture of 256 windows of 32 octets."
 use Rattle.std.specs.Prelude.{ℕ, zero, suc, ◌+◌, ◌*◌, cond, List, [], ◌∷◌, ◌++◌, map, length}
-use Rattle.std.proofs.Math.Option.{Option, some}
+use Rattle.std.specs.Prelude.{Option, Some}
 use Rattle.format.specs.Lists.{◌>>=◌, each_of, parted}
 use Rattle.format.specs.Octets.{ascii, among}
 use Rattle.format.specs.Digits.{digits, number}
@@ -87,4 +87,4 @@ blocks ts = blocks_from ts 0 256
 
 -- `value` reads one type
 abbrev pub read_bitmap : (Token → Option ℕ) → List Token → Option (List ℕ)
-read_bitmap value ts = each_of value ts >>= λ l. some (blocks l)
+read_bitmap value ts = each_of value ts >>= λ l. Some (blocks l)

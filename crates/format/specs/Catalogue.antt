@@ -1,6 +1,6 @@
 -- Names of types that the caller lends (document 02, 3): "a catalogue of up to 512 entries, each a type number and where its name lies in a lent text".
 use Rattle.std.specs.Prelude.{ℕ, suc, ◌+◌, Bool, not, cond, ◌&&◌, ◌||◌, List, [], ◌∷◌, ◌++◌, length, take, drop, leb, ltb, eqb}
-use Rattle.std.proofs.Math.Option.{Option, none, some}
+use Rattle.std.specs.Prelude.{Option, None, Some}
 use Rattle.format.specs.Lists.{◌>>=◌, provided, null, any_of, all_of}
 use Rattle.format.specs.Octets.{ascii, digit, same_word}
 use Rattle.format.specs.Digits.{digits}
@@ -49,14 +49,14 @@ pub data Catalogued : Type 0 where
 
 -- "place the first entry (from 1) bad": no entry after it is judged
 abbrev pub after_entry : Option TypeName → ℕ → (TypeName → Catalogued) → Catalogued
-after_entry none i f = bad_entry i
-after_entry (some n) i f = f n
+after_entry None i f = bad_entry i
+after_entry (Some n) i f = f n
 
 -- the entries after those earlier ones: "or a 513th"
 unfoldable pub catalogued_from : List TypeName → List ℕ → List Entry → Catalogued
 catalogued_from earlier names [] = known earlier
 catalogued_from earlier names (e ∷ es) =
-    after_entry (cond (ltb (length earlier) 512) (entry_after earlier names e) none) (suc (length earlier)) (λ n. catalogued_from (earlier ++ n ∷ []) names es)
+    after_entry (cond (ltb (length earlier) 512) (entry_after earlier names e) None) (suc (length earlier)) (λ n. catalogued_from (earlier ++ n ∷ []) names es)
 
 -- "a catalogue of up to 512 entries": all its entries, in order
 abbrev pub catalogued : List ℕ → List Entry → Catalogued
@@ -70,8 +70,8 @@ type_text_in (m ∷ ms) n = cond (eqb m.type_no n) m.spelled (type_text_in ms n)
 -- "and read either form, ignoring case"
 abbrev pub type_number_in : List TypeName → List ℕ → Option ℕ
 type_number_in [] t = type_number t
-type_number_in (m ∷ ms) t = cond (same_word m.spelled t) (some m.type_no) (type_number_in ms t)
+type_number_in (m ∷ ms) t = cond (same_word m.spelled t) (Some m.type_no) (type_number_in ms t)
 
 -- as two octets
 abbrev pub read_type_in : List TypeName → List ℕ → Option (List ℕ)
-read_type_in ms t = type_number_in ms t >>= λ n. some (digits 256 2 n)
+read_type_in ms t = type_number_in ms t >>= λ n. Some (digits 256 2 n)

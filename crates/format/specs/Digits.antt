@@ -1,7 +1,7 @@
 -- Numbers as digits in a base, the highest first: octets, decimal, hex, base 32, base 64 and bits alike.
 use Rattle.std.specs.Prelude.{ℕ, zero, suc, ◌+◌, ◌*◌, ◌-◌, ◌/◌, ◌%◌, cond, List, [], ◌∷◌, ◌++◌, ltb}
 use Prim.Native.Char.{code}
-use Rattle.std.proofs.Math.Option.{Option, none}
+use Rattle.std.specs.Prelude.{Option, None}
 use Rattle.format.specs.Lists.{provided}
 use Rattle.format.specs.Octets.{digit, letter, lowered}
 
@@ -37,4 +37,4 @@ lower_digit d = cond (ltb d 10) (code "0" + d) (code "a" + (d - 10))
 abbrev pub digit_value : ℕ → ℕ → Option ℕ
 digit_value b x =
     cond (digit x) (provided (ltb (x - code "0") b) (x - code "0"))
-    (cond (letter x) (provided (ltb (lowered x - code "a" + 10) b) (lowered x - code "a" + 10)) none)
+    (cond (letter x) (provided (ltb (lowered x - code "a" + 10) b) (lowered x - code "a" + 10)) None)

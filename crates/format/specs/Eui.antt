@@ -1,7 +1,7 @@
 -- EUI48, EUI64: "six or eight pairs of hex digits, either case, with hyphens between; printed lower case".
 use Rattle.std.specs.Prelude.{ℕ, List, map}
 use Prim.Native.Char.{code}
-use Rattle.std.proofs.Math.Option.{Option}
+use Rattle.std.specs.Prelude.{Option}
 use Rattle.format.specs.Lists.{each_of, exactly, parted}
 use Rattle.format.specs.Octets.{ascii, split_on}
 use Rattle.format.specs.Digits.{digits, lower_digit}

@@ -1,7 +1,7 @@
 -- The grammar of a header and of a field line, after the leading blanks. `end` is the place where the line ends.
 use Rattle.std.specs.Prelude.{ℕ, ◌-◌, Bool, false, not, cond, ◌&&◌, List, [], ◌∷◌, ◌++◌, length, leb, eqb}
 use Prim.Native.Char.{code}
-use Rattle.std.proofs.Math.Option.{Option, none, some}
+use Rattle.std.specs.Prelude.{Option, None, Some}
 use Rattle.format.specs.Lists.{◌>>=◌, provided, each_of, null, all_of, Spanned, span}
 use Rattle.format.specs.Octets.{in_range, blank, digit, letter, alphanumeric, name_octet, split_on}
 use Rattle.format.specs.Field.{Part, Symbol}
@@ -31,12 +31,12 @@ name_at t = if_name (span name_octet t)
 
 -- the rest after the octet c
 abbrev pub after : ℕ → List ℕ → Option (List ℕ)
-after c [] = none
+after c [] = None
 after c (x ∷ t) = provided (eqb x c) t
 
 -- "optionally blank and free text .. Free text, after exactly one blank, is octets 20 to FE hex"
 abbrev pub free_text_at : ℕ → List ℕ → Option Part
-free_text_at end [] = some (part_at end [] [])
+free_text_at end [] = Some (part_at end [] [])
 free_text_at end (x ∷ t) = provided (blank x && all_of (in_range 0x20 0xFE) t) (part_at end t t)
 
 -- The header: the type's name and number, and the free text.
@@ -52,7 +52,7 @@ pub record Numbered : Type 0 where
 
 -- "digits", as a number
 abbrev pub if_decimal : Spanned → Option Numbered
-if_decimal s = decimal_of s.front >>= λ n. some (record { value = n; rest = s.rest })
+if_decimal s = decimal_of s.front >>= λ n. Some (record { value = n; rest = s.rest })
 
 -- "then optionally `:` and letters": the rest
 abbrev pub if_letters : Spanned → Option (List ℕ)
@@ -60,8 +60,8 @@ if_letters s = provided (not (null s.front)) s.rest
 
 -- they may be left out
 abbrev pub after_options : List ℕ → Option (List ℕ)
-after_options [] = some []
-after_options (x ∷ t) = cond (eqb x (code ":")) (if_letters (span letter t)) (some (x ∷ t))
+after_options [] = Some []
+after_options (x ∷ t) = cond (eqb x (code ":")) (if_letters (span letter t)) (Some (x ∷ t))
 
 -- "a name .., `:`, digits, then optionally `:` and letters, then optionally blank and free text"
 abbrev pub header_line : ℕ → List ℕ → Option Header
@@ -71,7 +71,7 @@ header_line end t = do
   n ← if_decimal (span digit u)
   r ← after_options n.rest
   text ← free_text_at end r
-  some (record { type_name = part_at end t named.front; type_no = n.value; header_text = text })
+  Some (record { type_name = part_at end t named.front; type_no = n.value; header_text = text })
 
 -- "A qualifier is a name, or name`=`digits."
 pub data Qualifier : Type 0 where
@@ -80,10 +80,10 @@ pub data Qualifier : Type 0 where
 
 -- a word alone, or with its number, where the name stands at `at`
 abbrev pub if_qualifier : ℕ → Spanned → Option Qualifier
-if_qualifier at s = cond (null s.rest) (some (word s.front)) (do
+if_qualifier at s = cond (null s.rest) (Some (word s.front)) (do
   ds ← after (code "=") s.rest
   n ← decimal_of ds
-  some (symbol (record { spelling = record { place = at; octets = s.front }; value = n })))
+  Some (symbol (record { spelling = record { place = at; octets = s.front }; value = n })))
 
 -- all of a part is one qualifier
 abbrev pub qualifier : Part → Option Qualifier
@@ -103,18 +103,18 @@ abbrev pub if_qualifiers : ℕ → Spanned → Option Qualified
 if_qualifiers at s = do
   qs ← each_of qualifier (placed at (split_on (code ",") s.front))
   r ← after (code "]") s.rest
-  some (record { qualifiers = qs; rest = r })
+  Some (record { qualifiers = qs; rest = r })
 
 -- they may be left out
 abbrev pub qualifiers_at : ℕ → List ℕ → Option Qualified
-qualifiers_at end [] = some (record { qualifiers = []; rest = [] })
+qualifiers_at end [] = Some (record { qualifiers = []; rest = [] })
 qualifiers_at end (x ∷ t) =
-    cond (eqb x (code "[")) (if_qualifiers (end - length t) (span not_bracket t)) (some (record { qualifiers = []; rest = x ∷ t }))
+    cond (eqb x (code "[")) (if_qualifiers (end - length t) (span not_bracket t)) (Some (record { qualifiers = []; rest = x ∷ t }))
 
 -- "optional `:` and name"
 abbrev pub field_name_at : List ℕ → Option Spanned
-field_name_at [] = some (record { front = []; rest = [] })
-field_name_at (x ∷ t) = cond (eqb x (code ":")) (name_at t) (some (record { front = []; rest = x ∷ t }))
+field_name_at [] = Some (record { front = []; rest = [] })
+field_name_at (x ∷ t) = cond (eqb x (code ":")) (name_at t) (Some (record { front = []; rest = x ∷ t }))
 
 -- A field line by the grammar alone.
 pub record FieldLine : Type 0 where
@@ -134,4 +134,4 @@ field_line end t = do
   q ← qualifiers_at end k.rest
   n ← field_name_at q.rest
   text ← free_text_at end n.rest
-  some (record { keyword = k.front; qualifiers = q.qualifiers; field_name = part_at end (n.front ++ n.rest) n.front; free_text = text })
+  Some (record { keyword = k.front; qualifiers = q.qualifiers; field_name = part_at end (n.front ++ n.rest) n.front; free_text = text })

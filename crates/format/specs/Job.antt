@@ -1,6 +1,6 @@
 -- The program: "a job of at most 65,535 octets from standard input, sections in a fixed order, each after its line count".
 use Rattle.std.specs.Prelude.{ℕ, cond, List, [], ◌∷◌, ◌++◌, length, take, drop, leb}
-use Rattle.std.proofs.Math.Option.{Option, none, some}
+use Rattle.std.specs.Prelude.{Option, None, Some}
 use Rattle.format.specs.Lists.{◌>>=◌, provided, null, flat_map}
 use Rattle.format.specs.Octets.{ascii, same_octets}
 use Rattle.format.specs.Number.{decimal, decimal_of}
@@ -19,19 +19,19 @@ pub record Section : Type 0 where
 
 -- "each after its line count"
 abbrev pub section : List (List ℕ) → Option Section
-section [] = none
+section [] = None
 section (c ∷ ls) = decimal_of c >>= λ n. provided (leb n (length ls)) (record { body = take n ls; later = drop n ls })
 
 -- "origin (one absolute name)": the line is that name's text and nothing else
 abbrev pub origin_token : List ℕ → List Token → Option (List ℕ)
-origin_token l [] = none
-origin_token l (t ∷ ts) = bare_of t >>= λ u. cond (same_octets u l) (name_of none u) none
+origin_token l [] = None
+origin_token l (t ∷ ts) = bare_of t >>= λ u. cond (same_octets u l) (name_of None u) None
 
 -- the section of the origin has one line
 abbrev pub origin_of : List (List ℕ) → Option (List ℕ)
-origin_of [] = none
+origin_of [] = None
 origin_of (l ∷ []) = origin_token l (tokens l)
-origin_of (l ∷ m ∷ ls) = none
+origin_of (l ∷ m ∷ ls) = None
 
 -- A job: the stanza's octets, the origin and the records.
 pub record Job : Type 0 where
@@ -69,8 +69,8 @@ record_line j t = answer_line (reading j.stanza 1 (field_count (judged j.stanza)
 
 -- "A job that breaks this writes only `bad job`"
 abbrev pub written : Option Job → List ℕ
-written none = ascii "bad job\n"
-written (some j) = flat_map (record_line j) j.records
+written None = ascii "bad job\n"
+written (Some j) = flat_map (record_line j) j.records
 
 -- "a job of at most 65,535 octets"
 abbrev pub max_job : ℕ

@@ -1,32 +1,32 @@
 -- Options and lists, as the definitions use them.
 use Rattle.std.specs.Prelude.{ℕ, Bool, true, false, ◌&&◌, ◌||◌, List, [], ◌∷◌, ◌++◌, length, eqb}
-use Rattle.std.proofs.Math.Option.{Option, none, some}
+use Rattle.std.specs.Prelude.{Option, None, Some}
 
 infixl 10 ◌>>=◌
 -- what is there handed on: `do` blocks are read by this
 abbrev pub ◌>>=◌ : {A B : Type 0} → Option A → (A → Option B) → Option B
-◌>>=◌ none f = none
-◌>>=◌ (some x) f = f x
+◌>>=◌ None f = None
+◌>>=◌ (Some x) f = f x
 
 -- x where a test holds
 abbrev pub provided : {A : Type 0} → Bool → A → Option A
-provided true x = some x
-provided false x = none
+provided true x = Some x
+provided false x = None
 
 -- the first that is there
 abbrev pub or_else : {A : Type 0} → Option A → Option A → Option A
-or_else none o = o
-or_else (some x) o = some x
+or_else None o = o
+or_else (Some x) o = Some x
 
 -- one before the others, if all are there
 abbrev pub cons_both : {A : Type 0} → Option A → Option (List A) → Option (List A)
-cons_both none o = none
-cons_both (some x) none = none
-cons_both (some x) (some xs) = some (x ∷ xs)
+cons_both None o = None
+cons_both (Some x) None = None
+cons_both (Some x) (Some xs) = Some (x ∷ xs)
 
 -- a partial function at every element, or none
 abbrev pub each_of : {A B : Type 0} → (A → Option B) → List A → Option (List B)
-each_of f [] = some []
+each_of f [] = Some []
 each_of f (x ∷ xs) = cons_both (f x) (each_of f xs)
 
 -- a list of exactly n

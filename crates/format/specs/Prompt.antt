@@ -1,6 +1,6 @@
 -- Document 02, 5: "Lend two stanzas, the preferred language and the default." The free text of a field in one of them.
 use Rattle.std.specs.Prelude.{ℕ, suc, ◌-◌, not, cond, List, [], ◌∷◌, map, length, drop}
-use Rattle.std.proofs.Math.Option.{Option, none, some}
+use Rattle.std.specs.Prelude.{Option, None, Some}
 use Rattle.format.specs.Lists.{null, span}
 use Rattle.format.specs.Octets.{blank, same_octets}
 use Rattle.format.specs.Field.{Part, Field, kinds}
@@ -34,10 +34,10 @@ fixed_parts stanza = map fixed_part (content_lines (lines stanza))
 
 -- "must be equal in number and .. octet for octet": the number of the first that is not, counted from i
 abbrev pub differs_at : ℕ → List (List ℕ) → List (List ℕ) → Option ℕ
-differs_at i [] [] = none
-differs_at i [] (u ∷ us) = some i
-differs_at i (t ∷ ts) [] = some i
-differs_at i (t ∷ ts) (u ∷ us) = cond (same_octets t u) (differs_at (suc i) ts us) (some i)
+differs_at i [] [] = None
+differs_at i [] (u ∷ us) = Some i
+differs_at i (t ∷ ts) [] = Some i
+differs_at i (t ∷ ts) (u ∷ us) = cond (same_octets t u) (differs_at (suc i) ts us) (Some i)
 
 -- A prompt, "with a mark of which one": the part of that stanza's text; or that stanza's refusal, its number and place.
 pub data Prompt : Type 0 where
@@ -51,8 +51,8 @@ of_own w (described d) f = f d.fields
 
 -- "15, place the first differing field or 0 for the header", or what follows
 abbrev pub unless_differs : Option ℕ → Prompt → Prompt
-unless_differs none p = p
-unless_differs (some i) p = refuses default 15 i
+unless_differs None p = p
+unless_differs (Some i) p = refuses default 15 i
 
 -- the free text of the first of some fields
 abbrev pub text_of_first : List Field → Part

@@ -1,6 +1,6 @@
 -- Document 02, 5: what is claimed of prompts. Each statement is a type here; its proof stands in proofs/.
 use Rattle.std.specs.Prelude.{ℕ, suc, ◌+◌, ◌≤◌, ◌≡◌, ◌⊎◌, true, false, List, [], ◌∷◌, ◌++◌, map, length, take, drop}
-use Rattle.std.proofs.Math.Option.{none, some}
+use Rattle.std.specs.Prelude.{None, Some}
 use Rattle.std.proofs.Math.Seq.{slice}
 use Rattle.format.specs.Lists.{null, span}
 use Rattle.format.specs.Octets.{blank}
@@ -22,8 +22,8 @@ FixedThenText l text = ((unindented l.octets ≡ fixed_part l) × (text ≡ []))
 
 -- of every header and every field line
 pub record FixedParts : Type 0 where
-  pub header : (end : ℕ) (l : Part) (h : Header) → header_line end (unindented l.octets) ≡ some h → FixedThenText l h.header_text.octets
-  pub field : (end : ℕ) (l : Part) (f : FieldLine) → field_line end (unindented l.octets) ≡ some f → FixedThenText l f.free_text.octets
+  pub header : (end : ℕ) (l : Part) (h : Header) → header_line end (unindented l.octets) ≡ Some h → FixedThenText l h.header_text.octets
+  pub field : (end : ℕ) (l : Part) (f : FieldLine) → field_line end (unindented l.octets) ≡ Some f → FixedThenText l f.free_text.octets
 
 -- what stands behind the blank after the fixed part
 abbrev pub behind_fixed : Part → List ℕ
@@ -65,15 +65,15 @@ PartOfLent = (own other : List ℕ) (field : ℕ) (w : Whose) (p : Part) → pro
 
 -- equal lists differ nowhere; of others the first i are equal, and the first i + 1 are not
 pub record FirstDiffering : Type 0 where
-  pub nowhere : (ts us : List (List ℕ)) → differs_at 0 ts us ≡ none → ts ≡ us
-  pub alike : (ts : List (List ℕ)) → differs_at 0 ts ts ≡ none
-  pub before : (ts us : List (List ℕ)) (i : ℕ) → differs_at 0 ts us ≡ some i → take i ts ≡ take i us
-  pub there : (ts us : List (List ℕ)) (i : ℕ) → differs_at 0 ts us ≡ some i → take (suc i) ts ≡ take (suc i) us → ⊥
+  pub nowhere : (ts us : List (List ℕ)) → differs_at 0 ts us ≡ None → ts ≡ us
+  pub alike : (ts : List (List ℕ)) → differs_at 0 ts ts ≡ None
+  pub before : (ts us : List (List ℕ)) (i : ℕ) → differs_at 0 ts us ≡ Some i → take i ts ≡ take i us
+  pub there : (ts us : List (List ℕ)) (i : ℕ) → differs_at 0 ts us ≡ Some i → take (suc i) ts ≡ take (suc i) us → ⊥
 
 -- A refusal is the marked stanza's own; or, both being accepted, the default's 15 or 6.
 pub data Refuses (own other : List ℕ) (field : ℕ) : Whose → ℕ → ℕ → Type 0 where
   own_refusal : (w : Whose) (n i : ℕ) → judged (lent_text w own other) ≡ rejected n i → Refuses own other field w n i
-  not_alike : (d e : Description) (i : ℕ) → judged own ≡ described d → judged other ≡ described e → differs_at 0 (fixed_parts own) (fixed_parts other) ≡ some i → i ≤ 64 → Refuses own other field default 15 i
+  not_alike : (d e : Description) (i : ℕ) → judged own ≡ described d → judged other ≡ described e → differs_at 0 (fixed_parts own) (fixed_parts other) ≡ Some i → i ≤ 64 → Refuses own other field default 15 i
   no_field : (d e : Description) → judged own ≡ described d → judged other ≡ described e → fixed_parts own ≡ fixed_parts other → is_run field 1 (kinds e.fields) ≡ false → Refuses own other field default 6 0
 
 -- of every prompt that is refused

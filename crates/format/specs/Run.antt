@@ -1,6 +1,6 @@
 -- One field by its kind, and a run of fields: what they take, their text, and what tokens read to.
 use Rattle.std.specs.Prelude.{ℕ, suc, Bool, true, false, cond, ◌&&◌, List, [], ◌∷◌, ◌++◌, map, length, take, drop, leb}
-use Rattle.std.proofs.Math.Option.{Option, none, some}
+use Rattle.std.specs.Prelude.{Option, None, Some}
 use Rattle.format.specs.Lists.{◌>>=◌, each_of, null, flat, parted}
 use Rattle.format.specs.Octets.{ascii}
 use Rattle.format.specs.Wire.{Taken, short, bad, took, taken}
@@ -45,14 +45,14 @@ pub data Got : Type 0 where
 
 -- 9 where there is no value
 abbrev pub got_or : Option (List ℕ) → List Token → Got
-got_or none ts = bad_token
-got_or (some p) ts = got p ts
+got_or None ts = bad_token
+got_or (Some p) ts = got p ts
 
 -- "Only S fields take quoted tokens."
 abbrev pub bare_of : Token → Option (List ℕ)
-bare_of (bare t) = some t
-bare_of (quoted t) = none
-bare_of broken = none
+bare_of (bare t) = Some t
+bare_of (quoted t) = None
+bare_of broken = None
 
 -- one token
 abbrev pub one_token : (Token → Option (List ℕ)) → List Token → Got
@@ -78,7 +78,7 @@ read_field c aa o ts = one_bare read_aa ts
 read_field c aaaa o ts = one_bare read_aaaa ts
 read_field c (name m) o ts = cond (m.optional && null ts) (got [] []) (one_bare (read_name o) ts)
 read_field c str o ts = one_token read_string ts
-read_field c strs o ts = cond (null ts) no_token (got_or (each_of read_string ts >>= λ l. some (flat l)) [])
+read_field c strs o ts = cond (null ts) no_token (got_or (each_of read_string ts >>= λ l. Some (flat l)) [])
 read_field c raw o ts = one_token read_raw ts
 read_field c b32 o ts = one_bare read_base32 ts
 read_field c b64 o ts = joined_bares read_base64 ts

@@ -1,7 +1,7 @@
 -- S, S[M], S[X]: "count octet, then octets"; "one or more strings"; "one token, no count, one or more octets".
 use Rattle.std.specs.Prelude.{ℕ, zero, suc, not, List, [], ◌∷◌, ◌++◌, map, length, drop}
 use Prim.Native.Char.{code}
-use Rattle.std.proofs.Math.Option.{Option, none, some}
+use Rattle.std.specs.Prelude.{Option, None, Some}
 use Rattle.format.specs.Lists.{◌>>=◌, provided, null, flat_map, cons_first}
 use Rattle.format.specs.Octets.{ascii, in_range, among}
 use Rattle.format.specs.Token.{Token, bare, quoted, broken, octet_of, unescaped, escaped}
@@ -35,8 +35,8 @@ string_text xs = ascii "\"" ++ flat_map string_escape xs ++ ascii "\""
 -- "Bare only if not empty and without backslash; quoted with N's escapes."
 abbrev pub string_value : Token → Option (List ℕ)
 string_value (bare t) = provided (not (among (code "\\") t)) t
-string_value (quoted t) = unescaped t >>= λ is. some (map octet_of is)
-string_value broken = none
+string_value (quoted t) = unescaped t >>= λ is. Some (map octet_of is)
+string_value broken = None
 
 -- "count octet, then octets"
 abbrev pub read_string : Token → Option (List ℕ)

@@ -1,6 +1,6 @@
 -- T: "4 octets, unsigned seconds since 1970-01-01". Months are counted from January 1970, from 0.
 use Rattle.std.specs.Prelude.{ℕ, zero, suc, ◌+◌, ◌*◌, ◌-◌, ◌/◌, ◌%◌, ◌^◌, Bool, not, cond, ◌&&◌, ◌||◌, List, [], ◌∷◌, ◌++◌, length, take, drop, leb, ltb, eqb}
-use Rattle.std.proofs.Math.Option.{Option, none, some}
+use Rattle.std.specs.Prelude.{Option, None, Some}
 use Rattle.format.specs.Lists.{◌>>=◌, each_of}
 use Rattle.format.specs.Octets.{in_range, among}
 use Rattle.format.specs.Digits.{digits, number, digit_value}
@@ -52,8 +52,8 @@ abbrev pub moment : ℕ → ℕ → ℕ → ℕ → ℕ → ℕ → Option ℕ
 moment year month day hour minute second =
     cond (in_range 1970 2106 year && in_range 1 12 month)
     (cond (in_range 1 (month_length ((year - 1970) * 12 + (month - 1))) day && leb hour 23 && leb minute 59 && leb second 59)
-    (some ((days_before ((year - 1970) * 12 + (month - 1)) + (day - 1)) * 86400 + hour * 3600 + minute * 60 + second))
-    none) none
+    (Some ((days_before ((year - 1970) * 12 + (month - 1)) + (day - 1)) * 86400 + hour * 3600 + minute * 60 + second))
+    None) None
 
 -- the number of n digits from digit i on
 abbrev pub digits_at : ℕ → ℕ → List ℕ → ℕ
@@ -65,4 +65,4 @@ moment_of ds = moment (digits_at 0 4 ds) (digits_at 4 2 ds) (digits_at 6 2 ds) (
 
 -- "exactly 14 digits .. or 1 to 10 digits of seconds"
 abbrev pub read_time : List ℕ → Option (List ℕ)
-read_time t = below (2 ^ 32) (cond (eqb (length t) 14) (each_of (digit_value 10) t >>= moment_of) (decimal_of t)) >>= λ v. some (digits 256 4 v)
+read_time t = below (2 ^ 32) (cond (eqb (length t) 14) (each_of (digit_value 10) t >>= moment_of) (decimal_of t)) >>= λ v. Some (digits 256 4 v)

@@ -1,7 +1,7 @@
 -- Text: tokens parted by blanks, and the escapes inside a token.
 use Rattle.std.specs.Prelude.{ℕ, ◌+◌, ◌*◌, ◌-◌, Bool, true, false, not, cond, ◌&&◌, ◌||◌, List, [], ◌∷◌, leb, eqb}
 use Prim.Native.Char.{code}
-use Rattle.std.proofs.Math.Option.{Option, none, some}
+use Rattle.std.specs.Prelude.{Option, None, Some}
 use Rattle.format.specs.Lists.{cons_both}
 use Rattle.format.specs.Octets.{in_range, among, blank, digit}
 use Rattle.format.specs.Number.{fixed_decimal}
@@ -116,16 +116,16 @@ escape_step (two_digits v) x = cond (digit x && leb (v * 10 + (x - code "0")) 25
 
 -- no value ends inside an escape
 abbrev pub escape_end : Escaping → Option (List Item)
-escape_end outside = some []
-escape_end slash = none
-escape_end (one_digit v) = none
-escape_end (two_digits v) = none
+escape_end outside = Some []
+escape_end slash = None
+escape_end (one_digit v) = None
+escape_end (two_digits v) = None
 
 -- the value after that
 abbrev pub after_escape : EscapeMove → (Escaping → Option (List Item)) → Option (List Item)
 after_escape (moves e) f = f e
-after_escape (gives i) f = cons_both (some i) (f outside)
-after_escape bad_escape f = none
+after_escape (gives i) f = cons_both (Some i) (f outside)
+after_escape bad_escape f = None
 
 -- the value from where an escape stands
 unfoldable pub unescaped_from : Escaping → List ℕ → Option (List Item)
