@@ -6,7 +6,7 @@ use native.Mathlib.Nat.{add-zero, le_of_suc-le-suc, not-suc-le-zero, le_refl}
 use native.Mathlib.Numerals.{add-one}
 use native.Mathlib.Omega.{arith}
 use native.Mathlib.Decide.{dec_le}
-use lib.ListN.{length, take, drop, set, length-set, length-append, length-drop, drop_of_length-le}
+use lib.ListN.{length, take, drop, get_or, set, length-set, length-append, length-drop, drop_of_length-le}
 use lib.Seq.{sets, set_out, set_comm, take_all, length-sets}
 use Rattle.buffer.specs.Writing.{Wrote}
 pub use Rattle.format.proofs.Lists.{drop_next as next, drop_none as none}
@@ -121,28 +121,36 @@ home xs ys a =
     ap (λ (l : List ℕ). take a xs ++ (ys ++ l)) (drop_of_length-le (drop a xs) (subst (λ (k : ℕ). k ≤ length xs - a) (sym (length-drop a xs)) (le_refl _)))
     ∙ ap (λ (l : List ℕ). take a xs ++ l) (append-nil ys)
 
--- a writer that is lent the part from min at (length xs) on writes its text at the place `at` of the whole
+-- a text that is stored at the start of the part from min at (length xs) on stands at the place `at` of the whole
+at_place : (xs t : List ℕ) (at a : ℕ) → a ≡ min at (length xs) → take a xs ++ sets (drop a xs) 0 t ≡ sets xs at t
+at_place xs t at a e = by (dec_le at (length xs))
+  where
+    by : Dec (at ≤ length xs) → take a xs ++ sets (drop a xs) 0 t ≡ sets xs at t
+    by (yes h) = let q : a ≡ at = omega arith in rw q (sym (sets_drop at xs t h))
+    by (no h) =
+        let q : a ≡ length xs = omega arith in
+        sym (sets_drop a xs t (omega arith)) ∙ sets_out xs a t (omega arith) ∙ sym (sets_out xs at t (omega arith))
+
+-- so does what a writer leaves that is lent that part
 pub part_wrote : (xs ys : List ℕ) (at a w : ℕ) (t : List ℕ) → a ≡ min at (length xs) → Wrote (take (length xs - a) (drop a xs)) ys 0 w t
     → Wrote xs (take a xs ++ (ys ++ drop (length xs - a) (drop a xs))) at (at + w) t
 part_wrote xs ys at a w t e v = record {
-  octets = home xs ys a ∙ ap (λ (l : List ℕ). take a xs ++ l) (v.octets ∙ ap (λ (l : List ℕ). sets l 0 t) (rest_whole xs a))
-      ∙ or_past (dec_le at (length xs));
+  octets = home xs ys a ∙ ap (λ (l : List ℕ). take a xs ++ l) (v.octets ∙ ap (λ (l : List ℕ). sets l 0 t) (rest_whole xs a)) ∙ at_place xs t at a e;
   count = omega (arith, v.count);
 }
-  where
-    within : at ≤ length xs → take a xs ++ sets (drop a xs) 0 t ≡ sets xs at t
-    within h = let q : a ≡ at = omega arith in rw q (sym (sets_drop at xs t h))
-
-    past : length xs ≤ at → take a xs ++ sets (drop a xs) 0 t ≡ sets xs at t
-    past h =
-        let q : a ≡ length xs = omega arith in
-        sym (sets_drop a xs t (omega arith)) ∙ sets_out xs a t (omega arith) ∙ sym (sets_out xs at t h)
-
-    or_past : Dec (at ≤ length xs) → take a xs ++ sets (drop a xs) 0 t ≡ sets xs at t
-    or_past (yes h) = within h
-    or_past (no h) = past (omega arith)
 
 -- a writer that is lent the empty part at the end leaves the whole as it was
 pub measured : (xs ys : List ℕ) (w : ℕ) (t : List ℕ) → Wrote (take (length xs - length xs) (drop (length xs) xs)) ys 0 w t
     → take (length xs) xs ++ (ys ++ drop (length xs - length xs) (drop (length xs) xs)) ≡ xs
 measured xs ys w t v = (part_wrote xs ys (length xs) (length xs) w t (omega arith) v).octets ∙ sets_out xs (length xs) t (le_refl (length xs))
+
+-- in a loop over a text: its next octet is stored, and none is left
+pub left_next : {o₀ o : List ℕ} {start i : ℕ} (text o' : List ℕ) → Left o₀ start text o (start + i) (drop i text) → i < length text → o' ≡ set o (start + i) (get_or text i 0)
+    → Left o₀ start text o' (start + (i + 1)) (drop (i + 1) text)
+left_next {start = start} {i} text o' l h p = let z : start + i + 1 ≡ start + (i + 1) = omega arith in rw (← z) (left_one o' (get_or text i 0) (drop (i + 1) text) l (next text i h) p)
+
+pub left_over : {o₀ o : List ℕ} {start i : ℕ} (text : List ℕ) → Left o₀ start text o (start + i) (drop i text) → length text ≤ i → Wrote o₀ o start (start + length text) text
+left_over {start = start} {i} text l h = record {
+  octets = (left_none l (none text i h)).octets;
+  count = refl;
+}

@@ -1,24 +1,23 @@
--- Laws of a number's decimal text, and of its octets, stored from the last on.
+-- Laws of a number's digits, stored from the last on, and of its decimal text.
 use Prim.Native.Nat.{ℕ, zero, suc, ◌+◌, ◌-◌, ◌*◌, ◌/◌, ◌%◌, ◌^◌, ◌<◌, ◌≤◌}
 use mathlib.Core.Path.{◌≡◌, refl, sym, ap, ◌∙◌}
 use mathlib.Core.List.{List, [], ◌∷◌, ◌++◌, map}
 use native.Mathlib.Nat.{add-zero, lt_of_lt_of_le, mod-eq_of_lt, pow-suc, pow-le-pow_right, div-lt_iff_lt-mul}
 use native.Mathlib.Omega.{arith}
+use native.Mathlib.Decide.{dec_lt}
 use borrow.Author.Tests.{lt-ltb}
 use lib.ListN.{length, set, length-map}
 use lib.Seq.{sets}
 use Rattle.format.specs.Digits.{digits, without_zeros, upper_digit}
 use Rattle.format.specs.Number.{fixed_decimal, decimal}
-use Rattle.format.proofs.Digits.{digits_length}
+use Rattle.format.specs.Octets.{Below}
+use Rattle.format.proofs.Digits.{digits_length, digits_below}
 use Rattle.buffer.specs.Writing.{Wrote}
 use Rattle.buffer.proofs.Laws.{sets_last}
 
 map_last : (f : ℕ → ℕ) (ds : List ℕ) (d : ℕ) → map f (ds ++ d ∷ []) ≡ map f ds ++ f d ∷ []
 map_last f [] d = refl
 map_last f (e ∷ ds) d = ap (λ (t : List ℕ). f e ∷ t) (map_last f ds d)
-
-fixed_length : (w v : ℕ) → length (fixed_decimal w v) ≡ w
-fixed_length w v = length-map (digits 10 w v) upper_digit ∙ digits_length 10 w v
 
 -- the last of the digits may be stored first
 pub last_digit : (char : ℕ → ℕ) (b : ℕ) (o o' : List ℕ) (n k x : ℕ) → 0 < k → o' ≡ set o (n + (k - 1)) (char (x % b))
@@ -30,26 +29,22 @@ last_digit char b o o' n (suc k) x h p =
     let l : length (map char (digits b k (x / b))) ≡ k = length-map (digits b k (x / b)) char ∙ digits_length b k (x / b) in
     rw (e, p', map_last char (digits b k (x / b)) (x % b), sets_last o n (map char (digits b k (x / b))) (char (x % b)), l)
 
-pub last_stored : (o o' : List ℕ) (n k x : ℕ) → 0 < k → o' ≡ set o (n + (k - 1)) (48 + x % 10) → sets o' n (fixed_decimal (k - 1) (x / 10)) ≡ sets o n (fixed_decimal k x)
-last_stored o o' n k x h p = let m : x % 10 < 10 = omega arith in last_digit upper_digit 10 o o' n k x h (rw (lt-ltb (x % 10) 10 m) p)
-
 -- no digit is left
-pub all_stored : (o₀ o : List ℕ) (n w v k x : ℕ) → k ≤ 0 → sets o n (fixed_decimal k x) ≡ sets o₀ n (fixed_decimal w v) → Wrote o₀ o n (n + w) (fixed_decimal w v)
-all_stored o₀ o n w v zero x h e = record { octets = e; count = ap (λ (l : ℕ). n + l) (sym (fixed_length w v)) }
-all_stored o₀ o n w v (suc k) x h e = absurd (omega arith)
+pub all_stored : (char : ℕ → ℕ) (b : ℕ) (o₀ o : List ℕ) (n w v k x : ℕ) → k ≤ 0 → sets o n (map char (digits b k x)) ≡ sets o₀ n (map char (digits b w v)) → Wrote o₀ o n (n + w) (map char (digits b w v))
+all_stored char b o₀ o n w v zero x h e = record { octets = e; count = ap (λ (l : ℕ). n + l) (sym (length-map (digits b w v) char ∙ digits_length b w v)) }
+all_stored char b o₀ o n w v (suc k) x h e = absurd (omega arith)
 
--- octets that are stored from the last on
-map_same : (xs : List ℕ) → map (λ (x : ℕ). x) xs ≡ xs
-map_same [] = refl
-map_same (x ∷ xs) = ap (λ (l : List ℕ). x ∷ l) (map_same xs)
+-- decimal digits are the octets from 48 on, and the digits of octets are themselves
+as_octets : (ds : List ℕ) → Below 10 ds → map (λ (d : ℕ). 48 + d) ds ≡ map upper_digit ds
+as_octets [] h = refl
+as_octets (d ∷ ds) h = rw (lt-ltb d 10 h.0, as_octets ds h.1)
 
-pub last_octet : (o o' : List ℕ) (n k x : ℕ) → 0 < k → o' ≡ set o (n + (k - 1)) (x % 256) → sets o' n (digits 256 (k - 1) (x / 256)) ≡ sets o n (digits 256 k x)
-last_octet o o' n k x h p =
-    ap (sets o' n) (sym (map_same (digits 256 (k - 1) (x / 256)))) ∙ last_digit (λ (x : ℕ). x) 256 o o' n k x h p ∙ ap (sets o n) (map_same (digits 256 k x))
+pub decimal_digits : (w v : ℕ) → map (λ (d : ℕ). 48 + d) (digits 10 w v) ≡ fixed_decimal w v
+decimal_digits w v = as_octets (digits 10 w v) (digits_below 10 w v (omega arith))
 
-pub all_octets : (o₀ o : List ℕ) (n w v k x : ℕ) → k ≤ 0 → sets o n (digits 256 k x) ≡ sets o₀ n (digits 256 w v) → Wrote o₀ o n (n + w) (digits 256 w v)
-all_octets o₀ o n w v zero x h e = record { octets = e; count = ap (λ (l : ℕ). n + l) (sym (digits_length 256 w v)) }
-all_octets o₀ o n w v (suc k) x h e = absurd (omega arith)
+pub map_zero : (xs : List ℕ) → map (λ (x : ℕ). 0 + x) xs ≡ xs
+map_zero [] = refl
+map_zero (x ∷ xs) = let e : 0 + x ≡ x = omega arith in rw (e, map_zero xs)
 
 fewer : (w n : ℕ) → n < 10 ^ suc w → n / 10 < 10 ^ w
 fewer w n h = (div-lt_iff_lt-mul {k = 10} {x = n} {y = 10 ^ w} (omega arith)).1 (rw (pow-suc 10 w) at h)
@@ -97,9 +92,19 @@ kept ds b = ap without_zeros b.same ∙ as_is b.first b.others ∙ sym b.same
     as_is d (e ∷ es) = refl
 
 -- so it is written in as many digits as it has
-pub one_digit_lem : (v : ℕ) → v < 10 → fixed_decimal 1 v ≡ decimal v
-one_digit_lem v h = ap (map upper_digit) (sym (strip 9 0 v h))
-
-pub more_digits : (k w v : ℕ) → suc w + k ≡ 10 → 10 ^ w ≤ v → v < 10 ^ suc w → fixed_decimal (suc w) v ≡ decimal v
+more_digits : (k w v : ℕ) → suc w + k ≡ 10 → 10 ^ w ≤ v → v < 10 ^ suc w → fixed_decimal (suc w) v ≡ decimal v
 more_digits k w v e g h =
     ap (map upper_digit) (sym (kept (digits 10 (suc w) v) (begins w v g h)) ∙ sym (strip k w v h) ∙ ap (λ (m : ℕ). without_zeros (digits 10 m v)) e)
+
+pub few_digits : (w v : ℕ) → 10 ^ w ≤ v → v < 10 ^ 10 → w + 1 ≤ 10
+few_digits w v g l = by (dec_lt w 10)
+  where
+    by : Dec (w < 10) → w + 1 ≤ 10
+    by (yes h) = omega arith
+    by (no h) = let q : 10 ^ 10 ≤ 10 ^ w = (let j : 10 ≤ w = omega arith in pow-le-pow_right (omega arith) j) in absurd (omega arith)
+
+pub as_many_digits : (w v : ℕ) → 10 ^ w ≤ v → v < 10 * 10 ^ w → v < 10 ^ 10 → fixed_decimal (w + 1) v ≡ decimal v
+as_many_digits w v g h l =
+    let s : w + 1 ≡ suc w = omega arith in
+    let k : v < 10 ^ suc w = rw (pow-suc 10 w) (omega arith) in
+    rw s (more_digits (9 - w) w v (omega (arith, few_digits w v g l)) g k)

@@ -1,41 +1,43 @@
 // Writers of decimal and hex digits, and of the octets of a number.
 #![tactic(auto)]
 
-ghost use Rattle.std.specs.Prelude.{◌≡◌, map, ◌-◌, ◌^◌, ◌<◌, ◌≤◌};
+ghost use Rattle.std.specs.Prelude.{◌≡◌, map, ◌+◌, ◌^◌, ◌<◌, ◌≤◌};
 ghost use Rattle.format.specs.Digits.{digits, lower_digit};
 ghost use Rattle.format.specs.Number.{decimal, fixed_decimal};
 ghost use Rattle.buffer.specs.Writing.{Wrote};
 
 use buffer::put;
 
-// Writes a number in w decimal digits; the last digit is stored first.
-pub fn put_fixed(out: &mut [u8], at: usize, w: usize, v: u64) -> usize
-    requires { (at < 2 ^ 33) × (w < 2 ^ 32) }
-    ensures { Wrote out.old out.new at result (fixed_decimal w v) }
+// Writes a number in w digits to the base B, as octets from ZERO on; the last digit is stored first.
+fn put_digits<const B: u64, const ZERO: u8>(out: &mut [u8], at: usize, w: usize, v: u64) -> usize
+    requires base { 0 < B }
+    requires octets { ZERO + B ≤ 256 }
+    requires place { at < 2 ^ 33 }
+    requires width { w < 2 ^ 32 }
+    ensures { Wrote out.old out.new at result (map (λ d. ZERO + d) (digits B w v)) }
 {
-    let mut k = w;
     let mut x = v;
-    while 0 < k {
-        k = k - 1;
-        put(out, at + k, b'0' + (x % 10) as u8);
-        x = x / 10;
+    for k in (0..w).rev() {
+        put(out, at + k, ZERO + (x % B) as u8);
+        x /= B;
     }
     at + w
 }
 
-// Writes a number in w octets, big-endian; the last octet is stored first.
+// Writes a number in w decimal digits.
+pub fn put_fixed(out: &mut [u8], at: usize, w: usize, v: u64) -> usize
+    requires { (at < 2 ^ 33) × (w < 2 ^ 32) }
+    ensures { Wrote out.old out.new at result (fixed_decimal w v) }
+{
+    put_digits::<10, b'0'>(out, at, w, v)
+}
+
+// Writes a number in w octets, big-endian.
 pub fn put_octets(out: &mut [u8], at: usize, w: usize, v: u64) -> usize
     requires { (at < 2 ^ 32) × (w ≤ 8) }
     ensures { Wrote out.old out.new at result (digits 256 w v) }
 {
-    let mut k = w;
-    let mut x = v;
-    while 0 < k {
-        k = k - 1;
-        put(out, at + k, (x % 256) as u8);
-        x = x / 256;
-    }
-    at + w
+    put_digits::<256, 0>(out, at, w, v)
 }
 
 // The hex digit d in lower case.
@@ -59,36 +61,13 @@ pub fn put_hex_octet(out: &mut [u8], at: usize, b: u8) -> usize
 // How many digits a number has.
 fn digit_count(v: u64) -> usize
     requires { v < 10 ^ 10 }
-    ensures { (result ≤ 10) × (fixed_decimal result v ≡ decimal v) }
+    ensures small { result ≤ 10 }
+    ensures digits { fixed_decimal result v ≡ decimal v }
 {
     if v < 10 {
         return 1;
     }
-    if v < 100 {
-        return 2;
-    }
-    if v < 1000 {
-        return 3;
-    }
-    if v < 10000 {
-        return 4;
-    }
-    if v < 100000 {
-        return 5;
-    }
-    if v < 1000000 {
-        return 6;
-    }
-    if v < 10000000 {
-        return 7;
-    }
-    if v < 100000000 {
-        return 8;
-    }
-    if v < 1000000000 {
-        return 9;
-    }
-    10
+    v.ilog10() as usize + 1
 }
 
 // Writes a number in decimal without leading zeros.
@@ -96,6 +75,5 @@ pub fn put_decimal(out: &mut [u8], at: usize, v: u64) -> usize
     requires { (at < 2 ^ 32) × (v < 10 ^ 10) }
     ensures { Wrote out.old out.new at result (decimal v) }
 {
-    let w = digit_count(v);
-    put_fixed(out, at, w, v)
+    put_fixed(out, at, digit_count(v), v)
 }

@@ -13,34 +13,10 @@ use digits::put_fixed;
 fn name_special(b: u8) -> bool
     ensures { result ≡ among b (ascii ".\\\"';()@$") }
 {
-    if b == b'.' {
-        return true;
-    }
-    if b == b'\\' {
-        return true;
-    }
-    if b == b'"' {
-        return true;
-    }
-    if b == b'\'' {
-        return true;
-    }
-    if b == b';' {
-        return true;
-    }
-    if b == b'(' {
-        return true;
-    }
-    if b == b')' {
-        return true;
-    }
-    if b == b'@' {
-        return true;
-    }
-    if b == b'$' {
-        return true;
-    }
-    false
+    matches!(
+        b,
+        b'.' | b'\\' | b'"' | b'\'' | b';' | b'(' | b')' | b'@' | b'$'
+    )
 }
 
 // Writes a backslash and the octet.
@@ -59,7 +35,7 @@ fn put_ddd(out: &mut [u8], at: usize, b: u8) -> usize
     ensures { Wrote out.old out.new at result (92 ∷ fixed_decimal 3 b) }
 {
     let m = put_octet(out, at, b'\\');
-    put_fixed(out, m, 3, b as u64)
+    put_fixed(out, m, 3, u64::from(b))
 }
 
 // Writes an octet from lo to 7E hex as it is, any other as a backslash and three digits.
@@ -67,10 +43,7 @@ fn put_shown(out: &mut [u8], at: usize, lo: u8, b: u8) -> usize
     requires { at < 2 ^ 32 }
     ensures { Wrote out.old out.new at result (cond (in_range lo 0x7E b) (b ∷ []) (92 ∷ fixed_decimal 3 b)) }
 {
-    if b < lo {
-        return put_ddd(out, at, b);
-    }
-    if b'~' < b {
+    if b < lo || b'~' < b {
         return put_ddd(out, at, b);
     }
     put_octet(out, at, b)
@@ -92,10 +65,7 @@ pub fn put_escaped_string(out: &mut [u8], at: usize, b: u8) -> usize
     requires { at < 2 ^ 32 }
     ensures { Wrote out.old out.new at result (string_escape b) }
 {
-    if b == b'"' {
-        return put_slashed(out, at, b);
-    }
-    if b == b'\\' {
+    if b == b'"' || b == b'\\' {
         return put_slashed(out, at, b);
     }
     put_shown(out, at, b' ', b)

@@ -1,65 +1,45 @@
 // One escape inside a token.
-ghost use Rattle.std.specs.Prelude.{◌-◌, ◌<◌, ◌≤◌, ◌≡◌, cond, length};
-ghost use Rattle.std.proofs.Math.Seq.{slice};
+ghost use Rattle.std.specs.Prelude.{◌-◌, ◌<◌, ◌≡◌};
+ghost use Rattle.format.specs.Lists.{provided};
 ghost use Rattle.format.specs.Octets.{digit};
 ghost use Rattle.format.specs.Token.{unescaped_from, slash, one_digit};
-ghost use Rattle.escape.specs.Escapes.{items_by, EndsWithin};
+ghost use Rattle.escape.specs.Escapes.{items_after, Within};
 
-// The octet of an escape and the place after it, or a fault.
-#[derive(Clone, Copy)]
-pub enum Escape {
-    Fault,
-    Octet(u8, usize),
+// The value of a decimal digit.
+fn digit_value(b: u8) -> Option<u16>
+    ensures { result ≡ provided (digit b) (b - 48) }
+{
+    if b.is_ascii_digit() {
+        return Some(u16::from(b - b'0'));
+    }
+    None
 }
 
-// The value of a decimal digit, or 10 if the octet is none.
-fn digit_value(b: u8) -> u16
-    ensures { result ≡ cond (digit b) (b - 48) 10 }
+// The octet of the escape whose first digit is v and whose other two begin t. None if they are no digits, or the number is
+// over 255.
+fn decimal(t: &[u8], v: u16) -> Option<(u8, usize)>
+    requires { v < 10 }
+    ensures items { unescaped_from (one_digit v) t.now ≡ items_after t.now result }
+    ensures within { Within t.now result }
 {
-    if b < b'0' {
-        return 10;
+    if t.len() < 2 {
+        return None;
     }
-    if b'9' < b {
-        return 10;
-    }
-    (b - b'0') as u16
+    let x = digit_value(t[0])?;
+    let y = digit_value(t[1])?;
+    let octet = u8::try_from((v * 10 + x) * 10 + y).ok()?;
+    Some((octet, 2))
 }
 
-// The escape whose first digit is v and whose other two stand at i. A fault if they are no digits, or the number is over 255.
-fn decimal(t: &[u8], i: usize, e: usize, v: u16) -> Escape
-    requires { (i ≤ e) × (e ≤ length t.now) × (v < 10) }
-    ensures { (unescaped_from (one_digit v) (slice i e t.now) ≡ items_by t.now e result) × EndsWithin i e result }
+// The octet of the escape whose backslash stands just before t, and how many octets of t it takes.
+pub fn read(t: &[u8]) -> Option<(u8, usize)>
+    ensures items { unescaped_from slash t.now ≡ items_after t.now result }
+    ensures within { Within t.now result }
 {
-    if e - i < 2 {
-        return Escape::Fault;
-    }
-    let x = digit_value(t[i]);
-    if 9 < x {
-        return Escape::Fault;
-    }
-    let y = digit_value(t[i + 1]);
-    if 9 < y {
-        return Escape::Fault;
-    }
-    let w = (v * 10 + x) * 10 + y;
-    if 255 < w {
-        return Escape::Fault;
-    }
-    Escape::Octet(w as u8, i + 2)
-}
-
-// The escape whose backslash stands just before i.
-pub fn read(t: &[u8], i: usize, e: usize) -> Escape
-    requires { (i ≤ e) × (e ≤ length t.now) }
-    ensures { (unescaped_from slash (slice i e t.now) ≡ items_by t.now e result) × EndsWithin i e result }
-{
-    if e <= i {
-        return Escape::Fault;
-    }
-    let b = t[i];
-    let x = digit_value(b);
-    if 9 < x {
-        return Escape::Octet(b, i + 1);
-    }
-    decimal(t, i + 1, e, x)
+    let b = *t.first()?;
+    let Some(x) = digit_value(b) else {
+        return Some((b, 1));
+    };
+    let (octet, n) = decimal(&t[1..], x)?;
+    Some((octet, n + 1))
 }

@@ -1,8 +1,9 @@
 -- The number that a few octets of a list make.
-use Prim.Native.Nat.{ℕ, suc, ◌+◌, ◌*◌, ◌-◌, ◌^◌, ◌≤◌, ◌<◌}
+use Prim.Native.Nat.{ℕ, ◌+◌, ◌*◌, ◌^◌, ◌≤◌, ◌<◌}
 use mathlib.Core.Path.{◌≡◌, ap, ◌∙◌}
 use mathlib.Core.List.{List, ◌∷◌}
 use native.Mathlib.Omega.{arith}
+use native.Mathlib.Numerals.{add-one}
 use native.Mathlib.Nat.{pow-suc, pow-le-pow_right}
 use lib.Dec.{lit<}
 use lib.ListN.{length, get_or}
@@ -22,11 +23,8 @@ two_octets s i e h l =
     ∙ omega arith
 
 -- with one octet more the number stays below 256 to the power of the octets read
-pub octet_more : (v i j x : ℕ) → i ≤ j → v < 256 ^ (j - i) → x < 256 → v * 256 + x < 256 ^ (j + 1 - i)
-octet_more v i j x l h k = let e : j + 1 - i ≡ suc (j - i) = omega arith in rw (e, pow-suc 256 (j - i)) (omega arith)
+pub one_more_octet : (v n x : ℕ) → v < 256 ^ n → x < 256 → v * 256 + x < 256 ^ (n + 1)
+one_more_octet v n x h k = rw (add-one, pow-suc 256 n) (omega arith)
 
 pub octets_fit : (v n m : ℕ) → n ≤ m → v < 256 ^ n → v < 256 ^ m
 octets_fit v n m h k = omega (arith, pow-le-pow_right {n = 256} (lit< tt) {i = n} {j = m} h)
-
-pub none_yet : (i : ℕ) → 0 < 256 ^ (i - i)
-none_yet i = let e : i - i ≡ 0 = omega arith in rw e (omega arith)

@@ -1,13 +1,13 @@
--- Laws of a list of octets, or a part of one, that is made of counted pieces.
+-- Laws of a list of octets, or what is left of one, that is made of counted pieces.
 use Prim.Native.Nat.{ℕ, zero, suc, ◌+◌, ◌≤◌}
 use mathlib.Core.Path.{◌≡◌, refl, sym, ap, ◌∙◌}
 use mathlib.Core.List.{List, [], ◌∷◌}
 use native.Mathlib.Omega.{arith}
-use lib.ListN.{length, take, drop, get_or}
-use lib.Seq.{slice, length-slice}
+use lib.ListN.{length, take, drop, get_or, length-drop}
+use Rattle.std.proofs.lemmas.List.{drop-drop}
 use Rattle.format.specs.Lists.{cons_first}
 use Rattle.format.specs.Text.{pieces_from, pieces}
-use Rattle.octets.proofs.Slices.{next, rest, part}
+use Rattle.format.proofs.Lists.{drop_next}
 
 -- the first piece and the others
 pieces_first : (n : ℕ) (xs : List ℕ) → n ≤ length xs → pieces_from n xs ≡ take n xs ∷ pieces (drop n xs)
@@ -16,13 +16,12 @@ pieces_first zero (c ∷ xs) h = refl
 pieces_first (suc n) [] h = absurd (omega arith)
 pieces_first (suc n) (x ∷ xs) h = ap (cons_first x) (pieces_first n xs (omega arith))
 
-pub pieces_at : (p : List ℕ) (i e n : ℕ) → n ≡ get_or p i 0 → i + 1 + n ≤ e → e ≤ length p → pieces (slice i e p) ≡ slice (i + 1) (i + 1 + n) p ∷ pieces (slice (i + 1 + n) e p)
-pieces_at p i e n q h l =
-    ap pieces (next p i e (omega arith) l)
-    ∙ ap (λ k. pieces_from k (slice (i + 1) e p)) (sym q)
-    ∙ pieces_first n (slice (i + 1) e p) (omega (arith, length-slice (i + 1) e p l))
-    ∙ ap (λ t. t ∷ pieces (drop n (slice (i + 1) e p))) (part p (i + 1) n e h)
-    ∙ ap (λ t. slice (i + 1) (i + 1 + n) p ∷ pieces t) (rest p (i + 1) n e)
+pub pieces_at : (p : List ℕ) (j n : ℕ) → n ≡ get_or p j 0 → j + 1 + n ≤ length p → pieces (drop j p) ≡ take n (drop (j + 1) p) ∷ pieces (drop (j + 1 + n) p)
+pieces_at p j n q h =
+    ap pieces (drop_next p j (omega arith))
+    ∙ ap (λ k. pieces_from k (drop (j + 1) p)) (sym q)
+    ∙ pieces_first n (drop (j + 1) p) (omega (arith, length-drop (j + 1) p))
+    ∙ ap (λ xs. take n (drop (j + 1) p) ∷ pieces xs) (drop-drop n (j + 1) p)
 
 -- there is a piece
 first_kept : (x : ℕ) (ts : List (List ℕ)) → length (cons_first x ts) ≡ length ts

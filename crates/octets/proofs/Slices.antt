@@ -1,16 +1,15 @@
 -- Laws of the part of a list from i to e, walked by an index.
 use Prim.Native.Nat.{ℕ, zero, suc, ◌+◌, ◌-◌, ◌≤◌, ◌<◌}
 use mathlib.Core.Path.{◌≡◌, refl, sym, ap, ◌∙◌}
-use mathlib.Core.Bool.{Bool, true, false, ◌&&◌}
+use mathlib.Core.Bool.{Bool, true, false}
 use mathlib.Core.List.{List, [], ◌∷◌, ◌++◌}
 use native.Mathlib.Omega.{arith}
 use native.Mathlib.Numerals.{add-one}
-use lib.ListN.{length, take, drop, get_or, length-take, drop_of_length-le, take-append-drop}
-use lib.Seq.{slice, slice-cons, drop-drop, length-slice, take-nil, take-take, drop-append-le, length-take-le}
-use lib.Dec.{eqb}
+use lib.ListN.{length, take, drop, get_or, length-take, length-drop, drop_of_length-le, take-append-drop}
+use lib.Seq.{take_all, slice, slice-cons, drop-drop, length-slice, take-nil, take-take, drop-append-le, length-take-le}
 use Rattle.format.specs.Lists.{spanning, span}
 use Rattle.format.specs.Octets.{same_octets}
-use Rattle.format.proofs.Lists.{longer}
+use Rattle.format.proofs.Lists.{longer, drop_next, drop_none}
 use Rattle.octets.specs.Octets.{front_end}
 
 -- a part is its next element and the rest; past its end it is empty
@@ -19,22 +18,6 @@ next s i e h l = rw (add-one) (slice-cons i e s 0 h l)
 
 pub none : (s : List ℕ) (i e : ℕ) → e ≤ i → slice i e s ≡ []
 none s i e h = let l : length (take e s) ≤ i = omega (arith, length-take e s) in drop_of_length-le (take e s) l
-
--- a part of one octet is b alone if that octet is b; no other part is
-pub one_octet : (s : List ℕ) (i e b : ℕ) → e - i ≡ 1 → e ≤ length s → eqb (get_or s i 0) b ≡ same_octets (slice i e s) (b ∷ [])
-one_octet s i e b q l = sym (ap (λ t. same_octets t (b ∷ [])) (next s i e (omega arith) l ∙ ap (λ t. get_or s i 0 ∷ t) (none s (i + 1) e (omega arith))) ∙ by (eqb (get_or s i 0) b))
-  where
-    by : (c : Bool) → c && true ≡ c
-    by true = refl
-    by false = refl
-
-pub other_octets : (s : List ℕ) (i e b : ℕ) → (e - i ≡ 1 → ⊥) → e ≤ length s → false ≡ same_octets (slice i e s) (b ∷ [])
-other_octets s i e b q l = by (slice i e s) (length-slice i e s l)
-  where
-    by : (t : List ℕ) → length t ≡ e - i → false ≡ same_octets t (b ∷ [])
-    by [] k = refl
-    by (x ∷ []) k = absurd (q (sym k))
-    by (x ∷ y ∷ t) k = sym (longer b x y t)
 
 -- the rest of a part is a part
 pub rest : (s : List ℕ) (i n e : ℕ) → drop n (slice i e s) ≡ slice (i + n) e s
@@ -48,6 +31,10 @@ take_drop n (suc i) (x ∷ s) = let q : suc i + n ≡ suc (i + n) = omega arith 
 
 pub lent : (s : List ℕ) (i e : ℕ) → i ≤ e → take (e - i) (drop i s) ≡ slice i e s
 lent s i e h = let q : i + (e - i) ≡ e = omega arith in take_drop (e - i) i s ∙ ap (λ k. drop i (take k s)) q
+
+-- what is lent of a list from a place on is all that is left there
+pub lent_rest : {A : Type 0} (s : List A) (i : ℕ) → take (length s - i) (drop i s) ≡ drop i s
+lent_rest s i = let h : length (drop i s) ≤ length s - i = omega (arith, length-drop i s) in take_all (length s - i) (drop i s) h
 
 -- a part of a part, and a part and the rest of the list
 pub part : (s : List ℕ) (i k e : ℕ) → i + k ≤ e → take k (slice i e s) ≡ slice i (i + k) s
@@ -113,3 +100,20 @@ module _ (f : ℕ → Bool) where
 
   pub front_rest : (s : List ℕ) (i e : ℕ) → slice (front_end f s i e) e s ≡ (span f (slice i e s)).rest
   front_rest s i e = sym (rest s i (length (span f (slice i e s)).front) e) ∙ span_rest (slice i e s)
+
+-- the front of what is left from a place on, if its next octet passes or not
+module _ (f : ℕ → Bool) (xs : List ℕ) (i : ℕ) (h : i < length xs) where
+  pub front_goes_on : f (get_or xs i 0) ≡ true → i + 1 + length (span f (drop (i + 1) xs)).front ≡ i + length (span f (drop i xs)).front
+  front_goes_on t = rw (drop_next xs i h, span_on f (get_or xs i 0) (drop (i + 1) xs) t) (omega arith)
+
+  pub front_stops : f (get_or xs i 0) ≡ false → i ≡ i + length (span f (drop i xs)).front
+  front_stops t = rw (drop_next xs i h, span_off f (get_or xs i 0) (drop (i + 1) xs) t) (omega arith)
+
+pub front_ends : (f : ℕ → Bool) (xs : List ℕ) (i : ℕ) → length xs ≤ i → i ≡ i + length (span f (drop i xs)).front
+front_ends f xs i h = rw (drop_none xs i h) (omega arith)
+
+-- two octets or more are not one alone
+pub none_alone : (b : ℕ) (xs : List ℕ) → 2 ≤ length xs → false ≡ same_octets xs (b ∷ [])
+none_alone b [] h = absurd (omega arith)
+none_alone b (x ∷ []) h = absurd (omega arith)
+none_alone b (x ∷ y ∷ xs) h = sym (longer b x y xs)

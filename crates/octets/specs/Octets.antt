@@ -1,15 +1,12 @@
 -- What the code's classes and answers mean, by the definitions of document 01.
-use Rattle.std.specs.Prelude.{ℕ, ◌+◌, Bool, not, List, [], ◌∷◌, eqb, length}
+use Rattle.std.specs.Prelude.{ℕ, ◌+◌, Bool, not, List, eqb, length}
 use Prim.Native.Char.{code}
-use Rattle.std.proofs.Math.Option.{Option, none, some}
 use Rattle.std.proofs.Math.Seq.{slice}
 use Rattle.format.specs.Lists.{span}
 use Rattle.format.specs.Octets.{blank, digit, letter, alphanumeric, name_octet, in_range}
 use Rattle.format.specs.Field.{Part}
 use Rattle.octets.specs.declared.Class.{Class}
 use Rattle.octets.specs.declared.Class.TheVariants.{NotNewline, Blank, Digit, Letter, Alphanumeric, NameOctet, NotBracket, NotComma, FreeText}
-use Rattle.octets.specs.declared.Number.{Number}
-use Rattle.octets.specs.declared.Number.TheVariants.{Value, Fault}
 
 -- the octets of each class
 abbrev pub in_class : Class → ℕ → Bool
@@ -34,12 +31,3 @@ line_end s i = front_end (in_class NotNewline) s i (length s)
 -- the part of a stanza from a to e
 abbrev pub part_in : List ℕ → ℕ → ℕ → Part
 part_in s a e = record { place = a; octets = slice a e s }
-
--- the first octet, or 256 if there is none
-abbrev pub first_or : List ℕ → ℕ
-first_or [] = 256
-first_or (x ∷ xs) = x
-
-abbrev pub number_of : Option ℕ → Number
-number_of none = Fault
-number_of (some v) = Value v

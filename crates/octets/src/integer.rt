@@ -1,28 +1,25 @@
 // Integers of a fixed number of octets.
 ghost use Rattle.std.specs.Prelude.{◌+◌, ◌*◌, ◌^◌, ◌<◌, ◌≤◌, ◌≡◌, length, get_or};
-ghost use Rattle.std.proofs.Math.Seq.{slice};
 ghost use Rattle.format.specs.Digits;
 
-// The number in the two octets at i, big-endian.
-pub fn two(p: &[u8], i: usize) -> u64
-    requires { i + 1 < length p.now }
-    ensures { (result ≡ get_or p.now i 0 * 256 + get_or p.now (i + 1) 0) × (result < 65536) }
+// The number in the first two octets, big-endian.
+pub fn two(p: &[u8]) -> u64
+    requires { 2 ≤ length p.now }
+    ensures value { result ≡ get_or p.now 0 0 * 256 + get_or p.now 1 0 }
+    ensures small { result < 65536 }
 {
-    let hi = p[i] as u64;
-    let lo = p[i + 1] as u64;
-    hi * 256 + lo
+    u64::from(p[0]) * 256 + u64::from(p[1])
 }
 
-// The number in the octets from i to e, at most four, big-endian.
-pub fn number(p: &[u8], i: usize, e: usize) -> u64
-    requires { (i ≤ e) × (e ≤ i + 4) × (e ≤ length p.now) }
-    ensures { (result ≡ Digits.number 256 (slice i e p.now)) × (result < 2 ^ 32) }
+// The number in the octets, at most four, big-endian.
+pub fn number(p: &[u8]) -> u64
+    requires { length p.now ≤ 4 }
+    ensures value { result ≡ Digits.number 256 p.now }
+    ensures small { result < 2 ^ 32 }
 {
     let mut v: u64 = 0;
-    let mut j = i;
-    while j < e {
-        v = v * 256 + p[j] as u64;
-        j = j + 1;
+    for b in p {
+        v = v * 256 + u64::from(*b);
     }
     v
 }

@@ -3,12 +3,11 @@
 
 pub mod integer;
 
-ghost use Rattle.std.specs.Prelude.{◌+◌, ◌-◌, ◌≤◌, length, leb, ◌&&◌, [], ◌∷◌, ◌≡◌};
-ghost use Rattle.std.proofs.Math.Seq.{slice};
+ghost use Rattle.std.specs.Prelude.{◌+◌, ◌-◌, ◌≤◌, length, take, leb, ◌&&◌, [], ◌∷◌, ◌≡◌};
 ghost use Rattle.format.specs.Lists.{span, all_of};
-ghost use Rattle.format.specs.Octets.{lowered, same_octets};
+ghost use Rattle.format.specs.Octets.{letter, lowered, same_octets};
 ghost use Rattle.format.specs.Number.{decimal_of};
-ghost use Rattle.octets.specs.Octets.{in_class, line_end, first_or, number_of};
+ghost use Rattle.octets.specs.Octets.{in_class, line_end};
 ghost use Rattle.octets.specs.declared.Class.TheVariants.{NotNewline, FreeText};
 
 // The classes of octets in a stanza; see specs/Octets.antt.
@@ -25,149 +24,93 @@ pub enum Class {
     FreeText,
 }
 
-// A decimal number, or none; see specs/Octets.antt.
-#[derive(Clone, Copy)]
-pub enum Number {
-    Value(u64),
-    Fault,
-}
-
-// Whether an octet is a digit, 0 to 9.
-fn is_digit(b: u8) -> bool
-    ensures { result ≡ Rattle.format.specs.Octets.digit b }
-{
-    if b < b'0' {
-        return false;
+impl Class {
+    // Whether an octet is in the class.
+    pub fn has(self, b: u8) -> bool
+        ensures { result ≡ in_class self b }
+    {
+        match self {
+            Class::NotNewline => b != b'\n',
+            Class::Blank => b == b' ' || b == b'\t',
+            Class::Digit => b.is_ascii_digit(),
+            Class::Letter => is_letter(b),
+            Class::Alphanumeric => is_letter(b) || b.is_ascii_digit(),
+            // letters first: most octets of names are
+            Class::NameOctet => {
+                if is_letter(b) {
+                    return true;
+                }
+                b.is_ascii_digit() || b == b'-'
+            }
+            Class::NotBracket => b != b']',
+            Class::NotComma => b != b',',
+            Class::FreeText => b' ' <= b && b <= 254,
+        }
     }
-    b <= b'9'
 }
 
 // Whether an octet is a letter. A capital differs from its small letter by one bit, so one range is tested.
 fn is_letter(b: u8) -> bool
-    ensures { result ≡ Rattle.format.specs.Octets.letter b }
+    ensures { result ≡ letter b }
 {
-    let small = b | 32;
-    if small < b'a' {
-        return false;
-    }
-    small <= b'z'
+    (b | 32).is_ascii_lowercase()
 }
 
 // The octet, in lower case if it is a letter.
 pub fn lower(b: u8) -> u8
     ensures { result ≡ lowered b }
 {
-    if b < b'A' {
-        return b;
-    }
-    if b <= b'Z' {
-        return b + 32;
-    }
-    b
+    b.to_ascii_lowercase()
 }
 
-// Whether the octets from i to e are the octet b alone.
-pub fn is_alone(xs: &[u8], i: usize, e: usize, b: u8) -> bool
-    requires { (i ≤ e) × (e ≤ length xs.now) }
-    ensures { result ≡ same_octets (slice i e xs.now) (b ∷ []) }
+// Whether the octets are the octet b alone.
+pub fn is_alone(xs: &[u8], b: u8) -> bool
+    ensures { result ≡ same_octets xs.now (b ∷ []) }
 {
-    if e - i == 1 {
-        return xs[i] == b;
+    match xs {
+        [x] => *x == b,
+        _ => false,
     }
-    false
 }
 
-// Whether an octet is in the class.
-pub fn is_in(c: Class, b: u8) -> bool
-    ensures { result ≡ in_class c b }
+// How many octets from the first on are in the class, up to one that is not.
+pub fn skip(xs: &[u8], c: Class) -> usize
+    ensures { result ≡ length (span (in_class c) xs.now).front }
 {
-    match c {
-        Class::NotNewline => b != b'\n',
-        Class::Blank => {
-            if b == b' ' {
-                return true;
-            }
-            b == b'\t'
-        }
-        Class::Digit => is_digit(b),
-        Class::Letter => is_letter(b),
-        Class::Alphanumeric => {
-            if is_letter(b) {
-                return true;
-            }
-            is_digit(b)
-        }
-        Class::NameOctet => {
-            if is_letter(b) {
-                return true;
-            }
-            if is_digit(b) {
-                return true;
-            }
-            b == b'-'
-        }
-        Class::NotBracket => b != b']',
-        Class::NotComma => b != b',',
-        Class::FreeText => {
-            if b < b' ' {
-                return false;
-            }
-            b <= 254
+    for (i, b) in xs.iter().enumerate() {
+        if !c.has(*b) {
+            return i;
         }
     }
+    xs.len()
 }
 
-// The end of the longest run of octets in the class that starts at i, not past e.
-pub fn skip(xs: &[u8], i: usize, e: usize, c: Class) -> usize
-    requires { (i ≤ e) × (e ≤ length xs.now) }
-    ensures { result ≡ i + length (span (in_class c) (slice i e xs.now)).front }
-{
-    let mut j = i;
-    while j < e {
-        if is_in(c, xs[j]) {
-            j = j + 1;
-        } else {
-            return j;
-        }
-    }
-    j
-}
-
-// Whether the n octets from i on are all in the class. The loop has no early exit, and n is 8 or 16 at each call, so that
-// they are tested at once.
-fn all_in(xs: &[u8], i: usize, n: usize, c: Class) -> bool
-    requires { i + n ≤ length xs.now }
-    ensures { result ≡ all_of (in_class c) (slice i (i + n) xs.now) }
+// Whether all octets are in the class. The loop has no early exit, so that many are tested at once.
+fn all_in(xs: &[u8], c: Class) -> bool
+    ensures { result ≡ all_of (in_class c) xs.now }
 {
     let mut all = true;
-    let mut k = 0;
-    while k < n {
-        all = all & is_in(c, xs[i + k]);
-        k = k + 1;
+    for b in xs {
+        all &= c.has(*b);
     }
     all
 }
 
-// Whether at least 16 octets are left from i to e and the first 16 are all in the class.
-fn goes_on(xs: &[u8], i: usize, e: usize, c: Class) -> bool
-    requires { (i ≤ e) × (e ≤ length xs.now) }
-    ensures { result ≡ leb 16 (e - i) && all_of (in_class c) (slice i (i + 16) xs.now) }
+// Whether there are at least 16 octets and the first 16 are all in the class.
+fn goes_on(xs: &[u8], c: Class) -> bool
+    ensures { result ≡ leb 16 (length xs.now) && all_of (in_class c) (take 16 xs.now) }
 {
-    if e - i < 16 {
-        return false;
-    }
-    all_in(xs, i, 16, c)
+    16 <= xs.len() && all_in(&xs[..16], c)
 }
 
 // A place in the same line as i: 8 octets on if none of them is LF, else i.
 fn eight_on(xs: &[u8], i: usize) -> usize
     requires { i ≤ length xs.now }
-    ensures { (i ≤ result) × (result ≤ length xs.now) × (line_end xs.now result ≡ line_end xs.now i) }
+    ensures at_least { i ≤ result }
+    ensures within { result ≤ length xs.now }
+    ensures same_line { line_end xs.now result ≡ line_end xs.now i }
 {
-    if xs.len() - i < 8 {
-        return i;
-    }
-    if all_in(xs, i, 8, Class::NotNewline) {
+    if 8 <= xs.len() - i && all_in(&xs[i..i + 8], Class::NotNewline) {
         return i + 8;
     }
     i
@@ -179,77 +122,52 @@ pub fn line_end(xs: &[u8], i: usize) -> usize
     ensures { result ≡ line_end xs.now i }
 {
     let mut j = i;
-    while goes_on(xs, j, xs.len(), Class::NotNewline) {
-        j = j + 16;
+    while goes_on(&xs[j..], Class::NotNewline) {
+        j += 16;
     }
     let k = eight_on(xs, j);
-    skip(xs, k, xs.len(), Class::NotNewline)
+    k + skip(&xs[k..], Class::NotNewline)
 }
 
-// Whether the octets from i to e, at least 16, are all free text. The last 16 are tested at once, though some may have been
-// tested before.
-fn long_free(xs: &[u8], i: usize, e: usize) -> bool
-    requires { (i + 16 ≤ e) × (e ≤ length xs.now) }
-    ensures { result ≡ all_of (in_class FreeText) (slice i e xs.now) }
+// Whether the octets, at least 16, are all free text. The last 16 are tested at once, though some may have been tested before.
+fn long_free(xs: &[u8]) -> bool
+    requires { 16 ≤ length xs.now }
+    ensures { result ≡ all_of (in_class FreeText) xs.now }
 {
-    let mut j = i;
-    while goes_on(xs, j, e, Class::FreeText) {
-        j = j + 16;
+    let mut j = 0;
+    while goes_on(&xs[j..], Class::FreeText) {
+        j += 16;
     }
-    if e - j < 16 {
-        return all_in(xs, e - 16, 16, Class::FreeText);
-    }
-    false
+    xs.len() - j < 16 && all_in(&xs[xs.len() - 16..], Class::FreeText)
 }
 
-// Whether the octets from i to e are all free text.
-pub fn all_free(xs: &[u8], i: usize, e: usize) -> bool
-    requires { (i ≤ e) × (e ≤ length xs.now) }
-    ensures { result ≡ all_of (in_class FreeText) (slice i e xs.now) }
+// Whether the octets are all free text.
+pub fn all_free(xs: &[u8]) -> bool
+    ensures { result ≡ all_of (in_class FreeText) xs.now }
 {
-    if 16 <= e - i {
-        return long_free(xs, i, e);
+    let n = xs.len();
+    if 16 <= n {
+        return long_free(xs);
     }
-    if 8 <= e - i {
-        if all_in(xs, i, 8, Class::FreeText) {
-            return all_in(xs, e - 8, 8, Class::FreeText);
-        }
-        return false;
+    if 8 <= n {
+        return all_in(&xs[..8], Class::FreeText) && all_in(&xs[n - 8..], Class::FreeText);
     }
-    skip(xs, i, e, Class::FreeText) == e
+    skip(xs, Class::FreeText) == n
 }
 
-// The octet at i, or 256 if the part ends before it.
-pub fn octet_at(xs: &[u8], i: usize, e: usize) -> u16
-    requires { e ≤ length xs.now }
-    ensures { result ≡ first_or (slice i e xs.now) }
+// The decimal number of 1 to 10 digits, or none.
+pub fn decimal(xs: &[u8]) -> Option<u64>
+    ensures { result ≡ decimal_of xs.now }
 {
-    if i < e { xs[i] as u16 } else { 256 }
-}
-
-// The decimal number from i to e, of 1 to 10 digits, or a fault.
-pub fn decimal(xs: &[u8], i: usize, e: usize) -> Number
-    requires { (i ≤ e) × (e ≤ length xs.now) }
-    ensures { result ≡ number_of (decimal_of (slice i e xs.now)) }
-{
-    if e - i < 1 {
-        return Number::Fault;
-    }
-    if 10 < e - i {
-        return Number::Fault;
+    if xs.is_empty() || 10 < xs.len() {
+        return None;
     }
     let mut v: u64 = 0;
-    let mut j = i;
-    while j < e {
-        let b = xs[j];
-        if b < b'0' {
-            return Number::Fault;
+    for b in xs {
+        if !b.is_ascii_digit() {
+            return None;
         }
-        if b'9' < b {
-            return Number::Fault;
-        }
-        v = v * 10 + (b - b'0') as u64;
-        j = j + 1;
+        v = v * 10 + u64::from(*b - b'0');
     }
-    Number::Value(v)
+    Some(v)
 }

@@ -1,12 +1,10 @@
 -- Parts that are sorted half by half.
-use Prim.Native.Nat.{ℕ, ◌+◌, ◌-◌, ◌≤◌, ◌<◌}
-use mathlib.Core.Path.{◌≡◌, refl, sym, ap, ◌∙◌}
+use Prim.Native.Nat.{ℕ, ◌<◌}
+use mathlib.Core.Path.{◌≡◌, refl, sym, ◌∙◌}
 use mathlib.Core.Bool.{Bool, true, false, ◌||◌, true≢false}
 use mathlib.Core.List.{List, [], ◌∷◌, ◌++◌, map, map-append, Permᴰ}
 use native.Mathlib.Omega.{arith}
-use lib.ListN.{length, take, drop, length-drop, take-append-drop}
-use lib.Seq.{take_at, drop_at, take_all, length-take-le, length_front}
-use borrow.Rule.Slice.PartMut.{same_len_mid}
+use lib.ListN.{length}
 use Rattle.format.specs.Lists.{any_of, twice}
 use Rattle.stanza_words.specs.Qualifiers.{same_by}
 use Rattle.parts.specs.Parts.{part_of, Rising, Sorted}
@@ -55,79 +53,15 @@ module _ (g : Bool) (s : List ℕ) where
   same_parts xs ys us vs out true p q h = twice_perm g s (mathlib.Core.List.Permᴰ.trans (mathlib.Core.List.Permᴰ.append_right ys p) (mathlib.Core.List.Permᴰ.append_left us q)) ∙ h
   same_parts xs ys us vs out false p q h = (mathlib.Core.List.Permᴰ.trans (mathlib.Core.List.Permᴰ.trans (mathlib.Core.List.Permᴰ.append_right ys p) (mathlib.Core.List.Permᴰ.append_left us q)) h.0, h.1)
 
--- the parts a, which b holds too, in two halves
-module _ (a b : List ℕ) (m : ℕ) (e : b ≡ a) (h : m ≤ length a) where
-  split : a ≡ take m a ++ drop m a
-  split = sym (take-append-drop m a)
-
-  front : take (m - 0) b ≡ take m a
-  front = let q : m - 0 ≡ m = omega arith in rw (q, e)
-
-  -- a list c, with l for its first half
-  module _ (l c : List ℕ) (f : c ≡ a) (k : length l ≡ length (take (m - 0) c)) where
-    pub kept_first : length (l ++ drop (m - 0) c) ≡ length a
-    kept_first = length_front c l (m - 0) k ∙ ap length f
-
-    pub kept_both : (y : List ℕ) → length y ≡ length (take (length a - m) (drop m (l ++ drop (m - 0) c)))
-        → length (take m (l ++ drop (m - 0) c) ++ (y ++ drop (length a - m) (drop m (l ++ drop (m - 0) c)))) ≡ length a
-    kept_both y n = same_len_mid m (length a - m) (l ++ drop (m - 0) c) y n ∙ kept_first
-
-    back : take (length a - m) (drop m (l ++ drop (m - 0) c)) ≡ drop m a
-    back =
-        let n : m - 0 ≡ m = omega arith in
-        let u : length l ≡ m = k ∙ rw (n, f) (length-take-le m a h) in
-        rw (drop_at l (drop (m - 0) c) m u, n, f) (take_all (length a - m) (drop m a) (omega (arith, length-drop m a)))
-
-  pub same_backs : (z w : List ℕ) → length z ≡ length (take (m - 0) b) → length w ≡ length (take (m - 0) a)
-      → take (length a - m) (drop m (w ++ drop (m - 0) a)) ≡ take (length a - m) (drop m (z ++ drop (m - 0) b))
-  same_backs z w p q = back w a refl q ∙ sym (back z b e p)
-
+-- the parts a in two halves, xs and ys
+module _ (g : Bool) (s a xs ys : List ℕ) (e : xs ++ ys ≡ a) where
   -- a half has two parts that are the same
-  module _ (g : Bool) (s : List ℕ) where
-    pub front_twice : (z : List ℕ) (r : Bool) → Sorted g s (take (m - 0) b) z r → r ≡ true → twice (same_by g) (map (part_of s) a) ≡ true
-    front_twice z r d t = twice_half g s a (take m a) (drop m a) split (rw (t, front) at d)
+  pub first_twice : (z : List ℕ) (r : Bool) → Sorted g s xs z r → r ≡ true → twice (same_by g) (map (part_of s) a) ≡ true
+  first_twice z r d t = twice_half g s a xs ys (sym e) (rw t at d)
 
-    pub back_twice : (z : List ℕ) → length z ≡ length (take (m - 0) b) → (y : List ℕ) (r : Bool)
-        → Sorted g s (take (length a - m) (drop m (z ++ drop (m - 0) b))) y r → r ≡ true → twice (same_by g) (map (part_of s) a) ≡ true
-    back_twice z p y r d t = twice_rest g s a (take m a) (drop m a) split (rw (t, back z b e p) at d)
+  pub second_twice : (z : List ℕ) (r : Bool) → Sorted g s ys z r → r ≡ true → twice (same_by g) (map (part_of s) a) ≡ true
+  second_twice z r d t = twice_rest g s a xs ys (sym e) (rw t at d)
 
-  -- b with its halves sorted, z and y
-  module _ (z y : List ℕ) (p : length z ≡ length (take (m - 0) b)) (k : length y ≡ length (take (length a - m) (drop m (z ++ drop (m - 0) b)))) where
-    abbrev both : List ℕ
-    both = take m (z ++ drop (m - 0) b) ++ (y ++ drop (length a - m) (drop m (z ++ drop (m - 0) b)))
-
-    long_first : length z ≡ m
-    long_first = p ∙ rw front (length-take-le m a h)
-
-    long_second : length y ≡ length a - m
-    long_second = k ∙ rw (back z b e p) (length-drop m a)
-
-    in_front : take m (z ++ drop (m - 0) b) ≡ z
-    in_front = take_at z (drop (m - 0) b) m long_first
-
-    is_first : take (m - 0) both ≡ z
-    is_first =
-        let n : m - 0 ≡ m = omega arith in
-        rw in_front (take_at z (y ++ drop (length a - m) (drop m (z ++ drop (m - 0) b))) (m - 0) (long_first ∙ sym n))
-
-    is_second : take (length a - m) (drop m both) ≡ y
-    is_second =
-        rw (in_front, drop_at z (y ++ drop (length a - m) (drop m (z ++ drop (m - 0) b))) m long_first)
-        (take_at y (drop (length a - m) (drop m (z ++ drop (m - 0) b))) (length a - m) long_second)
-
-    pub sizes : length (take (m - 0) both) + length (take (length a - m) (drop m both)) ≡ length a
-    sizes = rw (is_first, is_second) (omega (arith, long_first, long_second))
-
-    module _ (g : Bool) (s : List ℕ) (q r : Bool) (d : Sorted g s (take (m - 0) b) z q) (f : q ≡ false)
-        (j : Sorted g s (take (length a - m) (drop m (z ++ drop (m - 0) b))) y r) (o : r ≡ false) where
-      pub first_rises : Rising g s (take (m - 0) both)
-      first_rises = rw is_first (rw f at d).1
-
-      pub second_rises : Rising g s (take (length a - m) (drop m both))
-      second_rises = rw is_second (rw o at j).1
-
-      pub halves_sorted : (t : Bool) (out : List ℕ) → Sorted g s (take (m - 0) both ++ take (length a - m) (drop m both)) out t → Sorted g s a out t
-      halves_sorted t out l =
-          let u : Permᴰ (take m a) z = (rw (f, front) at d).0 in
-          let v : Permᴰ (drop m a) y = (rw (o, back z b e p) at j).0 in
-          rw split (same_parts g s (take m a) (drop m a) z y out t u v (rw (is_first, is_second) at l))
+  -- the sorted halves, z and y, are merged
+  pub halves_sorted : (z y : List ℕ) (q r : Bool) → Sorted g s xs z q → q ≡ false → Sorted g s ys y r → r ≡ false → (t : Bool) (out : List ℕ) → Sorted g s (z ++ y) out t → Sorted g s a out t
+  halves_sorted z y q r d f j o t out l = rw (← e) (same_parts g s xs ys z y out t (rw f at d).0 (rw o at j).0 l)

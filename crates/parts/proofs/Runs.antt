@@ -1,20 +1,20 @@
 -- Runs of parts that rise, and how two of them are merged.
-use Prim.Native.Nat.{ℕ, ◌+◌, ◌≤◌, ◌<◌}
+use Prim.Native.Nat.{ℕ, ◌+◌, ◌-◌, ◌≤◌, ◌<◌}
 use mathlib.Core.Path.{◌≡◌, refl, sym, ap, ◌∙◌}
 use mathlib.Core.Bool.{Bool, true, false, ◌||◌}
 use mathlib.Core.List.Permᴰ
-use mathlib.Core.List.{List, [], ◌∷◌, ◌++◌, append-nil, map, Permᴰ}
+use mathlib.Core.List.{List, [], ◌∷◌, ◌++◌, map, Permᴰ}
 use native.Mathlib.Omega.{arith}
 use native.Mathlib.Numerals.{add-one}
 use lib.ListN.{length, get_or, take, drop, set, length-drop}
 use lib.Seq.{append_snoc, take-suc-set, take_all}
 use Rattle.format.specs.Lists.{any_of, twice}
-use Rattle.format.proofs.Lists.{drop_next, drop_none}
+use Rattle.format.proofs.Lists.{drop_next}
 use Rattle.stanza_words.specs.Qualifiers.{same_by}
-use Rattle.parts.specs.declared.Order.{Order}
-use Rattle.parts.specs.declared.Order.TheVariants.{Less, Same, Greater}
-use Rattle.parts.specs.Parts.{part_of, order_by, head_order, Rising, Sorted}
-use Rattle.parts.proofs.Orders.{less_trans, greater_less, less_other, same_same, same_sym}
+use Rattle.std.proofs.Common.{Ordering, Less, Equal, Greater}
+use Rattle.std.specs.Ordering.{is_eq, ordering_reverse}
+use Rattle.parts.specs.Parts.{part_of, order_by, head_order, Rising}
+use Rattle.parts.proofs.Orders.{order_total, same_equal, same_sym}
 
 or_swap : (p q r : Bool) → p || (q || r) ≡ q || (p || r)
 or_swap true true r = refl
@@ -64,12 +64,15 @@ module _ (g : Bool) (s : List ℕ) where
   twice_there (o ∷ os) xs ys a b h = rw (twice_there os xs ys a b h) (or_true (any_of (same_by g (part_of s o)) (map (part_of s) (os ++ (a ∷ xs ++ b ∷ ys)))))
 
   -- parts that rise differ from one another
+  other_than : (x y : ℕ) → order_by g (part_of s x) (part_of s y) ≡ Less → same_by g (part_of s x) (part_of s y) ≡ false
+  other_than x y h = same_equal g (part_of s x) (part_of s y) ∙ ap is_eq h
+
   first_other : (x : ℕ) (xs : List ℕ) → Rising g s (x ∷ xs) → any_of (same_by g (part_of s x)) (map (part_of s) xs) ≡ false
   first_other x [] h = refl
-  first_other x (y ∷ []) h = rw (less_other g (part_of s x) (part_of s y) h.0)
+  first_other x (y ∷ []) h = rw (other_than x y h.0)
   first_other x (y ∷ z ∷ zs) h =
-      rw (less_other g (part_of s x) (part_of s y) h.0)
-      (first_other x (z ∷ zs) (less_trans g (part_of s x) (part_of s y) (part_of s z) h.0 h.1.0, h.1.1))
+      rw (other_than x y h.0)
+      (first_other x (z ∷ zs) ((order_total g).trans (part_of s x) (part_of s y) (part_of s z) h.0 h.1.0, h.1.1))
 
   pub rising_differ : (xs : List ℕ) → Rising g s xs → twice (same_by g) (map (part_of s) xs) ≡ false
   rising_differ [] h = refl
@@ -112,18 +115,15 @@ module _ (g : Bool) (s : List ℕ) where
     from_second os (a ∷ x) y b m l =
         record {
           parts = moved os (a ∷ x) y b m.parts;
-          first = rw (append_snoc os b (a ∷ x)) (rising_before os y x b a m.second m.first (greater_less g (part_of s a) (part_of s b) l));
+          first = rw (append_snoc os b (a ∷ x)) (rising_before os y x b a m.second m.first ((order_total g).antisymm (part_of s b) (part_of s a) ∙ ap ordering_reverse l));
           second = rw (append_snoc os b y) m.second;
         }
 
     -- the parts that come first in both are the same
-    heads_same : (os x y : List ℕ) → Merging xs ys os x y → head_order g s x y ≡ Same → twice (same_by g) (map (part_of s) (xs ++ ys)) ≡ true
+    heads_same : (os x y : List ℕ) → Merging xs ys os x y → head_order g s x y ≡ Equal → twice (same_by g) (map (part_of s) (xs ++ ys)) ≡ true
     heads_same os [] y m l = let z : ◌≡◌ {A = ℕ} 0 1 = cc in absurd (omega arith)
     heads_same os (a ∷ x) [] m l = let z : ◌≡◌ {A = ℕ} 0 1 = cc in absurd (omega arith)
-    heads_same os (a ∷ x) (b ∷ y) m l = twice_perm m.parts ∙ twice_there os x y a b (same_same g (part_of s a) (part_of s b) l)
-
-    pub merge_same : (os x y : List ℕ) → Merging xs ys os x y → (r : Order) → r ≡ head_order g s x y → r ≡ Same → twice (same_by g) (map (part_of s) (xs ++ ys)) ≡ true
-    merge_same os x y m r d o = heads_same os x y m (sym d ∙ o)
+    heads_same os (a ∷ x) (b ∷ y) m l = twice_perm m.parts ∙ twice_there os x y a b (same_equal g (part_of s a) (part_of s b) ∙ ap is_eq l)
 
   some_first : (x y : List ℕ) → head_order g s x y ≡ Less → 1 ≤ length x
   some_first [] y h = let z : ◌≡◌ {A = ℕ} 0 1 = cc in absurd (omega arith)
@@ -135,32 +135,35 @@ module _ (g : Bool) (s : List ℕ) where
   some_second (a ∷ x) (b ∷ y) h l = omega arith
 
   -- one turn of the loop: the next part is stored after those that are merged
-  module _ (xs ys out : List ℕ) (i j : ℕ) (h : i ≤ length xs) (k : j ≤ length ys) (l : length out ≡ length xs + length ys) (t : i + j < length out) (r : Order) (d : r ≡ head_order g s (drop i xs) (drop j ys)) where
+  module _ (xs ys out : List ℕ) (i k : ℕ) (h : i ≤ k) (a : i ≤ length xs) (b : k - i ≤ length ys) (l : length xs + length ys ≡ length out) (t : k < length out)
+      (r : Ordering) (e : r ≡ head_order g s (take (length xs - i) (drop i xs)) (take (length ys - (k - i)) (drop (k - i) ys))) where
+    d : r ≡ head_order g s (drop i xs) (drop (k - i) ys)
+    d =
+        let p = take_all (length xs - i) (drop i xs) (omega (arith, length-drop i xs)) in
+        let q = take_all (length ys - (k - i)) (drop (k - i) ys) (omega (arith, length-drop (k - i) ys)) in
+        rw (p, q) at e
+
     pub first_there : r ≡ Less → i < length xs
-    first_there o = omega (arith, some_first (drop i xs) (drop j ys) (sym d ∙ o), length-drop i xs)
+    first_there o = omega (arith, some_first (drop i xs) (drop (k - i) ys) (sym d ∙ o), length-drop i xs)
 
-    pub second_there : r ≡ Greater → j < length ys
-    second_there o = omega (arith, some_second (drop i xs) (drop j ys) (sym d ∙ o) (omega (arith, length-drop i xs, length-drop j ys)), length-drop j ys)
+    pub second_there : r ≡ Greater → k - i < length ys
+    second_there o = omega (arith, some_second (drop i xs) (drop (k - i) ys) (sym d ∙ o) (omega (arith, length-drop i xs, length-drop (k - i) ys)), length-drop (k - i) ys)
 
-    stored : (v n : ℕ) → n ≡ i + j + 1 → take n (set out (i + j) v) ≡ take (i + j) out ++ v ∷ []
-    stored v n e = rw (e, add-one) (take-suc-set out (i + j) v t)
+    stored : (v : ℕ) → take (k + 1) (set out k v) ≡ take k out ++ v ∷ []
+    stored v = rw (add-one) (take-suc-set out k v t)
 
-    module _ (m : Merging xs ys (take (i + j) out) (drop i xs) (drop j ys)) where
-      pub first_merged : r ≡ Less → Merging xs ys (take (i + 1 + j) (set out (i + j) (get_or xs i 0))) (drop (i + 1) xs) (drop j ys)
+    module _ (m : Merging xs ys (take k out) (drop i xs) (drop (k - i) ys)) where
+      pub first_merged : r ≡ Less → Merging xs ys (take (k + 1) (set out k (get_or xs i 0))) (drop (i + 1) xs) (drop (k + 1 - (i + 1)) ys)
       first_merged o =
           let q : drop i xs ≡ get_or xs i 0 ∷ drop (i + 1) xs = drop_next xs i (first_there o) in
-          rw (stored (get_or xs i 0) (i + 1 + j) (omega arith)) (from_first xs ys (take (i + j) out) (drop (i + 1) xs) (drop j ys) (get_or xs i 0) (rw q at m) (rw q at (sym d ∙ o)))
+          let n : k + 1 - (i + 1) ≡ k - i = omega arith in
+          rw (n, stored (get_or xs i 0)) (from_first xs ys (take k out) (drop (i + 1) xs) (drop (k - i) ys) (get_or xs i 0) (rw q at m) (rw q at (sym d ∙ o)))
 
-      pub second_merged : r ≡ Greater → Merging xs ys (take (i + (j + 1)) (set out (i + j) (get_or ys j 0))) (drop i xs) (drop (j + 1) ys)
+      pub same_met : r ≡ Equal → twice (same_by g) (map (part_of s) (xs ++ ys)) ≡ true
+      same_met o = heads_same xs ys (take k out) (drop i xs) (drop (k - i) ys) m (sym d ∙ o)
+
+      pub second_merged : r ≡ Greater → Merging xs ys (take (k + 1) (set out k (get_or ys (k - i) 0))) (drop i xs) (drop (k + 1 - i) ys)
       second_merged o =
-          let q : drop j ys ≡ get_or ys j 0 ∷ drop (j + 1) ys = drop_next ys j (second_there o) in
-          rw (stored (get_or ys j 0) (i + (j + 1)) (omega arith)) (from_second xs ys (take (i + j) out) (drop i xs) (drop (j + 1) ys) (get_or ys j 0) (rw q at m) (rw q at (sym d ∙ o)))
-
-  pub all_merged : (xs ys out : List ℕ) (i j : ℕ) → i ≤ length xs → j ≤ length ys → length out ≡ length xs + length ys → length out ≤ i + j
-      → Merging xs ys (take (i + j) out) (drop i xs) (drop j ys) → Sorted g s (xs ++ ys) out false
-  all_merged xs ys out i j h k l t m =
-      let p : drop i xs ≡ [] = drop_none xs i (omega arith) in
-      let q : drop j ys ≡ [] = drop_none ys j (omega arith) in
-      let r : take (i + j) out ≡ out = take_all (i + j) out t in
-      let n : Merging xs ys out [] [] = rw (p, q, r) at m in
-      (rw (append-nil out) at n.parts, rw (append-nil out) at n.first)
+          let q : drop (k - i) ys ≡ get_or ys (k - i) 0 ∷ drop (k - i + 1) ys = drop_next ys (k - i) (second_there o) in
+          let n : k + 1 - i ≡ k - i + 1 = omega (arith, h) in
+          rw (n, stored (get_or ys (k - i) 0)) (from_second xs ys (take k out) (drop i xs) (drop (k - i + 1) ys) (get_or ys (k - i) 0) (rw q at m) (rw q at (sym d ∙ o)))

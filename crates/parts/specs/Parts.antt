@@ -1,12 +1,14 @@
 -- Parts of a text: their order, and what sorting them leaves.
-use Rattle.std.specs.Prelude.{ℕ, ◌/◌, ◌%◌, ◌≡◌, Bool, true, false, cond, ltb}
+use Rattle.std.specs.Prelude.{ℕ, ◌/◌, ◌%◌, ◌≡◌, Bool, true, false, cond}
 use mathlib.Core.List.{List, [], ◌∷◌, map, Permᴰ}
+use Rattle.std.specs.declared.cmp.Ordering.{Ordering}
+use Rattle.std.specs.declared.cmp.Ordering.TheVariants.{Less, Greater}
+use Rattle.std.specs.Ordering.{nat_cmp}
+use Rattle.std.specs.Cmp.Lexicographic.{slice_cmp}
 use Rattle.std.proofs.Math.Seq.{slice}
 use Rattle.format.specs.Lists.{twice}
 use Rattle.format.specs.Octets.{lowered}
 use Rattle.stanza_words.specs.Qualifiers.{same_by}
-use Rattle.parts.specs.declared.Order.{Order}
-use Rattle.parts.specs.declared.Order.TheVariants.{Less, Same, Greater}
 
 -- the part that a number names: its start is the upper half of the number, its end the lower half
 abbrev pub part_of : List ℕ → ℕ → List ℕ
@@ -16,25 +18,12 @@ part_of s n = slice (n / 65536) (n % 65536) s
 abbrev pub folded : Bool → ℕ → ℕ
 folded ignoring x = cond ignoring (lowered x) x
 
--- the order of two octets
-abbrev pub octet_order : ℕ → ℕ → Order
-octet_order x y = cond (ltb x y) Less (cond (ltb y x) Greater Same)
-
--- the first order, or the second if the first does not tell
-abbrev pub then_by : Order → Order → Order
-then_by Less o = Less
-then_by Same o = o
-then_by Greater o = Greater
-
--- the order of two texts: that of the first octets that differ; what ends first is less
-abbrev pub order_by : Bool → List ℕ → List ℕ → Order
-order_by ignoring [] [] = Same
-order_by ignoring [] (y ∷ ys) = Less
-order_by ignoring (x ∷ xs) [] = Greater
-order_by ignoring (x ∷ xs) (y ∷ ys) = then_by (octet_order (folded ignoring x) (folded ignoring y)) (order_by ignoring xs ys)
+-- the order of two texts: that of the first octets that differ, in lower case if `ignoring`; what ends first is less
+abbrev pub order_by : Bool → List ℕ → List ℕ → Ordering
+order_by ignoring xs ys = slice_cmp nat_cmp (map (folded ignoring) xs) (map (folded ignoring) ys)
 
 -- which of two runs the next part is taken from
-abbrev pub head_order : Bool → List ℕ → List ℕ → List ℕ → Order
+abbrev pub head_order : Bool → List ℕ → List ℕ → List ℕ → Ordering
 head_order ignoring s [] ys = Greater
 head_order ignoring s (x ∷ xs) [] = Less
 head_order ignoring s (x ∷ xs) (y ∷ ys) = order_by ignoring (part_of s x) (part_of s y)

@@ -1,54 +1,43 @@
 -- Laws of the reads into a buffer.
-use Rattle.std.proofs.Common.{ℕ, ◌+◌, ◌-◌, ◌≤◌, ◌<◌, ◌≡◌, refl, sym, ap, ◌∙◌, subst, List, ◌++◌, length, take, drop, ℤ, pos, negsuc, arith}
-use borrow.Rule.Slice.PartMut.{mid_of, put_mid, mid_len, same_len_mid, take_put, drop_put}
+use Rattle.std.proofs.Common.{ℕ, zero, suc, ◌+◌, ◌-◌, ◌≤◌, ◌<◌, ◌≡◌, sym, ap, ap₂, ◌∙◌, subst, List, ◌++◌, length, take, drop, arith}
+use borrow.Rule.Slice.PartMut.{mid_of, put_mid, mid_len, same_len_mid, take_put}
 use lib.Seq.{take-add}
-use Rattle.std.specs.declared.option.Option.{Option}
+use Rattle.std.proofs.lemmas.List.{take_rest}
+use Rattle.std.proofs.lemmas.Slice.{between-put_mid}
+use Rattle.std.specs.Prelude.{Option, Some, Result, Ok, Err, IfOk}
 use Rattle.std.specs.Io.KnownBytes.{Consumes}
 use Rattle.std.proofs.KnownBytes.{Consumes-trans}
-use Rattle.streams.specs.declared.Read.{Read}
-use Rattle.streams.specs.declared.Read.TheVariants.{Got}
-use Rattle.streams.specs.declared.Input.{Input}
-use Rattle.streams.specs.declared.Input.TheVariants.{Whole}
-use Rattle.streams.specs.Reading.{Moved, told, Once, Reading, full, ended, failed, further}
+use Rattle.streams.specs.Reading.{told, Once, OnceFrom, Took}
 
 -- a read that took octets took at least one, and no more than it had room for
-got_within : (z : ℤ) (most k : ℕ) → 0 < most → Moved most z → Got k ≡ told z most → (0 < k) × (k ≤ most)
-got_within (negsuc j) most k h m e = cc
-got_within (pos j) most k h m e = grind arith
+pub took : {E : Type 0} {most k : ℕ} {r : Result (Option ℕ) E} → Once most r → r ≡ Ok (Some k) → 0 < most → (0 < k) × (k ≤ most)
+took {E} {most} {k} {r} o e h = by o.answered o.allowed (sym e ∙ o.judged)
+  where
+    by : (a : Result ℕ E) → IfOk a (λ n. n ≤ most) → Ok (Some k) ≡ told a most → (0 < k) × (k ≤ most)
+    by (Ok zero) m q = cc
+    by (Ok (suc n)) m q = grind arith
+    by (Err x) m q = cc
 
 -- the buffer, once the part that a read was lent is back
-pub once : (xs ys : List ℕ) (from to : ℕ) (z : ℤ) (r : Read) → (from < to) × (to ≤ length xs) → length ys ≡ length (mid_of from (to - from) xs)
-    → Moved (length (mid_of from (to - from) xs)) z → r ≡ told z (to - from) → Once xs (put_mid from (to - from) xs ys) from to r
-once xs ys from to z r h e m j =
-    let lent : length (mid_of from (to - from) xs) ≡ to - from = mid_len from to xs h.1 in
+pub once : {E : Type 0} (xs ys : List ℕ) (from : ℕ) (r q : Result (Option ℕ) E) → from < length xs → length ys ≡ length (mid_of from (length xs - from) xs)
+    → Once (length (mid_of from (length xs - from) xs)) r → r ≡ q → OnceFrom xs (put_mid from (length xs - from) xs ys) from q
+once xs ys from r q h e o was =
+    let lent : length (mid_of from (length xs - from) xs) ≡ length xs - from = mid_len from (length xs) xs (omega arith) in
     record {
-      room = h.0;
-      answered = z;
-      allowed = subst (λ (n : ℕ). Moved n z) lent m;
-      judged = j;
-      front = take_put from (to - from) xs ys (omega arith);
-      back = drop_put from to xs ys (omega arith) h.1 (e ∙ lent);
-      same = same_len_mid from (to - from) xs ys e;
+      room = h;
+      once = rw (lent, was) at o;
+      front = take_put from (length xs - from) xs ys (omega arith);
+      same = same_len_mid from (length xs - from) xs ys e;
     }
 
--- a read that took octets took at least one, and no more than there was room for
-pub took : {xs ys : List ℕ} {from to k : ℕ} {r : Read} → Once xs ys from to r → r ≡ Got k → (0 < k) × (from + k ≤ to)
-took {from = from} {to = to} {k = k} o e =
-    let h : (0 < k) × (k ≤ to - from) = got_within o.answered (to - from) k (omega (arith, o.room)) o.allowed (sym e ∙ o.judged) in
-    (h.0, omega (arith, h.1, o.room))
-
--- no more octets were read than the buffer has
-pub within : {xs zs : List ℕ} {n m : ℕ} {r : Input} → Reading xs n r zs → r ≡ Whole m → n ≤ length xs → m ≤ length zs
-within {m = m} (full {xs = xs} {n = n} h) e l = let q : m ≡ n = cc in omega arith
-within {m = m} (ended {n = n} o) e l = let q : m ≡ n = cc in omega (arith, o.same)
-within (failed o) e l = cc
-within (further o s) e l = within s e (omega (arith, (took o refl).1, o.same))
-
--- what a read that had the rest of the buffer for its room did
-pub did : {xs ys : List ℕ} {from to : ℕ} {r q : Read} → Once xs ys from to r → to ≡ length xs → r ≡ q → Once xs ys from (length xs) q
-did o h e = rw (h, e) at o
-
 -- what was read so far and what a further read took are what both took
-pub more_read : (a b c : Option (List ℕ)) (xs ys : List ℕ) (n k : ℕ) → take n ys ≡ take n xs → Consumes a b (take n xs) → Consumes b c (take k (drop n ys)) → Consumes a c (take (n + k) ys)
-more_read a b c xs ys n k e p q =
-    subst (Consumes a c) (ap (λ l. l ++ take k (drop n ys)) (sym e) ∙ sym (take-add n k ys)) (Consumes-trans a b c _ _ p q)
+pub more_read : {E : Type 0} (a b c : Option (List ℕ)) (xs ys : List ℕ) (n k : ℕ) (r : Result (Option ℕ) E) → n < length xs → length ys ≡ length (mid_of n (length xs - n) xs) → r ≡ Ok (Some k)
+    → Consumes a b (take n xs) → Took b c r ys → Consumes a c (take (n + k) (put_mid n (length xs - n) xs ys))
+more_read {E} a b c xs ys n k r h e was p q =
+    let now = put_mid n (length xs - n) xs ys in
+    let lent : length ys ≡ length xs - n = e ∙ mid_len n (length xs) xs (omega arith) in
+    let part : drop n now ≡ ys =
+    sym (take_rest now n) ∙ ap (λ m. take (m - n) (drop n now)) (same_len_mid n (length xs - n) xs ys e) ∙ between-put_mid n (length xs - n) xs ys (length xs) (omega arith) lent in
+    let some : Consumes b c (take k ys) = rw was at q in
+    let whole : take n xs ++ take k ys ≡ take (n + k) now = ap₂ (λ s t. s ++ take k t) (sym (take_put n (length xs - n) xs ys (omega arith))) (sym part) ∙ sym (take-add n k now) in
+    subst (Consumes a c) whole (Consumes-trans a b c _ _ p some)

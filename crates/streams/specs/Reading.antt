@@ -1,54 +1,43 @@
 -- What reads answer, what a buffer holds after them, and what a reader has left.
-use Rattle.std.specs.Prelude.{ℕ, ◌+◌, ◌-◌, ◌≤◌, ◌<◌, min, ◌≡◌, cond, List, [], length, take, drop, ℤ, pos, negsuc, eqb}
-use Rattle.std.specs.declared.option.Option.{Option}
+use Rattle.std.specs.Prelude.{ℕ, ◌+◌, ◌-◌, ◌≤◌, ◌<◌, min, ◌≡◌, cond, List, [], length, take, eqb, IfOk}
+use Rattle.std.specs.Prelude.{Option, None, Some, Result, Ok, Err}
 use Rattle.std.specs.Io.KnownBytes.{Keeps, Consumes, IsAtEnd}
-use Rattle.streams.specs.declared.Read.{Read}
-use Rattle.streams.specs.declared.Read.TheVariants.{End, Failed, Got}
-use Rattle.streams.specs.declared.Input.{Input}
-use Rattle.streams.specs.declared.Input.TheVariants.{Whole, Failed as Unread}
 
--- What a read that is handed room for n octets may answer: -1, or how many octets it took, at most n.
-abbrev pub Moved : ℕ → ℤ → Type 0
-Moved n (pos k) = k ≤ n
-Moved n (negsuc k) = k ≡ 0
+-- What the answer of a read means that was handed room for `most` octets: 0 is the end of the input, an error is a failure and never the end.
+abbrev pub told : {E : Type 0} → Result ℕ E → ℕ → Result (Option ℕ) E
+told (Ok k) most = Ok (cond (eqb k 0) None (Some (min k most)))
+told (Err e) most = Err e
 
--- What the answer of a read means that was handed room for `most` octets: 0 is the end of the input, a number below 0 a failure and never the end.
-abbrev pub told : ℤ → ℕ → Read
-told (pos k) most = cond (eqb k 0) End (Got (min k most))
-told (negsuc k) most = Failed
+-- One read that was handed room for `most` octets: it answered what a read may answer, an error or how many octets it took, at most `most`. This is judged by
+-- `told`.
+pub record Once {E : Type 0} (most : ℕ) (r : Result (Option ℕ) E) : Type 0 where
+  pub answered : Result ℕ E
+  pub allowed : IfOk answered (λ k. k ≤ most)
+  pub judged : r ≡ told answered most
 
--- One read into the places from `from` to `to`, of which there is at least one: it answered a number that a read may answer, which is judged by `told`.
--- Outside these places the octets are as they were.
-pub record Once (before after : List ℕ) (from to : ℕ) (r : Read) : Type 0 where
-  pub room : from < to
-  pub answered : ℤ
-  pub allowed : Moved (to - from) answered
-  pub judged : r ≡ told answered (to - from)
+-- One read into the places of a buffer from `from` on, of which there is at least one. Before these places the octets are as they were.
+pub record OnceFrom {E : Type 0} (before after : List ℕ) (from : ℕ) (r : Result (Option ℕ) E) : Type 0 where
+  pub room : from < length before
+  pub once : Once (length before - from) r
   pub front : take from after ≡ take from before
-  pub back : drop to after ≡ drop to before
   pub same : length after ≡ length before
 
 -- All the reads into a buffer xs whose first n octets are read, to the one that leaves zs. Each goes on behind what the others took. They are over where the
 -- buffer is full or the input ends; a read that fails makes all that was read void.
-pub data Reading : List ℕ → ℕ → Input → List ℕ → Type 0 where
-  full : {xs : List ℕ} {n : ℕ} → length xs ≤ n → Reading xs n (Whole n) xs
-  ended : {xs ys : List ℕ} {n : ℕ} → Once xs ys n (length xs) End → Reading xs n (Whole n) ys
-  failed : {xs ys : List ℕ} {n : ℕ} → Once xs ys n (length xs) Failed → Reading xs n Unread ys
-  further : {xs ys zs : List ℕ} {n k : ℕ} {r : Input} → Once xs ys n (length xs) (Got k) → Reading ys (n + k) r zs → Reading xs n r zs
+pub data Reading {E : Type 0} : List ℕ → ℕ → Result ℕ E → List ℕ → Type 0 where
+  full : {xs : List ℕ} {n : ℕ} → length xs ≤ n → Reading xs n (Ok n) xs
+  ended : {xs ys : List ℕ} {n : ℕ} → OnceFrom {E = E} xs ys n (Ok None) → Reading xs n (Ok n) ys
+  failed : {xs ys : List ℕ} {n : ℕ} {e : E} → OnceFrom xs ys n (Err e) → Reading xs n (Err e) ys
+  further : {xs ys zs : List ℕ} {n k : ℕ} {r : Result ℕ E} → OnceFrom {E = E} xs ys n (Ok (Some k)) → Reading ys (n + k) r zs → Reading xs n r zs
 
--- What an answer says of the octets that the reader has left, where those are known: the room begins with as many of them as the answer says, 0 is the end,
--- and a read that failed took none. Standard input says nothing of its octets; a reader of octets in memory does.
-abbrev pub Left : Option (List ℕ) → Option (List ℕ) → ℤ → List ℕ → Type 0
-Left before after (pos k) room = Consumes before after (take k room) × (k ≡ 0 → 0 < length room → IsAtEnd after)
-Left before after (negsuc k) room = Keeps before after
+-- What an answer means for the octets that the reader has left, where those are known: the room begins with as many of them as were taken, and a read that failed
+-- took none. Standard input says nothing of its octets; a reader of octets in memory does.
+abbrev pub Took : {E : Type 0} → Option (List ℕ) → Option (List ℕ) → Result (Option ℕ) E → List ℕ → Type 0
+Took before after (Ok None) room = Consumes before after [] × IsAtEnd after
+Took before after (Ok (Some k)) room = Consumes before after (take k room)
+Took before after (Err e) room = Keeps before after
 
--- The same of what the answer means.
-abbrev pub Took : Option (List ℕ) → Option (List ℕ) → Read → List ℕ → Type 0
-Took before after End room = Consumes before after [] × IsAtEnd after
-Took before after Failed room = Keeps before after
-Took before after (Got k) room = Consumes before after (take k room)
-
--- And of all the reads: the first octets of the buffer are the first that the reader had, and it has none left unless the buffer is full.
-abbrev pub Drained : Option (List ℕ) → Option (List ℕ) → Input → List ℕ → Type 0
-Drained before after Unread zs = Unit {0}
-Drained before after (Whole n) zs = Consumes before after (take n zs) × (n < length zs → IsAtEnd after)
+-- And for all the reads: the first octets of the buffer are the first that the reader had, and it has none left unless the buffer is full.
+abbrev pub Drained : {E : Type 0} → Option (List ℕ) → Option (List ℕ) → Result ℕ E → List ℕ → Type 0
+Drained before after (Err e) zs = Unit {0}
+Drained before after (Ok n) zs = Consumes before after (take n zs) × (n < length zs → IsAtEnd after)

@@ -1,6 +1,6 @@
 -- What a writer holds, where that is known. Standard output says nothing of its octets; a writer to memory does.
 use Rattle.std.specs.Prelude.{ℕ, ◌<◌, ◌≤◌, List, length, take, Bool, true, false}
-use Rattle.std.specs.declared.option.Option.{Option}
+use Rattle.std.specs.Prelude.{Option}
 use Rattle.std.specs.Io.KnownBytes.{Keeps, Appends}
 use Rattle.format.specs.Octets.{ascii}
 

@@ -11,14 +11,12 @@
 // tested, by tests/faults, which makes each read and each write fail.
 #![tactic(auto)]
 
-ghost use Rattle.std.specs.Prelude.{◌<◌, ◌≤◌, ◌≡◌, length, take, drop};
-ghost use Rattle.std.specs.Io.KnownBytes.{Appends};
-ghost use Rattle.streams.specs.Reading.{told, Moved, Left, Once, Took, Reading, Drained};
+ghost use Rattle.std.specs.Prelude.{◌<◌, ◌≤◌, ◌≡◌, length, is_ok, IfOk};
+ghost use Rattle.streams.specs.Reading.{told, Once, Took, Reading, Drained};
 ghost use Rattle.streams.specs.Writing.{Written, Begun, Told, unread_words, lost_words, ToldIfLost};
 
-use buffer::least;
 use std::io;
-use std::io::{Stderr, Stdin, Stdout, Write};
+use std::io::{ErrorKind, Stderr, Stdin, Stdout, Write};
 
 // The three streams that a program is handed.
 #[derive(Clone, Copy)]
@@ -28,112 +26,66 @@ pub struct Standard {
     pub error: Stderr,
 }
 
-// What one read did: it met the end of the input; it failed; or it took so many octets.
-#[derive(Clone, Copy)]
-pub enum Read {
-    End,
-    Failed,
-    Got(usize),
-}
-
-// What all reads did: one failed, and nothing is known of the input; or these first octets of the buffer are the input, or its
-// start if they fill the buffer.
-#[derive(Clone, Copy)]
-pub enum Input {
-    Failed,
-    Whole(usize),
-}
-
-// What the answer of a read means that was handed room for `most` octets.
-pub fn told(got: isize, most: usize) -> Read
+// What the answer of a read means that was handed room for `most` octets: none is the end of the input, and a read that failed, for
+// whatever reason, is never the end.
+pub fn told(got: io::Result<usize>, most: usize) -> io::Result<Option<usize>>
     ensures { result ≡ told got most }
 {
-    if got < 0 {
-        return Read::Failed;
+    let n = got?;
+    if n == 0 {
+        return Ok(None);
     }
-    if got == 0 {
-        return Read::End;
-    }
-    Read::Got(least(got as usize, most))
+    Ok(Some(n.min(most)))
 }
 
-// Reads once into the room, and returns how many octets were taken, or -1 if the read failed, for whatever reason.
-fn answer<R: io::Read>(input: &mut R, room: &mut [u8]) -> isize
-    ensures allowed { Moved (length room.old) result }
-    ensures octets { Left (R.remaining input.old) (R.remaining input.new) result room.new }
+// Reads once into the room, and returns how many octets were taken, or none at the end of the input. There must be room, since a
+// read into no room answers 0, as at the end.
+pub fn read_once<R: io::Read>(input: &mut R, room: &mut [u8]) -> io::Result<Option<usize>>
+    requires { 0 < length room.old }
+    ensures once { Once (length room.old) result }
+    ensures octets { Took (R.remaining input.old) (R.remaining input.new) result room.new }
 {
-    match input.read(room) {
-        Ok(n) => n as isize,
-        Err(_) => -1,
-    }
+    let got = input.read(room);
+    told(got, room.len())
 }
 
-// Reads once into the places from `from` to `to`. There must be one, since a read into no room answers 0, as at the end.
-pub fn read_once<R: io::Read>(input: &mut R, buf: &mut [u8], from: usize, to: usize) -> Read
-    requires { (from < to) × (to ≤ length buf.old) }
-    ensures once { Once buf.old buf.new from to result }
-    ensures octets { Took (R.remaining input.old) (R.remaining input.new) result (drop from buf.new) }
-{
-    let got = answer(input, &mut buf[from..to]);
-    told(got, to - from)
-}
-
-// Reads until the input ends, the buffer is full or a read fails. A read may take fewer octets than there is room for.
-pub fn read_all<R: io::Read>(input: &mut R, buf: &mut [u8]) -> Input
+// Reads until the input ends, the buffer is full or a read fails, and returns how many octets were read. A read may take fewer
+// octets than there is room for.
+pub fn read_all<R: io::Read>(input: &mut R, buf: &mut [u8]) -> io::Result<usize>
+    ensures within { IfOk result (λ n. n ≤ length buf.old) }
     ensures reading { Reading buf.old 0 result buf.new }
     ensures octets { Drained (R.remaining input.old) (R.remaining input.new) result buf.new }
 {
-    let room = buf.len();
     let mut n = 0;
-    while n < room {
-        let r = read_once(input, buf, n, room);
-        match r {
-            Read::End => {
-                return Input::Whole(n);
-            }
-            Read::Failed => {
-                return Input::Failed;
-            }
-            Read::Got(k) => {
-                n = n + k;
-            }
+    while n < buf.len() {
+        match read_once(input, &mut buf[n..])? {
+            None => return Ok(n),
+            Some(k) => n += k,
         }
     }
-    Input::Whole(n)
+    Ok(n)
 }
 
-// Writes all octets, or stops at the first write that takes none or fails, for whatever reason, and returns whether all are
-// written.
-fn put_all<W: Write>(to: &mut W, xs: &[u8]) -> bool
-    ensures { Written (W.contents to.old) (W.contents to.new) result xs.now }
+// Writes all octets, or stops at the first write that takes none or fails, for whatever reason.
+fn put_all<W: Write>(to: &mut W, xs: &[u8]) -> io::Result<()>
+    ensures { Written (W.contents to.old) (W.contents to.new) (is_ok result) xs.now }
 {
-    let mut done = 0;
-    while done < xs.len() {
-        let n = put_some(to, &xs[done..]);
+    let mut rest = xs;
+    while !rest.is_empty() {
+        let n = to.write(rest)?;
         if n == 0 {
-            return false;
+            return Err(ErrorKind::WriteZero.into());
         }
-        done = done + n;
+        rest = &rest[n..];
     }
-    true
-}
-
-// Writes once, and returns how many octets were taken: none if the write failed.
-fn put_some<W: Write>(to: &mut W, xs: &[u8]) -> usize
-    ensures fits { result ≤ length xs.now }
-    ensures octets { Appends (W.contents to.old) (W.contents to.new) (take result xs.now) }
-{
-    match to.write(xs) {
-        Ok(n) => n,
-        Err(_) => 0,
-    }
+    Ok(())
 }
 
 // Writes words to standard error. If that fails too, nobody can be told.
 pub fn say<E: Write>(err: &mut E, words: &[u8])
     ensures { Begun (E.contents err.old) (E.contents err.new) words.now }
 {
-    put_all(err, words);
+    let _ = put_all(err, words);
 }
 
 // Writes one line to standard error: the program's name and the words.
@@ -158,14 +110,19 @@ pub fn lost<E: Write>(err: &mut E, program: &[u8])
     tell(err, program, b": the answers could not be written\n");
 }
 
-// Writes all octets to standard output, or tells that answers are lost, and returns whether that went well.
-pub fn write_all<O: Write, E: Write>(out: &mut O, err: &mut E, program: &[u8], xs: &[u8]) -> bool
-    ensures written { Written (O.contents out.old) (O.contents out.new) result xs.now }
-    ensures told { ToldIfLost (E.contents err.old) (E.contents err.new) result program.now }
+// Writes all octets to standard output, or tells that answers are lost.
+pub fn write_all<O: Write, E: Write>(
+    out: &mut O,
+    err: &mut E,
+    program: &[u8],
+    xs: &[u8],
+) -> io::Result<()>
+    ensures written { Written (O.contents out.old) (O.contents out.new) (is_ok result) xs.now }
+    ensures told { ToldIfLost (E.contents err.old) (E.contents err.new) (is_ok result) program.now }
 {
-    if put_all(out, xs) {
-        return true;
+    let written = put_all(out, xs);
+    if written.is_err() {
+        lost(err, program);
     }
-    lost(err, program);
-    false
+    written
 }

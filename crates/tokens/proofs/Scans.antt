@@ -16,8 +16,10 @@ use Rattle.format.proofs.Lists.{and_left, and_right, not_true, drop_next as next
 use Rattle.format.proofs.Token.{in_bare_lem, onto_all, onto_bare, onto_quote}
 use Rattle.octets.proofs.Slices.{span_front, span_rest, span_length, lent}
 use Rattle.octets.proofs.Blocks.{slice_append}
+use Rattle.std.specs.Prelude.{Some, ◌⊎◌}
+use mathlib.Core.Logic.{inl, inr}
 use Rattle.tokens.specs.declared.Next.{Next}
-use Rattle.tokens.specs.declared.Next.TheVariants.{End, Bare, Quoted, Broken}
+use Rattle.tokens.specs.declared.Next.TheVariants.{Bare, Quoted, Broken}
 use Rattle.tokens.specs.Tokens.{tokens_by, inside, standing, front_end, escapes, parted_off, closes, ended_at, From, Within}
 
 -- the next two octets
@@ -210,19 +212,19 @@ left q (x ∷ xs) h s e = by (eqb x 92) refl
     by false n = other q s n
 
 -- the octets that were kept, before those tokens, are the token that ends there and those after it
-onto_left : (t : List ℕ) (q a j : ℕ) → tokens_by t (ended_at t a q j) ≡ onto_all (slice a j t) (left_at q (drop j t))
+onto_left : (t : List ℕ) (q a j : ℕ) → tokens_by t (Some (ended_at t a q j)) ≡ onto_all (slice a j t) (left_at q (drop j t))
 onto_left t zero a j = by (parted_off (drop j t))
   where
-    by : (b : Bool) → tokens_by t (cond b (Bare a j) Broken) ≡ onto_all (slice a j t) (cond b (bare [] ∷ tokens (drop j t)) (broken ∷ []))
+    by : (b : Bool) → tokens_by t (Some (cond b (Bare a j) Broken)) ≡ onto_all (slice a j t) (cond b (bare [] ∷ tokens (drop j t)) (broken ∷ []))
     by true = rw (onto_bare (slice a j t) [] (tokens (drop j t)), append-nil (slice a j t))
     by false = rw (onto_broken (slice a j t))
 onto_left t (suc q) a j = by (closes (suc q) (drop j t))
   where
-    by : (b : Bool) → tokens_by t (cond b (Quoted a j) Broken) ≡ onto_all (slice a j t) (cond b (quoted [] ∷ tokens (drop 1 (drop j t))) (broken ∷ []))
+    by : (b : Bool) → tokens_by t (Some (cond b (Quoted a j) Broken)) ≡ onto_all (slice a j t) (cond b (quoted [] ∷ tokens (drop 1 (drop j t))) (broken ∷ []))
     by true = rw (onto_quote (slice a j t) [] (tokens (drop 1 (drop j t))), append-nil (slice a j t), drop-drop 1 j t)
     by false = rw (onto_broken (slice a j t))
 
-pub token_ended : (t : List ℕ) (q a j : ℕ) → q < 92 → Kept t q a j → Stopped (standing q) (drop j t) → escapes (drop j t) ≡ false → tokens_by t (ended_at t a q j) ≡ scanned (inside q) (drop a t)
+pub token_ended : (t : List ℕ) (q a j : ℕ) → q < 92 → Kept t q a j → Stopped (standing q) (drop j t) → escapes (drop j t) ≡ false → tokens_by t (Some (ended_at t a q j)) ≡ scanned (inside q) (drop a t)
 token_ended t q a j h k s e = onto_left t q a j ∙ ap (onto_all (slice a j t)) (sym (left q (drop j t) h s e)) ∙ sym k.same
 
 closes_within : (q : ℕ) (xs : List ℕ) → closes q xs ≡ true → 1 ≤ length xs
@@ -280,14 +282,12 @@ module _ (t : List ℕ) (i a : ℕ) (h : i ≤ length t) (p : a ≡ i + length (
   pub bare_first : a < length t → quote_mark (get_or t a 0) ≡ false → scanned (inside 0) (drop a t) ≡ tokens (drop i t)
   bare_first l e = ap (scanned (inside 0)) (next t a l) ∙ bare_scanned (get_or t a 0) (drop (a + 1) t) (not_blank l) e ∙ ap tokens (sym (next t a l)) ∙ blanks_over
 
-  pub quoted_within : (q : ℕ) (r : Next) → 1 ≤ q → From t q (a + 1) r → Within t i r
-  quoted_within q End k f = tt
+  pub quoted_within : (q : ℕ) (r : Next) → 1 ≤ q → From t q (a + 1) r → Within t i (Some r)
   quoted_within q (Bare b e) k f = absurd (omega arith)
   quoted_within q (Quoted b e) k f = (omega (arith, front_within t blank i a h p), omega arith, f.3)
   quoted_within q Broken k f = tt
 
-  pub bare_within : (r : Next) → a < length t → From t 0 a r → Within t i r
-  bare_within End l f = tt
+  pub bare_within : (r : Next) → a < length t → From t 0 a r → Within t i (Some r)
   bare_within (Bare b e) l (z, y, x, w, v) = (omega (arith, front_within t blank i a h p), by (ltb a e) refl, w)
     where
       by : (d : Bool) → ltb a e ≡ d → b < e
@@ -295,3 +295,8 @@ module _ (t : List ℕ) (i a : ℕ) (h : i ≤ length t) (p : a ≡ i + length (
       by false k = let s : e ≡ a = omega (arith, ltb-false a e k) in let g : blank (get_or t a 0) ≡ true = rw (s, next t a l) at v in let m : ◌≡◌ {A = Bool} true false = sym g ∙ not_blank l in let n : ◌≡◌ {A = ℕ} 0 1 = cc in absurd (omega arith)
   bare_within (Quoted b e) l f = absurd (omega arith)
   bare_within Broken l f = tt
+
+-- either quote begins a quoted token
+pub a_quote : (q : ℕ) → (q ≡ 34) ⊎ ((q ≡ 34 → ⊥) × (q ≡ 39)) → scan_step between q ≡ skip (inside q)
+a_quote q (inl e) = rw e
+a_quote q (inr e) = rw (e.1)

@@ -1,26 +1,25 @@
 -- What the code's answers mean, by the definitions of document 01.
-use Rattle.std.specs.Prelude.{ℕ, zero, suc, ◌+◌, ◌-◌, ◌≤◌, ◌<◌, ◌≡◌, Bool, true, false, not, cond, ◌&&◌, List, [], ◌∷◌, eqb, leb, length, drop}
+use Rattle.std.specs.Prelude.{ℕ, zero, suc, ◌+◌, ◌≤◌, ◌<◌, ◌≡◌, Bool, true, false, not, cond, ◌&&◌, List, [], ◌∷◌, eqb, length, drop, Option, None, Some}
 use Rattle.std.proofs.Math.Seq.{slice}
-use Rattle.format.specs.Lists.{all_of}
 use Rattle.format.specs.Octets.{blank}
 use Rattle.format.specs.Token.{text_octet, guarded, Token, bare, quoted, broken, Scan, in_bare, in_quotes, tokens}
 use Rattle.octets.specs.Octets.{front_end as end_of}
 use Rattle.tokens.specs.declared.Next.{Next}
-use Rattle.tokens.specs.declared.Next.TheVariants.{End, Bare, Quoted, Broken}
+use Rattle.tokens.specs.declared.Next.TheVariants.{Bare, Quoted, Broken}
 
--- the tokens that are left, given the next one
-abbrev pub tokens_by : List ℕ → Next → List Token
-tokens_by t End = []
-tokens_by t (Bare a e) = bare (slice a e t) ∷ tokens (drop e t)
-tokens_by t (Quoted a e) = quoted (slice a e t) ∷ tokens (drop (e + 1) t)
-tokens_by t Broken = broken ∷ []
+-- the tokens that are left, given the next one, if there is one
+abbrev pub tokens_by : List ℕ → Option Next → List Token
+tokens_by t None = []
+tokens_by t (Some (Bare a e)) = bare (slice a e t) ∷ tokens (drop e t)
+tokens_by t (Some (Quoted a e)) = quoted (slice a e t) ∷ tokens (drop (e + 1) t)
+tokens_by t (Some Broken) = broken ∷ []
 
 -- where the next token may stand, from i on
-abbrev pub Within : List ℕ → ℕ → Next → Type 0
-Within t i End = Unit {0}
-Within t i (Bare a e) = (i ≤ a) × (a < e) × (e ≤ length t)
-Within t i (Quoted a e) = (i < a) × (a ≤ e) × (e < length t)
-Within t i Broken = Unit {0}
+abbrev pub Within : List ℕ → ℕ → Option Next → Type 0
+Within t i None = Unit {0}
+Within t i (Some (Bare a e)) = (i ≤ a) × (a < e) × (e ≤ length t)
+Within t i (Some (Quoted a e)) = (i < a) × (a ≤ e) × (e < length t)
+Within t i (Some Broken) = Unit {0}
 
 -- Where a scan stands inside a token, after no backslash: a token quoted by q, or a bare one if q is 0.
 abbrev pub inside : ℕ → Scan
@@ -35,10 +34,6 @@ standing (suc q) x = not (eqb x (suc q)) && not (eqb x 92) && text_octet x
 -- the end of the run of such octets from i on, not past e
 abbrev pub front_end : ℕ → List ℕ → ℕ → ℕ → ℕ
 front_end q t i e = end_of (standing q) t i e
-
--- at least 64 octets are left from i on, and the first 64 stand for themselves
-abbrev pub block_at : ℕ → List ℕ → ℕ → Bool
-block_at q t i = leb 64 (length t - i) && all_of (standing q) (slice i (i + 64) t)
 
 -- a backslash, before an octet that it takes into the token
 abbrev pub escapes : List ℕ → Bool
@@ -62,7 +57,6 @@ ended_at t a (suc q) j = cond (closes (suc q) (drop j t)) (Quoted a j) Broken
 
 -- a token whose octets start at a: quoted by q, or bare if q is 0
 abbrev pub From : List ℕ → ℕ → ℕ → Next → Type 0
-From t q a End = ⊥
 From t q a (Bare b e) = (q ≡ 0) × (b ≡ a) × (a ≤ e) × (e ≤ length t) × (parted_off (drop e t) ≡ true)
 From t q a (Quoted b e) = (1 ≤ q) × (b ≡ a) × (a ≤ e) × (e < length t)
 From t q a Broken = Unit {0}

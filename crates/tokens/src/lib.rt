@@ -1,20 +1,17 @@
 // The tokens of a text, one after another.
 #![tactic(auto)]
 
-ghost use Rattle.std.specs.Prelude.{◌+◌, ◌<◌, ◌≤◌, ◌≡◌, length, drop};
-ghost use Rattle.std.proofs.Math.Seq.{slice};
-ghost use Rattle.format.specs.Lists.{all_of};
+ghost use Rattle.std.specs.Prelude.{◌<◌, ◌≤◌, ◌≡◌, ◌&&◌, length, take, drop, leb, Some};
+ghost use Rattle.format.specs.Lists.{all_of, span};
 ghost use Rattle.format.specs.Octets.{in_range};
 ghost use Rattle.format.specs.Token.{text_octet, scanned, tokens};
-ghost use Rattle.tokens.specs.Tokens.{tokens_by, Within, inside, standing, front_end, block_at, escapes, parted_off, closes, ended_at, From};
+ghost use Rattle.tokens.specs.Tokens.{tokens_by, Within, inside, standing, front_end, escapes, parted_off, closes, ended_at, From};
 
 use octets::Class;
 
-// The next token: none is left; a bare one from i to e; a quoted one, whose octets between the quotes stand from i to e; or one
-// with a fault inside.
+// A token: a bare one from i to e; a quoted one, whose octets between the quotes stand from i to e; or one with a fault inside.
 #[derive(Clone, Copy)]
 pub enum Next {
-    End,
     Bare(usize, usize),
     Quoted(usize, usize),
     Broken,
@@ -24,23 +21,14 @@ pub enum Next {
 fn is_text(b: u8) -> bool
     ensures { result ≡ text_octet b }
 {
-    if b == b'\t' {
-        return true;
-    }
-    if b < b' ' {
-        return false;
-    }
-    b <= b'~'
+    b == b'\t' || b' ' <= b && b <= b'~'
 }
 
 // Whether an octet lies from lo to hi.
 fn is_between(lo: u8, hi: u8, b: u8) -> bool
     ensures { result ≡ in_range lo hi b }
 {
-    if b < lo {
-        return false;
-    }
-    b <= hi
+    lo <= b && b <= hi
 }
 
 // Whether an octet stands for itself in a bare token. Tests for equality in a row would be compiled to a bit test behind a
@@ -48,22 +36,7 @@ fn is_between(lo: u8, hi: u8, b: u8) -> bool
 fn stands_bare(b: u8) -> bool
     ensures { result ≡ standing 0 b }
 {
-    if b == b'"' {
-        return false;
-    }
-    if b < b'!' {
-        return false;
-    }
-    if b == b';' {
-        return false;
-    }
-    if b'~' < b {
-        return false;
-    }
-    if b == b'\\' {
-        return false;
-    }
-    !is_between(b'\'', b')', b)
+    b != b'"' && b'!' <= b && b != b';' && b <= b'~' && b != b'\\' && !is_between(b'\'', b')', b)
 }
 
 // The same in a token quoted by q, or in a bare one if q is 0.
@@ -79,51 +52,34 @@ fn stands(q: u8, b: u8) -> bool
     if b < b' ' {
         return b == b'\t';
     }
-    if b'~' < b {
-        return false;
-    }
-    b != b'\\'
+    b <= b'~' && b != b'\\'
 }
 
-// The end of the run of octets from i on, not past e, that stand for themselves.
-fn skip_to(t: &[u8], i: usize, e: usize, q: u8) -> usize
-    requires { (i ≤ e) × (e ≤ length t.now) }
-    ensures { result ≡ front_end q t.now i e }
+// How many octets from the first on stand for themselves.
+fn skip_all(t: &[u8], q: u8) -> usize
+    ensures { result ≡ length (span (standing q) t.now).front }
 {
-    let mut j = i;
-    while j < e {
-        if stands(q, t[j]) {
-            j = j + 1;
-        } else {
-            return j;
+    for (i, b) in t.iter().enumerate() {
+        if !stands(q, *b) {
+            return i;
         }
     }
-    j
+    t.len()
 }
 
-// Whether the 64 octets from i on stand for themselves. The loop has no early exit, so that many are tested at once.
-fn all_stand(t: &[u8], i: usize, q: u8) -> bool
-    requires { i + 64 ≤ length t.now }
-    ensures { result ≡ all_of (standing q) (slice i (i + 64) t.now) }
+// Whether there are at least 64 octets and the first 64 stand for themselves. The loop has no early exit, so that many are
+// tested at once.
+fn block_stands(t: &[u8], q: u8) -> bool
+    ensures { result ≡ leb 64 (length t.now) && all_of (standing q) (take 64 t.now) }
 {
-    let mut all = true;
-    let mut k = 0;
-    while k < 64 {
-        all = all & stands(q, t[i + k]);
-        k = k + 1;
-    }
-    all
-}
-
-// Whether at least 64 octets are left from i on and the first 64 stand for themselves.
-fn block_at(t: &[u8], i: usize, q: u8) -> bool
-    requires { i ≤ length t.now }
-    ensures { result ≡ block_at q t.now i }
-{
-    if t.len() - i < 64 {
+    if t.len() < 64 {
         return false;
     }
-    all_stand(t, i, q)
+    let mut all = true;
+    for b in &t[..64] {
+        all &= stands(q, *b);
+    }
+    all
 }
 
 // The end of the run of octets from i on that stand for themselves, found quickly if the run is long.
@@ -132,21 +88,19 @@ fn skip_long(t: &[u8], i: usize, q: u8) -> usize
     ensures { result ≡ front_end q t.now i (length t.now) }
 {
     let mut j = i;
-    while block_at(t, j, q) {
-        j = j + 64;
+    while block_stands(&t[j..], q) {
+        j += 64;
     }
-    skip_to(t, j, t.len(), q)
+    j + skip_all(&t[j..], q)
 }
 
 // The place 32 octets after i, or the end of the text.
 fn near(t: &[u8], i: usize) -> usize
     requires { i ≤ length t.now }
-    ensures { (i ≤ result) × (result ≤ length t.now) }
+    ensures at_least { i ≤ result }
+    ensures within { result ≤ length t.now }
 {
-    if t.len() - i < 32 {
-        return t.len();
-    }
-    i + 32
+    if t.len() - i < 32 { t.len() } else { i + 32 }
 }
 
 // The end of the run of octets from i on that stand for themselves.
@@ -155,7 +109,7 @@ fn skip(t: &[u8], i: usize, q: u8) -> usize
     ensures { result ≡ front_end q t.now i (length t.now) }
 {
     let e = near(t, i);
-    let j = skip_to(t, i, e, q);
+    let j = i + skip_all(&t[i..e], q);
     if j < e {
         return j;
     }
@@ -167,10 +121,7 @@ fn escape_at(t: &[u8], j: usize) -> bool
     requires { j ≤ length t.now }
     ensures { result ≡ escapes (drop j t.now) }
 {
-    if t.len() - j < 2 {
-        return false;
-    }
-    if t[j] != b'\\' {
+    if t.len() - j < 2 || t[j] != b'\\' {
         return false;
     }
     is_text(t[j + 1])
@@ -180,23 +131,14 @@ fn escape_at(t: &[u8], j: usize) -> bool
 pub fn parted_at(t: &[u8], j: usize) -> bool
     ensures { result ≡ parted_off (drop j t.now) }
 {
-    if t.len() <= j {
-        return true;
-    }
-    octets::is_in(Class::Blank, t[j])
+    t.len() <= j || Class::Blank.has(t[j])
 }
 
 // Whether the quote q stands at j and closes the token.
 fn closes_at(t: &[u8], j: usize, q: u8) -> bool
     ensures { result ≡ closes q (drop j t.now) }
 {
-    if t.len() <= j {
-        return false;
-    }
-    if t[j] != q {
-        return false;
-    }
-    parted_at(t, j + 1)
+    j < t.len() && t[j] == q && parted_at(t, j + 1)
 }
 
 // The token whose octets stand from i to j, if it properly ends there, else a broken one.
@@ -217,8 +159,10 @@ fn ended(t: &[u8], i: usize, j: usize, q: u8) -> Next
 
 // The token whose octets start at i: after the quote q, or bare if q is 0.
 fn token(t: &[u8], i: usize, q: u8) -> Next
-    requires { (i ≤ length t.now) × (q < 92) }
-    ensures { (tokens_by t.now result ≡ scanned (inside q) (drop i t.now)) × From t.now q i result }
+    requires place { i ≤ length t.now }
+    requires quote { q < 92 }
+    ensures tokens { tokens_by t.now (Some result) ≡ scanned (inside q) (drop i t.now) }
+    ensures from { From t.now q i result }
 {
     let mut j = skip(t, i, q);
     while escape_at(t, j) {
@@ -227,21 +171,17 @@ fn token(t: &[u8], i: usize, q: u8) -> Next
     ended(t, i, j, q)
 }
 
-// The next token from i on.
-pub fn next_token(t: &[u8], i: usize) -> Next
-    requires { (i ≤ length t.now) × (length t.now ≤ 1048576) }
-    ensures { (tokens_by t.now result ≡ tokens (drop i t.now)) × Within t.now i result }
+// The next token from i on, if one is left.
+pub fn next_token(t: &[u8], i: usize) -> Option<Next>
+    requires place { i ≤ length t.now }
+    requires text { length t.now ≤ 1048576 }
+    ensures tokens { tokens_by t.now result ≡ tokens (drop i t.now) }
+    ensures within { Within t.now i result }
 {
-    let a = octets::skip(t, i, t.len(), Class::Blank);
-    if t.len() <= a {
-        return Next::End;
+    let a = i + octets::skip(&t[i..], Class::Blank);
+    let b = *t.get(a)?;
+    if b == b'"' || b == b'\'' {
+        return Some(token(t, a + 1, b));
     }
-    let b = t[a];
-    if b == b'"' {
-        return token(t, a + 1, b'"');
-    }
-    if b == b'\'' {
-        return token(t, a + 1, b'\'');
-    }
-    token(t, a, 0)
+    Some(token(t, a, 0))
 }

@@ -1,29 +1,22 @@
-use Rattle.buffer.proofs.Laws.{Left, left_all, left_one, left_none, next, none}
+use Prim.Native.Nat.{◌+◌}
 use mathlib.Core.Path.{◌≡◌, refl, sym, subst}
-use Prim.Native.Nat.{◌+◌, ◌-◌}
 use native.Mathlib.Omega.{arith}
-use borrow.Author.Rules.{rules}
+use Rattle.buffer.proofs.Laws.{Left, left_all, left_next, left_over}
 use Rattle.buffer.proofs.store_all.Goals as goal
 
 pub loop-i-init : goal.loop-i-init
 loop-i-init c =
-    let z : c.args.at + 0 ≡ c.args.at = omega arith in (
-      search rules,
-      subst (λ m. Left c.args.out.now c.args.at c.args.xs.now c.args.out.now m c.args.xs.now) (sym z) (left_all _ _ _),
-    )
+    let z : c.args.at + 0 ≡ c.args.at = omega arith in
+    subst (λ m. Left c.args.out.now c.args.at c.args.xs.now c.args.out.now m c.args.xs.now) (sym z) (left_all _ _ _)
 
 pub overflow_add-out : goal.overflow_add-out
-overflow_add-out c =
-    omega (arith, c.loop-i.invariant.1.kept)
+overflow_add-out c = omega (arith, c.loop-i.invariant.kept)
 
 pub bounds-out-at : goal.bounds-out-at
-bounds-out-at c =
-    omega (arith, c.loop-i.invariant.1.kept)
+bounds-out-at c = omega (arith, c.loop-i.invariant.kept)
 
 pub loop-i-preserved : goal.loop-i-preserved
-loop-i-preserved c =
-    let z : c.args.at + c.loop-i.i + 1 ≡ c.args.at + (c.loop-i.i + 1) = omega arith in
-    (search rules, rw (← z) (left_one _ _ _ c.loop-i.invariant.1 (next _ _ c.loop-i-test.true) refl))
+loop-i-preserved c = left_next c.args.xs.now _ c.loop-i.invariant c.loop-i-test.true refl
 
 pub returns : goal.returns
-returns c = left_none c.loop-i.invariant.1 (none _ _ c.loop-i-test.false)
+returns c = left_over c.args.xs.now c.loop-i.invariant c.loop-i-test.false

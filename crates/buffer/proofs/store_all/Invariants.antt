@@ -1,11 +1,7 @@
+use Rattle.std.proofs.Common.{◌+◌, drop}
 use Rattle.buffer.proofs.Laws.{Left}
-use lib.ListN.{length, drop}
-use Prim.Native.Nat.{◌+◌, ◌-◌, ◌≤◌}
 use Rattle.buffer.proofs.store_all.Given as goal
 
--- The first i octets of s are stored; writing the rest from n + i on would give the whole list.
+-- The octets before i are stored: storing those that are left would store the whole.
 abbrev pub invariant-loop-i : goal.invariant-loop-i
-invariant-loop-i l = (l.i ≤ length l.xs) × Left l.initial.out l.at l.xs l.out (l.at + l.i) (drop l.i l.xs)
-
-abbrev pub decreases-loop-i : goal.decreases-loop-i
-decreases-loop-i l = length l.xs - l.i
+invariant-loop-i l = Left l.initial.out l.at l.xs l.out (l.at + l.i) (drop l.i l.xs)

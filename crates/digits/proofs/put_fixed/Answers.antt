@@ -1,18 +1,6 @@
-use Rattle.digits.proofs.Decimal.{last_stored, all_stored}
-use mathlib.Core.Path.{refl, ◌∙◌}
-use borrow.Author.Rules.{rules}
+use Rattle.buffer.proofs.Laws.{wrote_text}
+use Rattle.digits.proofs.Decimal.{decimal_digits}
 use Rattle.digits.proofs.put_fixed.Goals as goal
 
-pub loop-k-init : goal.loop-k-init
-loop-k-init c = (search rules, refl, refl)
-
-pub loop-k-preserved : goal.loop-k-preserved
-loop-k-preserved c = (
-  search rules,
-  last_stored _ _ c.args.at c.loop-k.k c.loop-k.x c.loop-k-test.true c.put.ensures ∙ c.loop-k.invariant.1,
-  search rules,
-)
-
 pub returns : goal.returns
-returns c =
-    all_stored _ _ _ c.args.w _ c.loop-k.k c.loop-k.x c.loop-k-test.false c.loop-k.invariant.1
+returns c = wrote_text _ _ (decimal_digits c.args.w c.args.v) c.put_digits.ensures

@@ -1,22 +1,22 @@
-use mathlib.Core.Path.{◌≡◌, sym, ◌∙◌}
-use Prim.Native.Nat.{◌+◌, ◌-◌}
+use mathlib.Core.Path.{sym, ap, ◌∙◌}
+use Prim.Native.Nat.{◌-◌}
+use lib.ListN.{length}
+use lib.Seq.{take_all}
+use lib.Dec.{eqb}
+use Rattle.format.specs.Lists.{all_of}
 use Rattle.octets.specs.Octets.{in_class}
 use Rattle.octets.specs.declared.Class.TheVariants.{FreeText}
-use Rattle.octets.proofs.Blocks.{all_over, all_off, all_ended}
+use Rattle.octets.proofs.Blocks.{all_over, all_length, last_part}
 use native.Mathlib.Omega.{arith}
 use Rattle.octets.proofs.all_free.Goals as goal
 
 pub returns-then-all_in : goal.returns-then-all_in
 returns-then-all_in c =
-    let z : c.args.e - 8 + 8 ≡ c.args.e = omega arith in
-    rw z at c.all_in-then-all_in.ensures ∙ all_over (in_class FreeText) c.args.xs.now c.args.i (c.args.i + 8) (c.args.e - 8)
-    c.args.e (omega arith) (omega arith) (omega arith) c.requires.1 (sym c.all_in.ensures ∙ c.if-all_in.true)
-
-pub returns-then-e-i-ge8 : goal.returns-then-e-i-ge8
-returns-then-e-i-ge8 c =
-    all_off (in_class FreeText) c.args.xs.now c.args.i c.args.i (c.args.i + 8) c.args.e (omega arith) (omega arith)
-    (omega arith) c.requires.1 (sym c.all_in.ensures ∙ c.if-all_in.false)
+    let xs = c.args.xs.now in
+    let f = in_class FreeText in
+    c.all_in-then-all_in.ensures ∙ ap (all_of f) (last_part xs (length xs - 8) (omega arith))
+    ∙ all_over f xs 0 8 (length xs - 8) (length xs) (omega arith) (omega arith) (omega arith) (omega arith) (sym c.all_in.ensures ∙ c.if-all_in.true)
+    ∙ ap (all_of f) (take_all (length xs) xs (omega arith))
 
 pub returns : goal.returns
-returns c =
-    rw c.skip.ensures (all_ended (in_class FreeText) c.args.xs.now c.args.i c.args.e c.requires.0 c.requires.1)
+returns c = ap (λ k. eqb k (length c.args.xs.now)) c.skip.ensures ∙ sym (all_length (in_class FreeText) c.args.xs.now)

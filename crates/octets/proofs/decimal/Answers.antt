@@ -1,58 +1,29 @@
-use Rattle.octets.proofs.Numbers.{value_from, decimal_value, no_decimal, long_decimal, digit_on, digit_low, digit_high, digit_more}
-use Rattle.octets.proofs.Numbers.{digits_fit, nothing_yet, nothing_left}
-use Rattle.octets.proofs.Slices.{next, none}
-use Rattle.octets.specs.Octets.{number_of}
-use mathlib.Core.Path.{refl, sym, ap, ◌∙◌}
-use Prim.Native.Nat.{◌-◌}
-use native.Mathlib.Omega.{arith}
+use mathlib.Core.Path.{◌≡◌, sym, ap, ◌∙◌}
+use mathlib.Core.Bool.{false}
+use Prim.Native.Nat.{◌≤◌}
+use lib.ListN.{get_or}
 use borrow.Author.Rules.{rules}
+use native.Mathlib.Omega.{arith}
+use Rattle.format.specs.Octets.{digit}
+use Rattle.format.proofs.Lists.{drop_next, drop_none}
+use Rattle.octets.proofs.Numbers.{value_from, decimal_value, digit_on, not_digit, one_more_digit, nothing_left}
 use Rattle.octets.proofs.decimal.Goals as goal
 
-pub returns-then-e-i-lt1 : goal.returns-then-e-i-lt1
-returns-then-e-i-lt1 c = ap number_of (sym (no_decimal _ _ _ c.requires.1 c.if-e-i-lt1.true))
+pub returns-then-not-is_ascii_digit : goal.returns-then-not-is_ascii_digit
+returns-then-not-is_ascii_digit c =
+    let e : digit (get_or c.args.xs.now c.loop-b.b-index 0) ≡ false = search rules in
+    sym (decimal_value c.args.xs.now (search rules) c.if-xs-gt10.false ∙ sym c.loop-b.invariant.1
+    ∙ ap (value_from c.loop-b.v) (drop_next c.args.xs.now c.loop-b.b-index c.loop-b-test.true) ∙ not_digit c.loop-b.v _ _ e)
 
-pub returns-then-e-i-gt10 : goal.returns-then-e-i-gt10
-returns-then-e-i-gt10 c =
-    ap number_of (sym (long_decimal _ _ _ c.requires.1 c.if-e-i-gt10.true))
-
-pub loop-j-init : goal.loop-j-init
-loop-j-init c =
-    (search rules, c.requires.0, nothing_yet c.args.i, refl)
-
-pub returns-then-b-lt48 : goal.returns-then-b-lt48
-returns-then-b-lt48 c =
-    ap number_of
-    (sym
-    (decimal_value _ _ _ c.requires.1 c.if-e-i-lt1.false c.if-e-i-gt10.false ∙ sym c.loop-j.invariant.3
-    ∙ ap (value_from _) (next _ _ _ c.loop-j-test.true c.requires.1) ∙ digit_low _ _ _ c.if-b-lt48.true))
-
-pub returns-then-b-gt57 : goal.returns-then-b-gt57
-returns-then-b-gt57 c =
-    ap number_of
-    (sym
-    (decimal_value _ _ _ c.requires.1 c.if-e-i-lt1.false c.if-e-i-gt10.false ∙ sym c.loop-j.invariant.3
-    ∙ ap (value_from _) (next _ _ _ c.loop-j-test.true c.requires.1) ∙ digit_high _ _ _ c.if-b-lt48.false c.if-b-gt57.true))
-
-pub overflow_mul-v : goal.overflow_mul-v
-overflow_mul-v c =
-    omega (arith, digits_fit c.loop-j.v (c.loop-j.j - c.args.i) (omega arith) c.loop-j.invariant.2)
-
-pub overflow_add-v : goal.overflow_add-v
-overflow_add-v c =
-    omega (arith, digits_fit c.loop-j.v (c.loop-j.j - c.args.i) (omega arith) c.loop-j.invariant.2)
-
-pub loop-j-preserved : goal.loop-j-preserved
-loop-j-preserved c = (
-  search rules,
-  search rules,
-  digit_more _ _ _ _ c.loop-j.invariant.0 c.loop-j.invariant.2 (omega arith),
-  sym (digit_on _ _ _ c.if-b-lt48.false c.if-b-gt57.false)
-      ∙ ap (value_from c.loop-j.v) (sym (next _ _ _ c.loop-j-test.true c.requires.1)) ∙ c.loop-j.invariant.3,
-)
+pub loop-b-preserved : goal.loop-b-preserved
+loop-b-preserved c =
+    let l : 48 ≤ get_or c.args.xs.now c.loop-b.b-index 0 = search rules in
+    let h : get_or c.args.xs.now c.loop-b.b-index 0 ≤ 57 = search rules in (
+      one_more_digit c.loop-b.v c.loop-b.b-index _ c.loop-b.invariant.0 (omega (arith, c.from.ensures)),
+      rw c.from.ensures (sym (digit_on c.loop-b.v _ _ l h) ∙ ap (value_from c.loop-b.v) (sym (drop_next c.args.xs.now c.loop-b.b-index c.loop-b-test.true)) ∙ c.loop-b.invariant.1),
+    )
 
 pub returns : goal.returns
 returns c =
-    ap number_of
-    (sym
-    (decimal_value _ _ _ c.requires.1 c.if-e-i-lt1.false c.if-e-i-gt10.false ∙ sym c.loop-j.invariant.3
-    ∙ ap (value_from _) (none _ _ _ c.loop-j-test.false) ∙ nothing_left _))
+    sym (decimal_value c.args.xs.now (search rules) c.if-xs-gt10.false ∙ sym c.loop-b.invariant.1
+    ∙ ap (value_from c.loop-b.v) (drop_none c.args.xs.now c.loop-b.b-index c.loop-b-test.false) ∙ nothing_left c.loop-b.v)

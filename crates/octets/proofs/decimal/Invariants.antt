@@ -1,12 +1,7 @@
+use Rattle.std.proofs.Common.{◌≡◌, ◌<◌, ◌^◌, drop}
 use Rattle.octets.proofs.Numbers.{value_from}
-use lib.Seq.{slice}
-use mathlib.Core.Path.{◌≡◌}
-use Prim.Native.Nat.{◌-◌, ◌^◌, ◌≤◌, ◌<◌}
 use Rattle.octets.proofs.decimal.Given as goal
 
--- The digits before j make v; going on with the octets from j to e gives the number of the whole part, or none.
-abbrev pub invariant-loop-j : goal.invariant-loop-j
-invariant-loop-j l = (l.i ≤ l.j) × (l.j ≤ l.e) × (l.v < 10 ^ (l.j - l.i)) × (value_from l.v (slice l.j l.e l.xs) ≡ value_from 0 (slice l.i l.e l.xs))
-
-abbrev pub decreases-loop-j : goal.decreases-loop-j
-decreases-loop-j l = l.e - l.j
+-- The value so far has a digit for each octet, and goes on to that of the whole.
+abbrev pub invariant-loop-b : goal.invariant-loop-b
+invariant-loop-b l = (l.v < 10 ^ l.b-index) × (value_from l.v (drop l.b-index l.xs) ≡ value_from 0 l.xs)

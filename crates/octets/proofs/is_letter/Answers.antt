@@ -1,9 +1,7 @@
-use Rattle.octets.proofs.Letters.{no_letter, maybe_letter}
+use mathlib.Core.Path.{◌∙◌}
+use Rattle.octets.proofs.Letters.{small_letter}
 use native.Mathlib.Omega.{arith}
 use Rattle.octets.proofs.is_letter.Goals as goal
 
-pub returns-then-small-lt97 : goal.returns-then-small-lt97
-returns-then-small-lt97 c = no_letter c.args.b (omega arith) c.if-small-lt97.true
-
 pub returns : goal.returns
-returns c = maybe_letter c.args.b (omega arith) c.if-small-lt97.false
+returns c = c.is_ascii_lowercase.ensures.value ∙ small_letter c.args.b (omega arith)

@@ -1,10 +1,8 @@
-use mathlib.Core.Path.{◌≡◌}
-use Prim.Native.Nat.{◌-◌, ◌≤◌}
-use lib.ListN.{length}
+use Rattle.std.proofs.Common.{◌≡◌, ◌≤◌, ◌-◌, length}
 use Rattle.octets.specs.Octets.{line_end}
 use Rattle.octets.proofs.line_end.Given as goal
 
--- No LF stands from i to j: the line that j is in ends where that of i does.
+-- The line that j is in ends where that of i does.
 abbrev pub invariant-loop-j : goal.invariant-loop-j
 invariant-loop-j l = (l.j ≤ length l.xs) × (line_end l.xs l.j ≡ line_end l.xs l.i)
 

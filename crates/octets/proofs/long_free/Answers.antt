@@ -1,55 +1,37 @@
-use mathlib.Core.Path.{◌≡◌, sym, ◌∙◌}
+use mathlib.Core.Path.{sym, ap, ◌∙◌}
 use Prim.Native.Nat.{◌+◌, ◌-◌}
-use mathlib.Core.Bool.{true}
-use lib.Seq.{slice}
+use lib.ListN.{length}
+use lib.Seq.{take_all}
+use borrow.Author.Tests.{le-ltb}
 use Rattle.format.specs.Lists.{all_of}
 use Rattle.octets.specs.Octets.{in_class}
 use Rattle.octets.specs.declared.Class.TheVariants.{FreeText}
-use Rattle.octets.proofs.Slices.{none}
-use Rattle.octets.proofs.Blocks.{all_whole, all_over, all_off, block_there, block_passes, block_broken}
+use Rattle.octets.proofs.Blocks.{all_whole, all_over, all_off, block_there, block_passes, block_broken, last_part}
 use native.Mathlib.Omega.{arith}
 use Rattle.octets.proofs.long_free.Goals as goal
 
-pub loop-j-init : goal.loop-j-init
-loop-j-init c = (omega arith, omega arith, rw (none c.args.xs.now c.args.i c.args.i (omega arith)))
-
-pub overflow_add-j : goal.overflow_add-j
-overflow_add-j c =
-    omega (
-      arith,
-      block_there 16 (c.args.e - c.loop-j.j) (all_of (in_class FreeText) (slice c.loop-j.j (c.loop-j.j + 16) c.args.xs.now))
-          (sym c.goes_on.ensures ∙ c.loop-j-test.true),
-    )
-
-pub loop-j-smaller : goal.loop-j-smaller
-loop-j-smaller c =
-    omega (
-      arith,
-      block_there 16 (c.args.e - c.loop-j.j) (all_of (in_class FreeText) (slice c.loop-j.j (c.loop-j.j + 16) c.args.xs.now))
-          (sym c.goes_on.ensures ∙ c.loop-j-test.true),
-    )
-
 pub loop-j-preserved : goal.loop-j-preserved
 loop-j-preserved c =
-    let n = block_there 16 (c.args.e - c.loop-j.j)
-    (all_of (in_class FreeText) (slice c.loop-j.j (c.loop-j.j + 16) c.args.xs.now))
-    (sym c.goes_on.ensures ∙ c.loop-j-test.true) in (
-      omega arith,
-      omega (arith, n),
-      all_whole (in_class FreeText) c.args.xs.now c.args.i c.loop-j.j (c.loop-j.j + 16) c.loop-j.invariant.0 (omega arith)
-          (omega (arith, n)) c.loop-j.invariant.2
-          (block_passes 16 (c.args.e - c.loop-j.j) (all_of (in_class FreeText) (slice c.loop-j.j (c.loop-j.j + 16) c.args.xs.now))
-          (sym c.goes_on.ensures ∙ c.loop-j-test.true)),
+    let b = sym c.goes_on.ensures ∙ c.loop-j-test.true in
+    let n = block_there 16 (in_class FreeText) c.args.xs.now c.loop-j.j c.loop-j.invariant.0 b in (
+      n,
+      all_whole (in_class FreeText) c.args.xs.now 0 c.loop-j.j (c.loop-j.j + 16) (omega arith) (omega arith) n
+          c.loop-j.invariant.1 (block_passes 16 (in_class FreeText) c.args.xs.now c.loop-j.j c.loop-j.invariant.0 b),
     )
 
-pub returns-then-e-j-lt16 : goal.returns-then-e-j-lt16
-returns-then-e-j-lt16 c =
-    let z : c.args.e - 16 + 16 ≡ c.args.e = omega arith in
-    rw z at c.all_in.ensures ∙ all_over (in_class FreeText) c.args.xs.now c.args.i c.loop-j.j (c.args.e - 16)
-    c.args.e (omega arith) (omega arith) c.loop-j.invariant.1 c.requires.1 c.loop-j.invariant.2
+pub returns-then-xs-j-lt16 : goal.returns-then-xs-j-lt16
+returns-then-xs-j-lt16 c =
+    let xs = c.args.xs.now in
+    let f = in_class FreeText in
+    c.all_in.ensures ∙ ap (all_of f) (last_part xs (length xs - 16) (omega arith))
+    ∙ all_over f xs 0 c.loop-j.j (length xs - 16) (length xs) (omega arith) (omega arith) c.loop-j.invariant.0 (omega arith) c.loop-j.invariant.1
+    ∙ ap (all_of f) (take_all (length xs) xs (omega arith))
 
-pub returns : goal.returns
-returns c =
-    all_off (in_class FreeText) c.args.xs.now c.args.i c.loop-j.j (c.loop-j.j + 16) c.args.e c.loop-j.invariant.0
-    (omega arith) (omega arith) c.requires.1
-    (block_broken 16 (c.args.e - c.loop-j.j) _ (omega arith) (sym c.goes_on.ensures ∙ c.loop-j-test.false))
+pub returns-else-xs-j-lt16 : goal.returns-else-xs-j-lt16
+returns-else-xs-j-lt16 c =
+    let xs = c.args.xs.now in
+    let f = in_class FreeText in
+    le-ltb _ _ c.if-xs-j-lt16.false
+    ∙ all_off f xs 0 c.loop-j.j (c.loop-j.j + 16) (length xs) (omega arith) (omega arith) (omega arith) (omega arith)
+    (block_broken 16 f xs c.loop-j.j c.loop-j.invariant.0 (omega arith) (sym c.goes_on.ensures ∙ c.loop-j-test.false))
+    ∙ ap (all_of f) (take_all (length xs) xs (omega arith))

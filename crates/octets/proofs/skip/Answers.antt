@@ -1,26 +1,21 @@
-use Rattle.octets.proofs.Slices.{front_on, front_off, front_end_lem}
+use mathlib.Core.Path.{◌≡◌, sym, ◌∙◌}
+use lib.ListN.{length}
+use native.Mathlib.Omega.{arith}
 use Rattle.octets.specs.Octets.{in_class}
-use mathlib.Core.Path.{refl, sym, ◌∙◌}
-use Prim.Native.Nat.{◌-◌}
-use borrow.Author.Rules.{rules}
+use Rattle.octets.proofs.Slices.{front_goes_on, front_stops, front_ends}
 use Rattle.octets.proofs.skip.Goals as goal
 
-pub loop-j-init : goal.loop-j-init
-loop-j-init c = (search rules, c.requires.0, refl)
+pub loop-i-preserved : goal.loop-i-preserved
+loop-i-preserved c =
+    front_goes_on (in_class c.args.c) c.args.xs.now c.loop-i.i c.loop-i-test.true (sym c.has.ensures ∙ c.if-not-has.false)
+    ∙ c.loop-i.invariant
 
-pub loop-j-preserved : goal.loop-j-preserved
-loop-j-preserved c = (
-  search rules,
-  search rules,
-  front_on (in_class c.args.c) _ _ _ c.loop-j-test.true c.requires.1 (sym c.is_in.ensures ∙ c.if-is_in.true)
-      ∙ c.loop-j.invariant.2,
-)
-
-pub returns-else-is_in : goal.returns-else-is_in
-returns-else-is_in c =
-    front_off (in_class c.args.c) _ _ _ c.loop-j-test.true c.requires.1 (sym c.is_in.ensures ∙ c.if-is_in.false)
-    ∙ c.loop-j.invariant.2
+pub returns-then-not-has : goal.returns-then-not-has
+returns-then-not-has c =
+    front_stops (in_class c.args.c) c.args.xs.now c.loop-i.i c.loop-i-test.true (sym c.has.ensures ∙ c.if-not-has.true)
+    ∙ c.loop-i.invariant
 
 pub returns : goal.returns
 returns c =
-    front_end_lem (in_class c.args.c) _ _ _ c.loop-j-test.false ∙ c.loop-j.invariant.2
+    let e : length c.args.xs.now ≡ c.loop-i.i = omega arith in
+    e ∙ front_ends (in_class c.args.c) c.args.xs.now c.loop-i.i c.loop-i-test.false ∙ c.loop-i.invariant

@@ -1,11 +1,8 @@
-use Rattle.octets.specs.Octets.{in_class, front_end}
-use mathlib.Core.Path.{◌≡◌}
-use Prim.Native.Nat.{◌-◌, ◌≤◌}
+use Rattle.std.proofs.Common.{◌≡◌, ◌+◌, length, drop}
+use Rattle.format.specs.Lists.{span}
+use Rattle.octets.specs.Octets.{in_class}
 use Rattle.octets.proofs.skip.Given as goal
 
--- The octets from i to j are in the class: the run from j on ends where the run from i does.
-abbrev pub invariant-loop-j : goal.invariant-loop-j
-invariant-loop-j l = (l.i ≤ l.j) × (l.j ≤ l.e) × (front_end (in_class l.c) l.xs l.j l.e ≡ front_end (in_class l.c) l.xs l.i l.e)
-
-abbrev pub decreases-loop-j : goal.decreases-loop-j
-decreases-loop-j l = l.e - l.j
+-- The octets before i are in the class, and the run goes on with those that are left.
+abbrev pub invariant-loop-i : goal.invariant-loop-i
+invariant-loop-i l = l.i + length (span (in_class l.c) (drop l.i l.xs)).front ≡ length (span (in_class l.c) l.xs).front

@@ -1,26 +1,26 @@
-use Rattle.std.proofs.Common.{length, ◌/◌, arith}
 use mathlib.Core.List.Permᴰ
-use Rattle.parts.proofs.Halves.{rising_few, front_twice, back_twice, halves_sorted}
+use mathlib.Core.Path.{sym, ◌∙◌}
+use native.Mathlib.Omega.{arith}
+use Rattle.parts.proofs.Halves.{rising_few, first_twice, second_twice, halves_sorted}
+use Rattle.parts.proofs.+sort.Goals.{then-sort-via-then-sort, then-sort-via-else-sort+then-sort-2}
 use Rattle.parts.proofs.+sort.Goals as goal
 
-pub returns-then-n-lt2 : goal.returns-then-n-lt2
-returns-then-n-lt2 t c =
-    (Permᴰ.refl c.args.parts.now, rising_few c.args.ignoring c.args.s.now c.args.parts.now c.if-n-lt2.true)
+pub returns-then-m-eq0 : goal.returns-then-m-eq0
+returns-then-m-eq0 t c =
+    (Permᴰ.refl c.args.parts.now, rising_few c.args.ignoring c.args.s.now c.args.parts.now (omega (arith, c.if-m-eq0.true)))
 
 pub returns-then-sort : goal.returns-then-sort
 returns-then-sort t c =
-    front_twice c.args.parts.now c.args.other.now (length c.args.parts.now / 2) c.requires (omega arith)
-    c.args.ignoring c.args.s.now c.sort.new.parts c.sort.result c.sort.ensures c.if-sort.true
-
-pub returns-then-sort-2 : goal.returns-then-sort-2
-returns-then-sort-2 t c =
-    back_twice c.args.parts.now c.args.other.now (length c.args.parts.now / 2) c.requires (omega arith)
-    c.args.ignoring c.args.s.now c.sort.new.parts c.sort.auto.parts c.sort-2.new.parts c.sort-2.result
-    c.sort-2.ensures c.if-sort-2.true
+    let v = c.split_at_mut-xs.result in
+    elim c.then-sort.branch [
+      | then-sort-via-then-sort w ↦
+          first_twice c.args.ignoring c.args.s.now c.args.parts.now v.0.now v.1.now (sym c.split_at_mut-xs.ensures.value ∙ c.requires) c.sort.new.parts c.sort.result c.sort.ensures w.if-sort.true
+      | then-sort-via-else-sort+then-sort-2 w ↦
+          second_twice c.args.ignoring c.args.s.now c.args.parts.now v.0.now v.1.now (sym c.split_at_mut-xs.ensures.value ∙ c.requires) w.sort-else-sort.new.parts w.sort-else-sort.result w.sort-else-sort.ensures w.if-sort-2.true
+    ]
 
 pub returns : goal.returns
 returns t c =
-    halves_sorted c.args.parts.now c.args.other.now (length c.args.parts.now / 2) c.requires (omega arith)
-    c.sort.new.parts c.sort-2.new.parts c.sort.auto.parts c.sort-2.auto.parts
-    c.args.ignoring c.args.s.now c.sort.result c.sort-2.result c.sort.ensures c.if-sort.false
-    c.sort-2.ensures c.if-sort-2.false c.merge.result c.merge.new.out c.merge.ensures
+    let v = c.split_at_mut-xs.result in
+    halves_sorted c.args.ignoring c.args.s.now c.args.parts.now v.0.now v.1.now (sym c.split_at_mut-xs.ensures.value ∙ c.requires) c.sort.new.parts c.sort-else-sort.new.parts c.sort.result c.sort-else-sort.result
+    c.sort.ensures c.if-sort.false c.sort-else-sort.ensures c.if-sort-2.false c.merge.result c.merge.new.out c.merge.ensures

@@ -1,36 +1,14 @@
-use mathlib.Core.Path.{refl, sym, ◌∙◌}
-use Rattle.parts.proofs.Orders.{order_next, order_greater, order_less}
+use mathlib.Core.Path.{◌≡◌, refl}
+use borrow.Author.Rules.{rules}
+use Rattle.std.specs.Ordering.{nat_cmp}
+use Rattle.std.proofs.lemmas.Iterator.{YieldsList-from_slice, YieldsList-from_map}
+use Rattle.std.proofs.lemmas.Iterator.Search.{cmp_from_yields_List}
+use Rattle.parts.specs.Parts.{folded}
 use Rattle.parts.proofs.text_order.Goals as goal
 
-pub loop-i-init : goal.loop-i-init
-loop-i-init c = refl
-
-pub returns-in-Less : goal.returns-in-Less
-returns-in-Less c =
-    order_next c.args.ignoring c.args.s.now c.loop-i.i c.args.e c.loop-i.j c.args.f c.requires.0 c.requires.1
-    c.loop-i-test.true c.if-f-j.false _ (sym c.in-Less.is ∙ c.octet_order-o.ensures)
-    ∙ c.loop-i.invariant
-
-pub returns-in-Greater : goal.returns-in-Greater
-returns-in-Greater c =
-    order_next c.args.ignoring c.args.s.now c.loop-i.i c.args.e c.loop-i.j c.args.f c.requires.0 c.requires.1
-    c.loop-i-test.true c.if-f-j.false _ (sym c.in-Greater.is ∙ c.octet_order-o.ensures)
-    ∙ c.loop-i.invariant
-
-pub loop-i-preserved : goal.loop-i-preserved
-loop-i-preserved c =
-    order_next c.args.ignoring c.args.s.now c.loop-i.i c.args.e c.loop-i.j c.args.f c.requires.0 c.requires.1
-    c.loop-i-test.true c.if-f-j.false _ (sym c.in-Same.is ∙ c.octet_order-o.ensures)
-    ∙ c.loop-i.invariant
-
-pub returns-then-f-j : goal.returns-then-f-j
-returns-then-f-j c =
-    order_greater c.args.ignoring c.args.s.now c.loop-i.i c.args.e c.loop-i.j c.args.f c.requires.0 c.requires.1
-    c.loop-i-test.true c.if-f-j.true
-    ∙ c.loop-i.invariant
-
-pub returns-then-j-f : goal.returns-then-j-f
-returns-then-j-f c =
-    order_less c.args.ignoring c.args.s.now c.loop-i.i c.args.e c.loop-i.j c.args.f c.requires.0 c.requires.1
-    c.loop-i-test.false c.if-j-f.true
-    ∙ c.loop-i.invariant
+pub returns : goal.returns
+returns c =
+    cmp_from_yields_List (λ x y. y ≡ x) _ nat_cmp _ c.cmp.ensures.ran
+    (YieldsList-from_map _ (folded c.args.ignoring) (YieldsList-from_slice c.args.xs.now cc) c.map-folded.ensures.closure (λ x r q k. search rules))
+    (λ it e. rw e (YieldsList-from_map _ (folded c.args.ignoring) (YieldsList-from_slice c.args.ys.now cc) c.map.ensures.closure (λ x r q k. search rules)))
+    (λ x y. refl)

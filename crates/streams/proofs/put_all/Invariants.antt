@@ -1,13 +1,11 @@
-use Rattle.std.proofs.Common.{◌-◌, ◌≤◌, length, take}
-use Rattle.std.specs.Io.KnownBytes.{Appends}
+use Rattle.std.proofs.Common.{length}
+use Rattle.streams.proofs.Writing.{Upto}
 use Rattle.streams.proofs.put_all.Given as goal
 
--- The first octets, as many as are done, were written, and nothing else.
-abbrev pub invariant-loop-done : goal.invariant-loop-done
-invariant-loop-done g l = record {
-  inside : l.done ≤ length l.xs;
-  octets : Appends (g.W.Write.contents l.initial.to) (g.W.Write.contents l.to) (take l.done l.xs);
-}
+-- The first octets were written, and nothing else.
+abbrev pub invariant-loop-rest : goal.invariant-loop-rest
+invariant-loop-rest g l =
+    Upto (g.W.Write.contents l.initial.to) (g.W.Write.contents l.to) l.xs l.rest
 
-abbrev pub decreases-loop-done : goal.decreases-loop-done
-decreases-loop-done g l = length l.xs - l.done
+abbrev pub decreases-loop-rest : goal.decreases-loop-rest
+decreases-loop-rest g l = length l.rest

@@ -1,29 +1,50 @@
-use mathlib.Core.Path.{refl, ◌∙◌}
-use Rattle.tokens.proofs.Scans.{no_token_lem, quoted_first, bare_first, quoted_within, bare_within}
-use native.Mathlib.Omega.{arith}
+use mathlib.Core.Path.{◌≡◌, ap, ◌∙◌}
+use Prim.Native.Nat.{◌+◌, ◌≤◌, ◌<◌}
+use lib.ListN.{length, get_or}
+use borrow.Author.Rules.{rules}
 use borrow.Author.Tests.{ne_eqb}
+use native.Mathlib.Omega.{arith}
+use Rattle.format.specs.Lists.{span}
+use Rattle.format.specs.Octets.{blank}
+use Rattle.octets.proofs.Slices.{front_within}
+use Rattle.octets.proofs.Blocks.{last_part}
+use Rattle.tokens.proofs.Scans.{no_token_lem, quoted_first, bare_first, quoted_within, bare_within, a_quote}
 use Rattle.tokens.proofs.next_token.Goals as goal
 
-pub returns-then-t-a : goal.returns-then-t-a
-returns-then-t-a c =
-    (no_token_lem _ _ _ c.requires.0 c.skip-a.ensures c.if-t-a.true, tt)
+pub overflow_add-a : goal.overflow_add-a
+overflow_add-a c =
+    let e = c.skip.ensures ∙ ap (λ s. length (span blank s).front) (last_part c.args.t.now c.args.i c.requires.place) in
+    omega (arith, e, front_within blank c.args.t.now c.args.i (length c.args.t.now) c.requires.place (omega arith))
 
-pub returns-then-b-eq34 : goal.returns-then-b-eq34
-returns-then-b-eq34 c = (
-  c.token.ensures.0 ∙ quoted_first _ _ _ c.requires.0 c.skip-a.ensures 34 c.if-t-a.false c.if-b-eq34.true refl,
-  quoted_within c.args.t.now _ _ c.requires.0 c.skip-a.ensures 34 c.token.result (omega arith) c.token.ensures.1,
-)
+pub returns-in_err-b-clause-tokens : goal.returns-in_err-b-clause-tokens
+returns-in_err-b-clause-tokens c =
+    let e = ap (λ k. c.args.i + k) (c.skip.ensures ∙ ap (λ s. length (span blank s).front) (last_part c.args.t.now c.args.i c.requires.place)) in
+    let h : length c.args.t.now ≤ c.args.i + c.skip.result = search rules in
+    rw c.from_residual.ensures (no_token_lem c.args.t.now c.args.i _ c.requires.place e h)
 
-pub returns-then-b-eq39 : goal.returns-then-b-eq39
-returns-then-b-eq39 c = (
-  c.token-then-b-eq39.ensures.0 ∙ quoted_first _ _ _ c.requires.0 c.skip-a.ensures 39 c.if-t-a.false c.if-b-eq39.true refl,
-  quoted_within c.args.t.now _ _ c.requires.0 c.skip-a.ensures 39 c.token-then-b-eq39.result (omega arith) c.token-then-b-eq39.ensures.1,
-)
+pub returns-then-b-eq34-clause-tokens : goal.returns-then-b-eq34-clause-tokens
+returns-then-b-eq34-clause-tokens c =
+    let e = ap (λ k. c.args.i + k) (c.skip.ensures ∙ ap (λ s. length (span blank s).front) (last_part c.args.t.now c.args.i c.requires.place)) in
+    let h : c.args.i + c.skip.result < length c.args.t.now = search rules in
+    let b : get_or c.args.t.now (c.args.i + c.skip.result) 0 ≡ c.in_ok-b.field-0.now = search rules in
+    c.token.ensures.tokens ∙ quoted_first c.args.t.now c.args.i _ c.requires.place e _ h b (a_quote _ c.then-b-eq34.either)
 
-pub returns : goal.returns
-returns c = (
-  c.token-2.ensures.0
-      ∙ bare_first _ _ _ c.requires.0 c.skip-a.ensures c.if-t-a.false
-      (rw (ne_eqb _ _ c.if-b-eq34.false, ne_eqb _ _ c.if-b-eq39.false)),
-  bare_within c.args.t.now _ _ c.requires.0 c.skip-a.ensures c.token-2.result c.if-t-a.false c.token-2.ensures.1,
-)
+pub returns-then-b-eq34-clause-within : goal.returns-then-b-eq34-clause-within
+returns-then-b-eq34-clause-within c =
+    let e = ap (λ k. c.args.i + k) (c.skip.ensures ∙ ap (λ s. length (span blank s).front) (last_part c.args.t.now c.args.i c.requires.place)) in
+    let q : 1 ≤ c.in_ok-b.field-0.now = search rules in
+    quoted_within c.args.t.now c.args.i _ c.requires.place e _ c.token.result q c.token.ensures.from
+
+pub returns-clause-tokens : goal.returns-clause-tokens
+returns-clause-tokens c =
+    let e = ap (λ k. c.args.i + k) (c.skip.ensures ∙ ap (λ s. length (span blank s).front) (last_part c.args.t.now c.args.i c.requires.place)) in
+    let h : c.args.i + c.skip.result < length c.args.t.now = search rules in
+    let b : c.in_ok-b.field-0.now ≡ get_or c.args.t.now (c.args.i + c.skip.result) 0 = search rules in
+    c.token-2.ensures.tokens
+    ∙ bare_first c.args.t.now c.args.i _ c.requires.place e h (rw (← b, ne_eqb _ _ c.if-b-eq34.false, ne_eqb _ _ c.if-b-eq39.false))
+
+pub returns-clause-within : goal.returns-clause-within
+returns-clause-within c =
+    let e = ap (λ k. c.args.i + k) (c.skip.ensures ∙ ap (λ s. length (span blank s).front) (last_part c.args.t.now c.args.i c.requires.place)) in
+    let h : c.args.i + c.skip.result < length c.args.t.now = search rules in
+    bare_within c.args.t.now c.args.i _ c.requires.place e c.token-2.result h c.token-2.ensures.from

@@ -1,27 +1,29 @@
-use Prim.Native.Nat.{◌-◌}
-use mathlib.Core.Path.{refl, sym, ◌∙◌}
-use Rattle.tokens.proofs.Standing.{block_within, block_front}
+use mathlib.Core.Path.{sym, ap, ◌∙◌}
+use Prim.Native.Nat.{◌+◌}
+use lib.ListN.{length}
 use native.Mathlib.Omega.{arith}
+use Rattle.format.specs.Lists.{span}
+use Rattle.tokens.specs.Tokens.{standing}
+use Rattle.octets.proofs.Slices.{front_within}
+use Rattle.octets.proofs.Blocks.{all_front, block_there, block_passes, last_part}
 use Rattle.tokens.proofs.skip_long.Goals as goal
-
-pub loop-j-init : goal.loop-j-init
-loop-j-init c = (c.requires, refl)
-
-pub overflow_add-j : goal.overflow_add-j
-overflow_add-j c =
-    omega (arith, block_within c.args.q c.args.t.now c.loop-j.j (sym c.block_at.ensures ∙ c.loop-j-test.true))
-
-pub loop-j-smaller : goal.loop-j-smaller
-loop-j-smaller c =
-    omega (arith, block_within c.args.q c.args.t.now c.loop-j.j (sym c.block_at.ensures ∙ c.loop-j-test.true))
 
 pub loop-j-preserved : goal.loop-j-preserved
 loop-j-preserved c =
-    let e = sym c.block_at.ensures ∙ c.loop-j-test.true in (
-      block_within c.args.q c.args.t.now c.loop-j.j e,
-      block_front c.args.q c.args.t.now c.loop-j.j e ∙ c.loop-j.invariant.1,
+    let b = sym c.block_stands.ensures ∙ c.loop-j-test.true in
+    let n = block_there 64 (standing c.args.q) c.args.t.now c.loop-j.j c.loop-j.invariant.0 b in (
+      n,
+      all_front (standing c.args.q) c.args.t.now c.loop-j.j (c.loop-j.j + 64) (length c.args.t.now) (omega arith) n (omega arith)
+          (block_passes 64 (standing c.args.q) c.args.t.now c.loop-j.j c.loop-j.invariant.0 b)
+          ∙ c.loop-j.invariant.1,
     )
+
+pub overflow_add-result : goal.overflow_add-result
+overflow_add-result c =
+    let e = c.skip_all.ensures ∙ ap (λ s. length (span (standing c.args.q) s).front) (last_part c.args.t.now c.loop-j.j c.loop-j.invariant.0) in
+    omega (arith, e, front_within (standing c.args.q) c.args.t.now c.loop-j.j (length c.args.t.now) c.loop-j.invariant.0 (omega arith))
 
 pub returns : goal.returns
 returns c =
-    c.skip_to.ensures ∙ c.loop-j.invariant.1
+    let e = c.skip_all.ensures ∙ ap (λ s. length (span (standing c.args.q) s).front) (last_part c.args.t.now c.loop-j.j c.loop-j.invariant.0) in
+    ap (λ k. c.loop-j.j + k) e ∙ c.loop-j.invariant.1

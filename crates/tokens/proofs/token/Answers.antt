@@ -1,4 +1,3 @@
-use Prim.Native.Nat.{◌-◌}
 use mathlib.Core.Path.{sym, ◌∙◌}
 use Rattle.tokens.proofs.Scans.{kept_none, kept_run, front_stops, kept_escape, escape_within, token_ended, token_from}
 use native.Mathlib.Omega.{arith}
@@ -6,7 +5,7 @@ use Rattle.tokens.proofs.token.Goals as goal
 
 pub loop-j-init : goal.loop-j-init
 loop-j-init c =
-    (kept_run _ _ _ _ _ c.skip-j.ensures (kept_none _ _ _ c.requires.0), front_stops _ _ _ _ c.requires.0 c.skip-j.ensures)
+    (kept_run _ _ _ _ _ c.skip-j.ensures (kept_none _ _ _ c.requires.place), front_stops _ _ _ _ c.requires.place c.skip-j.ensures)
 
 pub skip-j-requires-in-loop-j : goal.skip-j-requires-in-loop-j
 skip-j-requires-in-loop-j c =
@@ -18,12 +17,12 @@ loop-j-smaller c =
 
 pub loop-j-preserved : goal.loop-j-preserved
 loop-j-preserved c =
-    let k = kept_escape _ _ _ _ c.loop-j.invariant.0 c.requires.1 (sym c.escape_at.ensures ∙ c.loop-j-test.true) in
+    let k = kept_escape _ _ _ _ c.loop-j.invariant.0 c.requires.quote (sym c.escape_at.ensures ∙ c.loop-j-test.true) in
     (kept_run _ _ _ _ _ c.skip-j-in-loop-j.ensures k, front_stops _ _ _ _ k.within c.skip-j-in-loop-j.ensures)
 
-pub returns : goal.returns
-returns c =
-    rw c.ended.ensures (
-      token_ended _ _ _ _ c.requires.1 c.loop-j.invariant.0 c.loop-j.invariant.1 (sym c.escape_at.ensures ∙ c.loop-j-test.false),
-      token_from _ _ _ _ c.loop-j.invariant.0,
-    )
+pub returns-clause-tokens : goal.returns-clause-tokens
+returns-clause-tokens c =
+    rw c.ended.ensures (token_ended _ _ _ _ c.requires.quote c.loop-j.invariant.0 c.loop-j.invariant.1 (sym c.escape_at.ensures ∙ c.loop-j-test.false))
+
+pub returns-clause-from : goal.returns-clause-from
+returns-clause-from c = rw c.ended.ensures (token_from _ _ _ _ c.loop-j.invariant.0)
