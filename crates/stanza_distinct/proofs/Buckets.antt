@@ -1,12 +1,10 @@
 -- Names that are the same have the same number, so names with different numbers differ.
 use Prim.Native.Nat.{ℕ, zero, suc, ◌+◌, ◌-◌, ◌*◌, ◌%◌, ◌≤◌, ◌<◌}
 use mathlib.Core.Path.{◌≡◌, refl, sym, ap, ◌∙◌}
-use mathlib.Core.Bool.{Bool, true, false}
+use mathlib.Core.Bool.{Bool, true, false, true≢false}
 use mathlib.Core.List.{List, [], ◌∷◌}
-use native.Mathlib.Omega.{arith}
-use native.Mathlib.Nat.{mod-lt}
-use lib.ListN.{length, take, get_or, set}
-use lib.Seq.{slice, length-slice, get_or-take, get_or-drop, get_or-set_same, get_or-set_other}
+use lib.ListN.{length, get_or, set}
+use lib.Seq.{slice, get_or-set_same, get_or-set_other}
 use lib.Dec.{eqb}
 use borrow.Author.Tests.{eqb-true}
 use Rattle.format.specs.Lists.{any_of}
@@ -14,7 +12,6 @@ use Rattle.format.specs.Octets.{name_octet}
 use Rattle.format.specs.Field.{Part}
 use Rattle.format.proofs.Lists.{and_left, and_right}
 use Rattle.octets.specs.Octets.{part_in, front_end}
-use Rattle.octets.proofs.Slices.{none}
 use Rattle.stanza_words.specs.Qualifiers.{pieces_in, same_by, name_in, twice_in}
 use Rattle.stanza_distinct.specs.Distinct.{folded, bucket_of}
 use Rattle.stanza_words.proofs.Laws.{same_next, not_comma, last_piece, next_piece, name_in_lem, twice_on, twice_last}
@@ -57,55 +54,33 @@ module _ (g : Bool) where
       by true e = absurd (h (bucket_same x y e))
       by false e = refl
 
-  -- the number of a name in a stanza
-  slice_at : (s : List ℕ) (a n i : ℕ) → a + i < n → get_or (slice a n s) i 0 ≡ get_or s (a + i) 0
-  slice_at s a n i h = get_or-drop a (take n s) i 0 ∙ get_or-take n s (a + i) 0 h
-
-  pub bucket_of_lem : (s : List ℕ) (a n x y : ℕ) → a < n → n ≤ length s → x ≡ folded g (get_or s a 0) → y ≡ folded g (get_or s (n - 1) 0) → (((n - a) % 32 + x) * 8 + y) % 256 ≡ bucket_of g (slice a n s)
-  bucket_of_lem s a n x y h l p q =
-      let first : get_or s a 0 ≡ get_or (slice a n s) 0 0 = let z : a + 0 ≡ a = omega arith in sym (rw z at (slice_at s a n 0 (omega arith))) in
-      let last : get_or s (n - 1) 0 ≡ get_or (slice a n s) (n - a - 1) 0 = let z : a + (n - a - 1) ≡ n - 1 = omega arith in sym (rw z at (slice_at s a n (n - a - 1) (omega arith))) in
-      ap (λ v. (((n - a) % 32 + v) * 8 + y) % 256) (p ∙ ap (folded g) first)
-      ∙ ap (λ v. (((n - a) % 32 + folded g (get_or (slice a n s) 0 0)) * 8 + v) % 256) (q ∙ ap (folded g) last)
-      ∙ ap (λ m. ((m % 32 + folded g (get_or (slice a n s) 0 0)) * 8 + folded g (get_or (slice a n s) (m - 1) 0)) % 256) (sym (length-slice a n s l))
-
-  pub bucket_none : (s : List ℕ) (a n : ℕ) → n ≤ a → 0 ≡ bucket_of g (slice a n s)
-  bucket_none s a n h = by g ∙ ap (bucket_of g) (sym (none s a n h))
-    where
-      by : (g : Bool) → 0 ≡ bucket_of g []
-      by true = refl
-      by false = refl
-
-  pub bucket_below : (x : List ℕ) → bucket_of g x < 256
-  bucket_below x = mod-lt _ (omega arith)
-
   -- none of these names has a number that was met before
-  abbrev pub Clear : List ℕ → List Part → Type 0
+  abbrev pub Clear : List Bool → List Part → Type 0
   Clear met [] = Unit {0}
-  Clear met (p ∷ ps) = (get_or met (bucket_of g (name_in p)) 0 ≡ 0) × Clear met ps
+  Clear met (p ∷ ps) = (get_or met (bucket_of g (name_in p)) false ≡ false) × Clear met ps
 
-  module _ (met : List ℕ) (k : ℕ) (l : k < length met) where
-    not_met : (j : ℕ) → get_or (set met k 1) j 0 ≡ 0 → j ≡ k → ⊥
-    not_met j h e = let q : ◌≡◌ {A = ℕ} 1 0 = sym (get_or-set_same met k 1 0 l) ∙ ap (λ i. get_or (set met k 1) i 0) (sym e) ∙ h in absurd (omega arith)
+  module _ (met : List Bool) (k : ℕ) (l : k < length met) where
+    not_met : (j : ℕ) → get_or (set met k true) j false ≡ false → j ≡ k → ⊥
+    not_met j h e = true≢false (sym (get_or-set_same met k true false l) ∙ ap (λ i. get_or (set met k true) i false) (sym e) ∙ h)
 
-    clear_before : (ps : List Part) → Clear (set met k 1) ps → Clear met ps
+    clear_before : (ps : List Part) → Clear (set met k true) ps → Clear met ps
     clear_before [] c = tt
-    clear_before (p ∷ ps) c = (sym (get_or-set_other met k (bucket_of g (name_in p)) 1 0 (not_met (bucket_of g (name_in p)) c.0)) ∙ c.0, clear_before ps c.1)
+    clear_before (p ∷ ps) c = (sym (get_or-set_other met k (bucket_of g (name_in p)) true false (not_met (bucket_of g (name_in p)) c.0)) ∙ c.0, clear_before ps c.1)
 
-    none_same : (x : List ℕ) → k ≡ bucket_of g x → (ps : List Part) → Clear (set met k 1) ps → any_of (λ p. same_by g x (name_in p)) ps ≡ false
+    none_same : (x : List ℕ) → k ≡ bucket_of g x → (ps : List Part) → Clear (set met k true) ps → any_of (λ p. same_by g x (name_in p)) ps ≡ false
     none_same x e [] c = refl
     none_same x e (p ∷ ps) c = rw (bucket_other x (name_in p) (λ q. not_met (bucket_of g (name_in p)) c.0 (sym q ∙ sym e)), none_same x e ps c.1)
 
   module _ (s : List ℕ) (i b z n : ℕ) (h : i ≤ b) (l : b ≤ length s) (q : z ≡ front_end not_comma s i b) (e : n ≡ front_end name_octet s i z)
-      (met : List ℕ) (k : ℕ) (d : k ≡ bucket_of g (slice i n s)) (o : get_or met k 0 ≡ 0) where
-    unmet : get_or met (bucket_of g (name_in (part_in s i z))) 0 ≡ 0
-    unmet = ap (λ t. get_or met (bucket_of g t) 0) (name_in_lem s i b z h l q n e) ∙ ap (λ j. get_or met j 0) (sym d) ∙ o
+      (met : List Bool) (k : ℕ) (d : k ≡ bucket_of g (slice i n s)) (o : get_or met k false ≡ false) where
+    unmet : get_or met (bucket_of g (name_in (part_in s i z))) false ≡ false
+    unmet = ap (λ t. get_or met (bucket_of g t) false) (name_in_lem s i b z h l q n e) ∙ ap (λ j. get_or met j false) (sym d) ∙ o
 
     module _ (a : ℕ) (f : Clear met (pieces_in s i b) → twice_in g s i b ≡ false → twice_in g s a b ≡ false) where
       pub apart_last : z ≡ b → twice_in g s a b ≡ false
       apart_last m = f (rw (last_piece s i b z h l q m) (unmet, tt)) (sym (twice_last s i b z h l q g m))
 
-      pub apart_next : (z ≡ b → ⊥) → k < length met → Clear (set met k 1) (pieces_in s (z + 1) b) → twice_in g s (z + 1) b ≡ false → twice_in g s a b ≡ false
+      pub apart_next : (z ≡ b → ⊥) → k < length met → Clear (set met k true) (pieces_in s (z + 1) b) → twice_in g s (z + 1) b ≡ false → twice_in g s a b ≡ false
       apart_next m u c t =
           f (rw (next_piece s i b z h l q m) (unmet, clear_before met k u (pieces_in s (z + 1) b) c))
           (sym (twice_on s i b z h l q g n e m _ refl (none_same met k u (slice i n s) d (pieces_in s (z + 1) b) c)) ∙ t)

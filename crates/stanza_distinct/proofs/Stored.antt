@@ -1,19 +1,15 @@
 -- The names of qualifiers, stored one by one as parts.
-use Prim.Native.Nat.{ℕ, ◌+◌, ◌-◌, ◌≤◌, ◌<◌}
-use mathlib.Core.Path.{◌≡◌, sym, ap, ◌∙◌}
-use mathlib.Core.Bool.{Bool}
+use Prim.Native.Nat.{ℕ, ◌+◌, ◌≤◌, ◌<◌}
+use mathlib.Core.Path.{◌≡◌, sym, ◌∙◌}
 use mathlib.Core.List.{List, [], ◌∷◌, ◌++◌, map, map-append, append-nil}
 use native.Mathlib.Numerals.{add-one}
-use native.Mathlib.Nat.{sub-zero}
 use lib.ListN.{length, take, set}
 use lib.Seq.{slice, take-suc-set, append_snoc}
-use Rattle.format.specs.Lists.{twice}
 use Rattle.format.specs.Octets.{name_octet}
 use Rattle.octets.specs.Octets.{part_in, front_end}
 use Rattle.parts.specs.Parts.{part_of}
-use Rattle.stanza_words.specs.Qualifiers.{pieces_in, name_in, same_by, twice_in}
+use Rattle.stanza_words.specs.Qualifiers.{pieces_in, name_in}
 use Rattle.stanza_words.proofs.Laws.{not_comma, last_piece, next_piece, name_in_lem}
-use Rattle.stanza_distinct.specs.Distinct.{Named}
 
 -- the first n parts of two lists and the names from i on are the names from a on
 pub record Naming (s : List ℕ) (a b : ℕ) (list other : List ℕ) (n i : ℕ) : Type 0 where
@@ -45,11 +41,3 @@ module _ (s : List ℕ) (a b i z e : ℕ) (h : i ≤ b) (l : b ≤ length s) (q 
     sym (append-nil (map (part_of s) (take (n + 1) (set list n k)))) ∙ one_more [] ∙ (rw (last_piece s i b z h l q u, name_is) at m.names),
     both_same,
   )
-
--- what sorting is asked, and what it says of the qualifiers
-module _ (g : Bool) (s : List ℕ) (a b : ℕ) (list other : List ℕ) (n : ℕ) (d : Named s a b list other n) where
-  pub both_hold : take (n - 0) other ≡ take (n - 0) list
-  both_hold = ap (λ k. take k other) (sub-zero n) ∙ d.same ∙ sym (ap (λ k. take k list) (sub-zero n))
-
-  pub named_twice : (r : Bool) → r ≡ twice (same_by g) (map (part_of s) (take (n - 0) list)) → r ≡ twice_in g s a b
-  named_twice r e = e ∙ ap (λ k. twice (same_by g) (map (part_of s) (take k list))) (sub-zero n) ∙ ap (twice (same_by g)) d.names

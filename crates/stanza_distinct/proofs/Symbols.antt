@@ -4,24 +4,23 @@ use Prim.Native.Char.{code}
 use mathlib.Core.Path.{◌≡◌, refl, sym, ap, ◌∙◌}
 use mathlib.Core.Bool.{Bool, true, false, not, true≢false}
 use mathlib.Core.List.{List, [], ◌∷◌}
-use mathlib.Core.Option.{some}
+use Rattle.std.specs.Prelude.{Some}
 use native.Mathlib.Omega.{arith}
 use lib.ListN.{length, get_or}
 use lib.Seq.{slice}
-use lib.Dec.{eqb, ltb}
-use borrow.Author.Tests.{eqb-true, ltb-true, ltb-false, lt-ltb}
+use lib.Dec.{eqb}
+use borrow.Author.Tests.{eqb-true, lt-ltb}
 use Rattle.format.specs.Lists.{all_of}
 use Rattle.format.specs.Octets.{digit, name_octet}
+use Rattle.format.specs.Number.{decimal_of}
 use Rattle.format.specs.Field.{Part}
 use Rattle.format.specs.Grammar.{symbol, qualifier}
 use Rattle.format.proofs.Lists.{and_left, and_right}
-use Rattle.octets.specs.Octets.{first_or, front_end}
-use Rattle.octets.proofs.Slices.{next, none, front_on, front_off, front_within}
+use Rattle.octets.specs.Octets.{front_end}
+use Rattle.octets.proofs.Slices.{front_on, front_off, front_within}
 use Rattle.octets.proofs.Blocks.{all_front}
 use Rattle.stanza_words.specs.Qualifiers.{holds_of}
-use Rattle.stanza_distinct.specs.Distinct.{comma_at, NumberAt, SymbolAt}
-use Rattle.stanza_distinct.specs.declared.Piece.{Piece}
-use Rattle.stanza_distinct.specs.declared.Piece.TheVariants.{Other, Symbol}
+use Rattle.stanza_distinct.specs.Distinct.{comma_at, Placed}
 use Rattle.stanza_words.specs.declared.Test.TheVariants.{NotSymbol}
 use Rattle.stanza_words.proofs.Laws.{not_comma, begins, all_passes, found_number}
 
@@ -38,22 +37,8 @@ module _ (f : ℕ → Bool) (k : f (code ",") ≡ false) where
   no_commas [] h = refl
   no_commas (x ∷ xs) h = rw (other_octet x (and_left (f x) (all_of f xs) h), no_commas xs (and_right (f x) (all_of f xs) h))
 
--- an octet stands at n
-pub octet_there : (s : List ℕ) (n b : ℕ) → b ≤ length s → first_or (slice n b s) ≡ 61 → n < b
-octet_there s n b l o = by (ltb n b) refl
-  where
-    by : (t : Bool) → ltb n b ≡ t → n < b
-    by true e = ltb-true n b e
-    by false e = let q : ◌≡◌ {A = ℕ} 256 61 = rw (none s n b (ltb-false n b e)) at o in absurd (omega arith)
-
-octet_is : (s : List ℕ) (n b : ℕ) → b ≤ length s → first_or (slice n b s) ≡ 61 → get_or s n 0 ≡ 61
-octet_is s n b l o = rw (next s n b (octet_there s n b l o) l) at o
-
 module _ (s : List ℕ) (i b n z : ℕ) (h : i ≤ b) (l : b ≤ length s) (q : n ≡ front_end name_octet s i b) (g : begins (slice i n s) ≡ true)
-    (o : first_or (slice n b s) ≡ 61) (d : z ≡ front_end digit s (n + 1) b) (t : z ≡ comma_at s z b) where
-  there : n < b
-  there = octet_there s n b l o
-
+    (there : n < b) (o : get_or s n 0 ≡ 61) (d : z ≡ front_end digit s (n + 1) b) (t : z ≡ comma_at s z b) where
   from : i ≤ n
   from = omega arith
 
@@ -67,7 +52,7 @@ module _ (s : List ℕ) (i b n z : ℕ) (h : i ≤ b) (l : b ≤ length s) (q : 
   counted = ap (λ m. all_of digit (slice (n + 1) m s)) d ∙ all_passes digit s (n + 1) b (omega (arith, there)) l
 
   equals : not_comma (get_or s n 0) ≡ true
-  equals = ap not_comma (octet_is s n b l o)
+  equals = ap not_comma o
 
   ended : z ≡ comma_at s i b
   ended =
@@ -77,15 +62,16 @@ module _ (s : List ℕ) (i b n z : ℕ) (h : i ≤ b) (l : b ≤ length s) (q : 
 
   name_end_lem : n ≡ front_end name_octet s i z
   name_end_lem =
-      front_off name_octet s n z (omega (arith, upto)) (omega (arith, upto)) (ap name_octet (octet_is s n b l o))
+      front_off name_octet s n z (omega (arith, upto)) (omega (arith, upto)) (ap name_octet o)
       ∙ all_front name_octet s i n z from (omega (arith, upto)) (omega (arith, upto)) named
 
-  pub symbol_found : (r : Piece) → NumberAt s n z r → SymbolAt s i b r
-  symbol_found Other e = tt
-  symbol_found (Symbol m y v) e =
-      rw (e.0, e.1)
-      (ended, name_end_lem, sym (found_number s i z n (omega (arith, upto, from)) (omega (arith, upto)) name_end_lem g v (omega (arith, upto)) (octet_is s n b l o) e.2))
+  pub symbol_found : (v : ℕ) → decimal_of (slice (n + 1) z s) ≡ Some v → Placed s i b (record { name_end = n; end = z; number = v })
+  symbol_found v e = record {
+    ends = ended;
+    name = name_end_lem;
+    is = sym (found_number s i z n (omega (arith, upto, from)) (omega (arith, upto)) name_end_lem g v (omega (arith, upto)) o e);
+  }
 
 -- a symbol whose number is below the limit
-pub below_limit : (limit : ℕ) (p w : Part) (v : ℕ) → qualifier p ≡ some (symbol (record { spelling = w; value = v })) → v < limit → holds_of (NotSymbol limit) (qualifier p) ≡ false
+pub below_limit : (limit : ℕ) (p w : Part) (v : ℕ) → qualifier p ≡ Some (symbol (record { spelling = w; value = v })) → v < limit → holds_of (NotSymbol limit) (qualifier p) ≡ false
 below_limit limit p w v q h = rw (q, lt-ltb v limit h)

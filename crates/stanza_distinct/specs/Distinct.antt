@@ -1,16 +1,12 @@
 -- Symbols, and names that are told apart by their numbers.
-use Rattle.std.specs.Prelude.{ℕ, ◌+◌, ◌-◌, ◌*◌, ◌%◌, ◌≤◌, ◌≡◌, Bool, not, cond, List, map, eqb, length, take, get_or}
+use Rattle.std.specs.Prelude.{ℕ, ◌+◌, ◌-◌, ◌*◌, ◌%◌, ◌≤◌, ◌≡◌, Bool, not, cond, List, map, eqb, length, take, get_or, Option, None, Some}
 use Prim.Native.Char.{code}
-use Rattle.std.proofs.Math.Option.{some}
-use Rattle.std.proofs.Math.Seq.{slice}
 use Rattle.format.specs.Octets.{lowered, name_octet}
-use Rattle.format.specs.Number.{decimal_of}
 use Rattle.format.specs.Grammar.{symbol, qualifier}
 use Rattle.octets.specs.Octets.{part_in, front_end}
 use Rattle.stanza_words.specs.Qualifiers.{pieces_in, name_in}
 use Rattle.parts.specs.Parts.{part_of}
-use Rattle.stanza_distinct.specs.declared.Piece.{Piece}
-use Rattle.stanza_distinct.specs.declared.Piece.TheVariants.{Other, Symbol as SymbolPiece}
+use Rattle.stanza_distinct.specs.declared.Symbol.{Symbol}
 
 -- the octet, in lower case if `ignoring`
 abbrev pub folded : Bool → ℕ → ℕ
@@ -24,17 +20,15 @@ bucket_of ignoring t = ((length t % 32 + folded ignoring (get_or t 0 0)) * 8 + f
 abbrev pub comma_at : List ℕ → ℕ → ℕ → ℕ
 comma_at s i b = front_end (λ x. not (eqb x (code ","))) s i b
 
--- a symbol whose name ends at n, with the number from n + 1 to z
-abbrev pub NumberAt : List ℕ → ℕ → ℕ → Piece → Type 0
-NumberAt s n z Other = Unit {0}
-NumberAt s n z (SymbolPiece m y v) = (m ≡ n) × (y ≡ z) × (decimal_of (slice (n + 1) z s) ≡ some v)
-
 -- a symbol that starts at i and ends at the next comma or at b
-abbrev pub SymbolAt : List ℕ → ℕ → ℕ → Piece → Type 0
-SymbolAt s i b Other = Unit {0}
-SymbolAt s i b (SymbolPiece n z v) =
-    (z ≡ comma_at s i b) × (n ≡ front_end name_octet s i z)
-    × (qualifier (part_in s i z) ≡ some (symbol (record { spelling = part_in s i n; value = v })))
+pub record Placed (s : List ℕ) (i b : ℕ) (x : Symbol) : Type 0 where
+  pub ends : x.end ≡ comma_at s i b
+  pub name : x.name_end ≡ front_end name_octet s i x.end
+  pub is : qualifier (part_in s i x.end) ≡ Some (symbol (record { spelling = part_in s i x.name_end; value = x.number }))
+
+abbrev pub SymbolAt : List ℕ → ℕ → ℕ → Option Symbol → Type 0
+SymbolAt s i b None = Unit {0}
+SymbolAt s i b (Some x) = Placed s i b x
 
 -- the first n of two lists name the parts that the qualifiers' names are
 pub record Named (s : List ℕ) (a b : ℕ) (list other : List ℕ) (n : ℕ) : Type 0 where

@@ -29,7 +29,7 @@ code_parts n p a e h i j k = rw (number, parameter, from, to)
     to = omega arith
 
 -- the field at place k; the code 0 is a field of zeros
-field_at_lem : (cs : List ℕ) (k : ℕ) → get_or (fields_of cs) k no_field ≡ field_at (get_or cs k 0)
+pub field_at_lem : (cs : List ℕ) (k : ℕ) → get_or (fields_of cs) k no_field ≡ field_at (get_or cs k 0)
 unfolding form_at
 field_at_lem [] k = refl
 field_at_lem (c ∷ cs) zero = refl

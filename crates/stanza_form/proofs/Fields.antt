@@ -3,7 +3,7 @@ use Prim.Native.Nat.{ℕ, ◌≤◌}
 use mathlib.Core.Path.{◌≡◌, refl, sym}
 use mathlib.Core.Bool.{Bool, true, false, ◌||◌, true≢false}
 use mathlib.Core.List.{List, [], ◌∷◌}
-use mathlib.Core.Option.{some}
+use Rattle.std.specs.Prelude.{Some}
 use native.Mathlib.Omega.{arith}
 use lib.Dec.{eqb}
 use borrow.Author.Tests.{eqb-true}
@@ -31,7 +31,7 @@ module _ (s : List ℕ) (d : FieldDesc) (u : Usable s d) (w : ℕ) (g : d.form �
   abbrev pub symbols_of : List Symbol
   symbols_of = or_none (symbols_in w s d.qualifiers_at d.qualifiers_end)
 
-  pub symbols_of_lem : symbols_in w s d.qualifiers_at d.qualifiers_end ≡ some symbols_of
+  pub symbols_of_lem : symbols_in w s d.qualifiers_at d.qualifiers_end ≡ Some symbols_of
   symbols_of_lem = u.placed.listed w symbols_of (rw g)
 
   pub int_four : w ≤ 4

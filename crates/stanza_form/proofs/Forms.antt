@@ -3,7 +3,7 @@ use Prim.Native.Nat.{ℕ}
 use mathlib.Core.Path.{◌≡◌, refl, sym, subst}
 use mathlib.Core.Bool.{Bool, true, false, not, cond, ◌&&◌, true≢false}
 use mathlib.Core.List.{List, [], ◌∷◌}
-use mathlib.Core.Option.{Option, none, some}
+use Rattle.std.specs.Prelude.{Option, None, Some}
 use native.Mathlib.Omega.{arith}
 use lib.Dec.{eqb}
 use types.Run.{OneOf, miss}
@@ -164,7 +164,7 @@ one_form c Base64 p q r s l = absurd (miss (except 14) 14 tt r)
 one_form c Hex p q r s l = absurd (miss (except 15) 15 tt s)
 
 -- "Only S fields take quoted tokens."
-pub only_strings : (c : List TypeName) (f : Form) → Not 8 f → Not 13 f → (l : List Symbol) (o x : List ℕ) → value_by (rule_of c (kind_of l f)) o (quoted x) ≡ none
+pub only_strings : (c : List TypeName) (f : Form) → Not 8 f → Not 13 f → (l : List Symbol) (o x : List ℕ) → value_by (rule_of c (kind_of l f)) o (quoted x) ≡ None
 only_strings c (Int w) g h l o x = refl
 only_strings c (Eui w) g h l o x = refl
 only_strings c (Name m) g h l o x = refl
@@ -202,7 +202,7 @@ none_missing c Base64 g l = refl
 none_missing c Hex g l = refl
 
 -- no rule has a value of a token with a fault
-pub none_of_broken : (r : Rule) (o : List ℕ) → value_by r o broken ≡ none
+pub none_of_broken : (r : Rule) (o : List ℕ) → value_by r o broken ≡ None
 none_of_broken (bare_by f) o = refl
 none_of_broken (name_by optional) o = refl
 none_of_broken string_by o = refl
@@ -230,38 +230,38 @@ is_integer time = false
 -- words make no integer
 abbrev pub Wordy : Takes → Type 0
 Wordy (symbols w) = Unit {0}
-Wordy (words ws f) = (given : List (List ℕ)) (k : Kind) → f given ≡ some k → is_integer k ≡ false
+Wordy (words ws f) = (given : List (List ℕ)) (k : Kind) → f given ≡ Some k → is_integer k ≡ false
 
 abbrev pub All-wordy : List TypeRow → Type 0
 All-wordy [] = Unit {0}
 All-wordy (r ∷ rs) = Wordy r.takes × All-wordy rs
 
-always : (j : Kind) → is_integer j ≡ false → (given : List (List ℕ)) (k : Kind) → some j ≡ some k → is_integer k ≡ false
+always : (j : Kind) → is_integer j ≡ false → (given : List (List ℕ)) (k : Kind) → Some j ≡ Some k → is_integer k ≡ false
 always j h given k e = let w : j ≡ k = cc in rw (← w) h
 
 either : (i j : Kind) → is_integer i ≡ false → is_integer j ≡ false → (b : Bool) → is_integer (cond b i j) ≡ false
 either i j h k true = h
 either i j h k false = k
 
-strings : (given : List (List ℕ)) (k : Kind) → string_kind given ≡ some k → is_integer k ≡ false
+strings : (given : List (List ℕ)) (k : Kind) → string_kind given ≡ Some k → is_integer k ≡ false
 strings given k e = by (has_word given (ascii "M")) (has_word given (ascii "X")) e
   where
-    by : (m x : Bool) → cond m (provided (not x) strs) (some (cond x raw str)) ≡ some k → is_integer k ≡ false
+    by : (m x : Bool) → cond m (provided (not x) strs) (Some (cond x raw str)) ≡ Some k → is_integer k ≡ false
     by true true e = cc
     by true false e = always strs refl given k e
     by false x e = always (cond x raw str) (either raw str refl refl x) given k e
 
-with_word : (i j : Kind) → is_integer i ≡ false → is_integer j ≡ false → (given : List (List ℕ)) (k : Kind) → some (cond (null given) i j) ≡ some k → is_integer k ≡ false
+with_word : (i j : Kind) → is_integer i ≡ false → is_integer j ≡ false → (given : List (List ℕ)) (k : Kind) → Some (cond (null given) i j) ≡ Some k → is_integer k ≡ false
 with_word i j h l given k e = always (cond (null given) i j) (either i j h l (null given)) given k e
 
 pub rows_wordy : All-wordy type_rows
 rows_wordy =
     (tt, (tt, (tt, ((with_word rrtype bitmap refl refl), ((always a4 refl), ((always aa refl), ((always aaaa refl), ((λ given k e. always (name_kind given) refl given k e), (strings, ((always b32 refl), ((always b64 refl), ((with_word hex hexc refl refl), ((always time refl), ((always (eui 6) refl), ((always (eui 8) refl), ((always (eui 6) refl), ((always (eui 8) refl), tt)))))))))))))))))
 
-pub row_of : (rs : List TypeRow) → All-wordy rs → (k : List ℕ) (t : Takes) → takes_of rs k ≡ some t → Wordy t
+pub row_of : (rs : List TypeRow) → All-wordy rs → (k : List ℕ) (t : Takes) → takes_of rs k ≡ Some t → Wordy t
 row_of [] h k t e = let z : ◌≡◌ {A = ℕ} 0 1 = cc in absurd (omega arith)
 row_of (r ∷ rs) h k t e = by (same_octets k r.type_word) e (row_of rs h.1 k t)
   where
-    by : (b : Bool) → cond b (some r.takes) (takes_of rs k) ≡ some t → (takes_of rs k ≡ some t → Wordy t) → Wordy t
+    by : (b : Bool) → cond b (Some r.takes) (takes_of rs k) ≡ Some t → (takes_of rs k ≡ Some t → Wordy t) → Wordy t
     by true e ih = let w : r.takes ≡ t = cc in subst Wordy w h.0
     by false e ih = ih e

@@ -1,6 +1,6 @@
 -- The fields of a description as the code has them, and what they mean in their stanza.
 use Rattle.std.specs.Prelude.{ℕ, zero, suc, ◌+◌, ◌≤◌, ◌≡◌, true, List, [], ◌∷◌, length, get_or}
-use Rattle.std.proofs.Math.Option.{some}
+use Rattle.std.specs.Prelude.{Some}
 use Rattle.format.specs.Field.{Symbol, Kind, int, Field}
 use Rattle.format.specs.Demands.{sound_kind}
 use Rattle.octets.specs.Octets.{part_in}
@@ -17,7 +17,7 @@ pub record Placed (s : List ℕ) (f : FieldDesc) : Type 0 where
   pub from : f.qualifiers_at ≤ f.qualifiers_end
   pub to : f.qualifiers_end ≤ length s
   pub listed : (w : ℕ) (l : List Symbol) → kind_in s f.qualifiers_at f.qualifiers_end f.form ≡ int w l
-      → symbols_in w s f.qualifiers_at f.qualifiers_end ≡ some l
+      → symbols_in w s f.qualifiers_at f.qualifiers_end ≡ Some l
 
 -- what is read past the end of the array
 abbrev pub no_field : FieldDesc

@@ -1,7 +1,6 @@
 -- The forms of fields in code, and what each is by the definitions of document 01: its kind, its shape on the wire, how it reads
 -- its tokens, its number in a code, and the word of its type.
-use Rattle.std.specs.Prelude.{ℕ, ◌/◌, ◌%◌, Bool, true, false, cond, List, [], ◌∷◌, length, eqb, leb}
-use Rattle.std.proofs.Math.Option.{Option, none, some}
+use Rattle.std.specs.Prelude.{ℕ, ◌/◌, ◌%◌, Bool, true, false, cond, Option, None, Some, List, [], ◌∷◌, length, eqb, leb}
 use Rattle.format.specs.Lists.{◌>>=◌, each_of, null}
 use Rattle.format.specs.Octets.{ascii}
 use Rattle.format.specs.Wire.{Stage, count, label_length, to_the_end, string_count, window}
@@ -20,13 +19,13 @@ use Rattle.format.specs.Run.{Got, no_token, got, got_or, bare_of}
 use Rattle.format.specs.Types.{TypeRow, Takes, symbols, words, no_words, name_kind, string_kind, symbol_of}
 use Rattle.stanza_words.specs.Qualifiers.{qualifiers_in}
 use Rattle.stanza_words.specs.declared.Words.{Words}
-use Rattle.stanza_words.specs.declared.Words.TheVariants.{Nothing, OnR, OnN, OnS, OnX}
+use Rattle.stanza_words.specs.declared.Words.TheVariants.{OnR, OnN, OnS, OnX}
 use Rattle.stanza_form.specs.declared.Form.{Form}
 use Rattle.stanza_form.specs.declared.Form.TheVariants.{Int, Eui, Name, Rrtype, Dotted, Aa, Aaaa, Time, Str, Base32, Hexc, Bitmap, Strs, Raw, Base64, Hex}
 use Rattle.stanza_form.specs.declared.Shape.{Shape}
 use Rattle.stanza_form.specs.declared.Shape.TheVariants.{Octets, Labels, Counted, Strings, Rest, Windows}
 use Rattle.stanza_form.specs.declared.FieldType.{FieldType}
-use Rattle.stanza_form.specs.declared.FieldType.TheVariants.{NoType, Int1, Int2, Int4, Plain, TypeR, TypeN, TypeS, TypeX}
+use Rattle.stanza_form.specs.declared.FieldType.TheVariants.{Int1, Int2, Int4, Plain, Listed}
 
 -- whether O, which is 8, is among the marks of a name
 abbrev pub optional_in : ℕ → Bool
@@ -76,8 +75,8 @@ symbols_in w s a b = qualifiers_in s a b >>= each_of (symbol_of w)
 
 -- the symbols that are listed, or none
 abbrev pub or_none : Option (List Symbol) → List Symbol
-or_none none = []
-or_none (some l) = l
+or_none None = []
+or_none (Some l) = l
 
 -- the kind of a form with the qualifiers from a to b
 abbrev pub kind_in : List ℕ → ℕ → ℕ → Form → Kind
@@ -181,7 +180,7 @@ value_by (bare_by f) o t = bare_of t >>= f o
 value_by (name_by optional) o t = bare_of t >>= read_name o
 value_by string_by o t = read_string t
 value_by raw_by o t = read_raw t
-value_by all_tokens o t = none
+value_by all_tokens o t = None
 
 -- what a field makes of no token
 abbrev pub missing_by : Rule → Got
@@ -222,23 +221,19 @@ form_at n p =
 
 -- the types that take words
 abbrev pub listed : Words → Takes
-listed Nothing = words [] (λ given. none)
-listed OnR = words (ascii "L" ∷ []) (λ given. some (cond (null given) rrtype bitmap))
-listed OnN = words (ascii "C" ∷ ascii "A" ∷ ascii "L" ∷ ascii "O" ∷ []) (λ given. some (name_kind given))
+listed OnR = words (ascii "L" ∷ []) (λ given. Some (cond (null given) rrtype bitmap))
+listed OnN = words (ascii "C" ∷ ascii "A" ∷ ascii "L" ∷ ascii "O" ∷ []) (λ given. Some (name_kind given))
 listed OnS = words (ascii "M" ∷ ascii "X" ∷ []) string_kind
-listed OnX = words (ascii "C" ∷ []) (λ given. some (cond (null given) hex hexc))
+listed OnX = words (ascii "C" ∷ []) (λ given. Some (cond (null given) hex hexc))
 
 -- what a type takes
-abbrev pub taken_by : FieldType → Option Takes
-taken_by NoType = none
-taken_by Int1 = some (symbols 1)
-taken_by Int2 = some (symbols 2)
-taken_by Int4 = some (symbols 4)
-taken_by (Plain k) = some (no_words (kind_of [] k))
-taken_by TypeR = some (listed OnR)
-taken_by TypeN = some (listed OnN)
-taken_by TypeS = some (listed OnS)
-taken_by TypeX = some (listed OnX)
+abbrev pub taken_by : Option FieldType → Option Takes
+taken_by None = None
+taken_by (Some Int1) = Some (symbols 1)
+taken_by (Some Int2) = Some (symbols 2)
+taken_by (Some Int4) = Some (symbols 4)
+taken_by (Some (Plain k)) = Some (no_words (kind_of [] k))
+taken_by (Some (Listed w)) = Some (listed w)
 
 -- the rows of types of more than one letter
 abbrev pub longer : List TypeRow → List TypeRow

@@ -2,12 +2,13 @@
 // the wire, its number in a code, and the word of its type.
 #![tactic(auto)]
 
-ghost use Rattle.std.specs.Prelude.{◌+◌, ◌*◌, ◌≤◌, length, ◌≡◌, [], ◌∷◌};
-ghost use Rattle.std.proofs.Math.Seq.{slice};
+ghost use Rattle.std.specs.Prelude.{◌≡◌, [], ◌∷◌};
 ghost use Rattle.format.specs.Octets.{same_octets};
 ghost use Rattle.format.specs.Types.{type_rows, takes_of};
 ghost use Rattle.stanza_form.specs.Forms.{optional_in, shape_of, parameter_of, tail_of, form_number, held_by, form_at, taken_by, longer};
 ghost use Rattle.stanza_form.specs.Code.{field_with, field_at};
+
+use stanza_words::Words;
 
 // A form of field. The first three hold an octet: the number of octets of an integer or an EUI, or the marks C, A, L, O of a
 // name as 1, 2, 4, 8. The tails come last. In this order one comparison tells either group.
@@ -69,35 +70,30 @@ pub struct Layout {
 
 // Makes a layout.
 fn laid(shape: Shape, parameter: u8) -> Layout
-    ensures { (result.shape ≡ shape) × (result.parameter ≡ parameter) }
+    ensures shape { result.shape ≡ shape }
+    ensures parameter { result.parameter ≡ parameter }
 {
-    Layout {
-        shape: shape,
-        parameter: parameter,
-    }
+    Layout { shape, parameter }
 }
 
 // The layout of a form.
 pub fn layout_of(f: Form) -> Layout
-    ensures { (result.shape ≡ shape_of f) × (result.parameter ≡ parameter_of f) }
+    ensures shape { result.shape ≡ shape_of f }
+    ensures parameter { result.parameter ≡ parameter_of f }
 {
     match f {
-        Form::Int(w) => laid(Shape::Octets, w),
-        Form::Eui(w) => laid(Shape::Octets, w),
+        Form::Int(w) | Form::Eui(w) => laid(Shape::Octets, w),
         Form::Name(m) => laid(Shape::Labels, m),
         Form::Rrtype => laid(Shape::Octets, 2),
-        Form::Dotted => laid(Shape::Octets, 4),
+        Form::Dotted | Form::Time => laid(Shape::Octets, 4),
         Form::Aa => laid(Shape::Octets, 8),
         Form::Aaaa => laid(Shape::Octets, 16),
-        Form::Time => laid(Shape::Octets, 4),
         Form::Str => laid(Shape::Counted, 0),
         Form::Base32 => laid(Shape::Counted, 1),
         Form::Hexc => laid(Shape::Counted, 0),
         Form::Bitmap => laid(Shape::Windows, 0),
         Form::Strs => laid(Shape::Strings, 0),
-        Form::Raw => laid(Shape::Rest, 0),
-        Form::Base64 => laid(Shape::Rest, 0),
-        Form::Hex => laid(Shape::Rest, 0),
+        Form::Raw | Form::Base64 | Form::Hex => laid(Shape::Rest, 0),
     }
 }
 
@@ -106,14 +102,10 @@ pub fn is_tail(f: Form) -> bool
     ensures { result ≡ tail_of (shape_of f) (parameter_of f) }
 {
     let y = layout_of(f);
-    let k = y.shape;
-    match k {
-        Shape::Octets => false,
+    match y.shape {
+        Shape::Octets | Shape::Counted => false,
         Shape::Labels => is_optional(y.parameter),
-        Shape::Counted => false,
-        Shape::Strings => true,
-        Shape::Rest => true,
-        Shape::Windows => true,
+        Shape::Strings | Shape::Rest | Shape::Windows => true,
     }
 }
 
@@ -122,9 +114,9 @@ fn number_of(f: Form) -> u8
     ensures { result ≡ form_number f }
 {
     match f {
-        Form::Int(w) => 0,
-        Form::Eui(w) => 1,
-        Form::Name(m) => 2,
+        Form::Int(_) => 0,
+        Form::Eui(_) => 1,
+        Form::Name(_) => 2,
         Form::Rrtype => 3,
         Form::Dotted => 4,
         Form::Aa => 5,
@@ -146,22 +138,8 @@ fn held_by(f: Form) -> u8
     ensures { result ≡ held_by f }
 {
     match f {
-        Form::Int(w) => w,
-        Form::Eui(w) => w,
-        Form::Name(m) => m,
-        Form::Rrtype => 0,
-        Form::Dotted => 0,
-        Form::Aa => 0,
-        Form::Aaaa => 0,
-        Form::Time => 0,
-        Form::Str => 0,
-        Form::Base32 => 0,
-        Form::Hexc => 0,
-        Form::Bitmap => 0,
-        Form::Strs => 0,
-        Form::Raw => 0,
-        Form::Base64 => 0,
-        Form::Hex => 0,
+        Form::Int(w) | Form::Eui(w) | Form::Name(w) => w,
+        _ => 0,
     }
 }
 
@@ -194,9 +172,9 @@ fn form_at(n: u8, held: u8) -> Form
 fn together(n: u8, held: u8, at: u16, end: u16) -> u64
     ensures { field_at result ≡ field_with (form_at n held) at end }
 {
-    let form = n as u64 + (held as u64) * 256;
-    let from = (at as u64) * 65536;
-    let to = (end as u64) * 4294967296;
+    let form = u64::from(n) + u64::from(held) * 256;
+    let from = u64::from(at) * 65536;
+    let to = u64::from(end) * 4294967296;
     form + from + to
 }
 
@@ -204,9 +182,7 @@ fn together(n: u8, held: u8, at: u16, end: u16) -> u64
 pub fn code(form: Form, at: u16, end: u16) -> u64
     ensures { field_at result ≡ field_with form at end }
 {
-    let n = number_of(form);
-    let held = held_by(form);
-    together(n, held, at, end)
+    together(number_of(form), held_by(form), at, end)
 }
 
 // The field that a code stands for.
@@ -222,112 +198,84 @@ pub fn field(c: u64) -> FieldDesc
     }
 }
 
-// A field type: unknown; an integer, which takes symbols; one that takes no qualifier; or R, N, S, X.
+// A field type: an integer, which takes symbols; one that takes no qualifier; or one that takes words.
 #[derive(Clone, Copy)]
 pub enum FieldType {
-    NoType,
     Int1,
     Int2,
     Int4,
     Plain(Form),
-    TypeR,
-    TypeN,
-    TypeS,
-    TypeX,
+    Listed(Words),
 }
 
-// Whether the text from a to e is the word w.
-fn is_word(s: &[u8], a: usize, e: usize, w: &[u8]) -> bool
-    requires { (a ≤ e) × (e ≤ length s.now) }
-    ensures { result ≡ same_octets (slice a e s.now) w.now }
+// Whether a text is the word w.
+fn is_word(t: &[u8], w: &[u8]) -> bool
+    ensures { result ≡ same_octets t.now w.now }
 {
-    if e - a == w.len() {
-        let mut j = 0;
-        while j < w.len() {
-            if s[a + j] == w[j] {
-                j = j + 1;
-            } else {
-                return false;
-            }
-        }
-        return true;
-    }
-    false
+    t.len() == w.len() && t.iter().zip(w).all(|(x, y)| *x == *y)
 }
 
-// The type from a to e. Types of one letter are recognized directly.
-pub fn type_of(s: &[u8], a: usize, e: usize) -> FieldType
-    requires { (a ≤ e) × (e ≤ length s.now) }
-    ensures { taken_by result ≡ takes_of type_rows (slice a e s.now) }
+// The type with a name. Types of one letter are recognized directly.
+pub fn type_of(t: &[u8]) -> Option<FieldType>
+    ensures { taken_by result ≡ takes_of type_rows t.now }
 {
-    if e - a == 1 {
-        return letter_type(s[a]);
+    if t.len() == 1 {
+        return letter_type(t[0]);
     }
-    word_type(s, a, e)
+    word_type(t)
 }
 
 // The type of one letter.
-fn letter_type(x: u8) -> FieldType
+fn letter_type(x: u8) -> Option<FieldType>
     ensures { taken_by result ≡ takes_of type_rows (x ∷ []) }
 {
-    if x == b'N' {
-        return FieldType::TypeN;
+    match x {
+        b'R' => Some(FieldType::Listed(Words::OnR)),
+        b'N' => Some(FieldType::Listed(Words::OnN)),
+        b'S' => Some(FieldType::Listed(Words::OnS)),
+        b'X' => Some(FieldType::Listed(Words::OnX)),
+        b'A' => Some(FieldType::Plain(Form::Dotted)),
+        b'T' => Some(FieldType::Plain(Form::Time)),
+        _ => None,
     }
-    if x == b'S' {
-        return FieldType::TypeS;
-    }
-    if x == b'A' {
-        return FieldType::Plain(Form::Dotted);
-    }
-    if x == b'X' {
-        return FieldType::TypeX;
-    }
-    if x == b'R' {
-        return FieldType::TypeR;
-    }
-    if x == b'T' {
-        return FieldType::Plain(Form::Time);
-    }
-    FieldType::NoType
 }
 
-// The type from a to e, among the types of more than one letter.
-fn word_type(s: &[u8], a: usize, e: usize) -> FieldType
-    requires { (a ≤ e) × (e ≤ length s.now) }
-    ensures { taken_by result ≡ takes_of (longer type_rows) (slice a e s.now) }
+// The type with a name, among the types of more than one letter.
+fn word_type(t: &[u8]) -> Option<FieldType>
+    ensures { taken_by result ≡ takes_of (longer type_rows) t.now }
 {
-    if is_word(s, a, e, b"I1") {
-        return FieldType::Int1;
+    if is_word(t, b"I1") {
+        return Some(FieldType::Int1);
     }
-    if is_word(s, a, e, b"I2") {
-        return FieldType::Int2;
+    if is_word(t, b"I2") {
+        return Some(FieldType::Int2);
     }
-    if is_word(s, a, e, b"I4") {
-        return FieldType::Int4;
+    if is_word(t, b"I4") {
+        return Some(FieldType::Int4);
     }
-    if is_word(s, a, e, b"AA") {
-        return FieldType::Plain(Form::Aa);
+    if is_word(t, b"AA") {
+        return Some(FieldType::Plain(Form::Aa));
     }
-    if is_word(s, a, e, b"AAAA") {
-        return FieldType::Plain(Form::Aaaa);
+    if is_word(t, b"AAAA") {
+        return Some(FieldType::Plain(Form::Aaaa));
     }
-    if is_word(s, a, e, b"B32") {
-        return FieldType::Plain(Form::Base32);
+    if is_word(t, b"B32") {
+        return Some(FieldType::Plain(Form::Base32));
     }
-    if is_word(s, a, e, b"B64") {
-        return FieldType::Plain(Form::Base64);
+    if is_word(t, b"B64") {
+        return Some(FieldType::Plain(Form::Base64));
     }
-    if is_word(s, a, e, b"EUI48") {
-        return FieldType::Plain(Form::Eui(6));
+    if is_word(t, b"EUI48") {
+        return Some(FieldType::Plain(Form::Eui(6)));
     }
-    if is_word(s, a, e, b"EUI64") {
-        return FieldType::Plain(Form::Eui(8));
+    if is_word(t, b"EUI64") {
+        return Some(FieldType::Plain(Form::Eui(8)));
     }
-    if is_word(s, a, e, b"X6") {
-        return FieldType::Plain(Form::Eui(6));
+    if is_word(t, b"X6") {
+        return Some(FieldType::Plain(Form::Eui(6)));
     }
-    if is_word(s, a, e, b"X8") {
-        return FieldType::Plain(Form::Eui(8));
+    if is_word(t, b"X8") {
+        return Some(FieldType::Plain(Form::Eui(8)));
     }
-    FieldType::NoType
+    None
 }

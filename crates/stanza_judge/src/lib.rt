@@ -5,7 +5,7 @@ ghost use Rattle.std.specs.Prelude.{◌≤◌, ◌<◌, ◌≡◌, false, length
 ghost use Rattle.format.specs.Stored.{as_file};
 ghost use Rattle.stanza_judge.specs.Stanza.{end_in, Whole, Begins, begun, outline_at, OutlinedAs, Outlined};
 
-use stanza_line::Step;
+use stanza_line::{Seen, Span, Step};
 
 // A judged description: 0, or a refusal's number and line; and how many fields were described.
 #[derive(Clone, Copy)]
@@ -15,27 +15,25 @@ pub struct Outline {
     pub count: usize,
 }
 
-// After the lines, n of which were fields: the refusal so far; else 2 if there was no field, else 0.
-fn at_end(number: u8, n: usize) -> u8
-    ensures { (1 ≤ number → result ≡ number) × (number ≡ 0 → 1 ≤ n → result ≡ 0) × (number ≡ 0 → n ≡ 0 → result ≡ 2) }
+// After all lines, none of which is refused and n of which were fields: 2 if there was no field, else 0.
+fn at_end(n: usize) -> u8
+    ensures none { n ≡ 0 → result ≡ 2 }
+    ensures some { 1 ≤ n → result ≡ 0 }
 {
-    if number == 0 {
-        if n == 0 {
-            return 2;
-        }
-    }
-    number
+    if n == 0 { 2 } else { 0 }
 }
 
 // Where the line ends that begins at `at`: in a file before its LF; stored, as far on as the count before it says.
 fn end_of_line(s: &[u8], in_file: bool, at: usize) -> usize
-    requires { (at < length s.now) × (length s.now ≤ 8192) × (in_file ≡ false → Whole s.now at) }
+    requires within { at < length s.now }
+    requires short { length s.now ≤ 8192 }
+    requires whole { in_file ≡ false → Whole s.now at }
     ensures { result ≡ end_in in_file s.now at }
 {
     if in_file {
         return octets::line_end(s, at);
     }
-    at + s[at - 1] as usize
+    at + usize::from(s[at - 1])
 }
 
 // A judged description in one number.
@@ -43,7 +41,7 @@ fn packed(number: u8, line: u16, count: usize) -> u64
     requires { count ≤ 64 }
     ensures { outline_at result ≡ record { number = number; line = line; count = count } }
 {
-    (number as u64) * 4294967296 + (line as u64) * 65536 + count as u64
+    u64::from(number) * 4294967296 + u64::from(line) * 65536 + count as u64
 }
 
 // The judged description that a number stands for.
@@ -66,44 +64,36 @@ pub fn judged_lines(
     before: u16,
     codes: &mut [u64; 64],
 ) -> u64
-    requires { (length codes.old ≡ 64) × Begins in_file s.now first before }
+    requires room { length codes.old ≡ 64 }
+    requires begins { Begins in_file s.now first before }
     ensures { OutlinedAs (begun in_file s.now first before) s.now codes.new (outline_at result) }
 {
-    let mut names = [0u16; 64];
-    let mut ends = [0u16; 64];
+    let mut names = [Span { at: 0, end: 0 }; 64];
     let mut n = 0;
-    let mut header_seen = false;
-    let mut tail_seen = false;
-    let mut number: u8 = 0;
-    let mut place: u16 = 0;
+    let mut seen = Seen::Nothing;
     let mut at = first;
     let mut line = before;
     while at < s.len() {
-        line = line + 1;
+        line += 1;
         let e = end_of_line(s, in_file, at);
-        let r = stanza_line::line_step(s, in_file, at, e, header_seen, tail_seen, &names, &ends, n);
+        let r = stanza_line::line_step(s, in_file, at, e, seen, &names[..n]);
         at = e + 1;
         match r {
-            Step::Skip => {}
-            Step::Refuse(k) => {
-                number = k;
-                place = line;
-                // no line after it is judged
-                at = s.len();
-            }
-            Step::Head(_) => header_seen = true,
-            Step::Add(x) => {
-                let f = x.field;
-                let form = f.form;
-                codes[n] = stanza_form::code(form, f.qualifiers_at, f.qualifiers_end);
-                names[n] = x.name_at;
-                ends[n] = x.name_end;
-                tail_seen = stanza_line::tail_after(tail_seen, form);
-                n = n + 1;
-            }
+            Err(refusal) => return packed(refusal.number(), line, n),
+            Ok(step) => match step {
+                Step::Skip => {}
+                Step::Head(_) => seen = Seen::Header,
+                Step::Add(x) => {
+                    let f = x.field;
+                    codes[n] = stanza_form::code(f.form, f.qualifiers_at, f.qualifiers_end);
+                    names[n] = x.name;
+                    seen = Seen::after(f.form);
+                    n += 1;
+                }
+            },
         }
     }
-    packed(at_end(number, n), place, n)
+    packed(at_end(n), 0, n)
 }
 
 // Judges a stanza, and stores the codes of its fields in the caller's array.

@@ -1,12 +1,13 @@
 -- Counted strings one after another, whether one is cut short, and the tag.
 use Prim.Native.Nat.compare
 use Prim.Native.Nat.{ℕ, zero, suc, ◌+◌, ◌-◌, ◌≤◌, ◌<◌}
-use mathlib.Core.Path.{◌≡◌, refl, sym, ap, ◌∙◌, subst}
+use mathlib.Core.Path.{◌≡◌, refl, sym, ap, ◌∙◌}
 use mathlib.Core.Bool.{true, false}
 use mathlib.Core.List.{List, [], ◌∷◌}
 use native.Mathlib.Omega.{arith}
 use lib.ListN.{length, get_or, take, drop, length-drop, take-append-drop, drop_of_length-le}
 use lib.Seq.{slice, drop-drop}
+use Rattle.std.proofs.lemmas.List.{drop-take}
 use lib.Seq.{length-take-le}
 use borrow.Author.Tests.{eq-eqb, ne_eqb, le-leb, lt-leb}
 use Rattle.format.specs.Lists.{flat_map, cons_first}
@@ -19,7 +20,9 @@ use Rattle.format.specs.Stored.{whole_strings, tag, tagged, stored_lines, or_rej
 use Rattle.format.proofs.Lists.{drop_next}
 use Rattle.stanza_judge.specs.Stanza.{lines_in, Begins, begun}
 use Rattle.stanza_judge.proofs.Walk.{NextLine, next_of}
-use Rattle.stanza_stored.specs.Stored.{Checked}
+use Rattle.stanza_stored.specs.declared.Fault.{Fault}
+use Rattle.stanza_stored.specs.declared.Fault.TheVariants.{TooLong, Edition, Cut, NoTag}
+use Rattle.stanza_stored.specs.Stored.{fault_number, AllWhole, CutShort}
 
 -- all are taken, or all after the first octet
 one_octet : (v : Taken) (x : ℕ) (xs : List ℕ) → takes_all (one_more v) (x ∷ xs) ≡ takes_all v xs
@@ -121,22 +124,19 @@ module _ {s : List ℕ} {i n : ℕ} (p : Passed s i n) where
         after : drop (get_or s i 0) (drop (i + 1) s) ≡ drop (i + 1 + get_or s i 0) s
         after = drop-drop (get_or s i 0) (i + 1) s
 
-    pub is_cut : length s - i ≤ get_or s i 0 → Checked s n
+    pub is_cut : length s - i ≤ get_or s i 0 → CutShort s n
     is_cut k = record {
-      all_whole = λ e. absurd (omega (arith, p.from_one));
-      cut = λ e. (
-        sym p.whole ∙ ap whole_strings there ∙ string_cut (get_or s i 0) (drop (i + 1) s) (omega (arith, left)),
-        omega (arith, p.many, ap (λ t. length (pieces t)) there, one_only (get_or s i 0) (drop (i + 1) s) (omega (arith, left))),
-      );
+      cut = sym p.whole ∙ ap whole_strings there ∙ string_cut (get_or s i 0) (drop (i + 1) s) (omega (arith, left));
+      last = omega (arith, p.many, ap (λ t. length (pieces t)) there, one_only (get_or s i 0) (drop (i + 1) s) (omega (arith, left)));
     }
 
   -- no more
-  pub none_cut : length s ≤ i → Checked s 0
+  pub none_cut : length s ≤ i → AllWhole s
   unfolding taken
   none_cut h =
       let z : drop i s ≡ [] = drop_of_length-le s h in
       let (ss, e) = p.strings [] z in
-      record { all_whole = λ q. (sym p.whole ∙ ap whole_strings z, record { after_count = omega arith; strings = ss; counted = e }); cut = λ q. absurd (omega arith) }
+      record { whole = sym p.whole ∙ ap whole_strings z; strings = record { after_count = omega arith; strings = ss; counted = e } }
 
 -- what the tag and the lines after it say
 abbrev after_strings : List Part → Judged
@@ -151,14 +151,21 @@ pub other_edition : (edition : ℕ) (s : List ℕ) → length s ≤ 8192 → (ed
 unfolding judged_stored
 other_edition edition s l h = rw (le-leb (length s) 8192 l, ne_eqb edition 13 h)
 
--- 0 is the number of no string
-pub none_checked : {s : List ℕ} {r : ℕ} → Checked s r → r ≤ 0 → Checked s 0
-none_checked {s} {r} c h = let z : r ≡ 0 = omega arith in subst (Checked s) z c
+-- the first string, as it is lent
+pub first_lent : (s : List ℕ) (k : ℕ) → take (1 + k - 1) (drop 1 s) ≡ slice 1 (1 + k) s
+first_lent s k = let q : 1 + k - 1 ≡ k = omega arith in rw q (sym (drop-take 1 k s))
+
+-- a fault's number is not 0
+pub fault_some : (f : Fault) → 1 ≤ fault_number f
+fault_some TooLong = omega arith
+fault_some Edition = omega arith
+fault_some (Cut k) = omega arith
+fault_some NoTag = omega arith
 
 -- the first string, and where the lines after it begin
-module _ (s : List ℕ) (c : Checked s 0) (h : 2 ≤ length s) where
+module _ (s : List ℕ) (c : AllWhole s) (h : 2 ≤ length s) where
   first : NextLine false s 1
-  first = next_of false s 1 (λ q. (c.all_whole refl).1) (omega arith)
+  first = next_of false s 1 (λ q. c.strings) (omega arith)
 
   pub tag_within : 1 + get_or s 0 0 ≤ length s
   tag_within = first.within
@@ -168,15 +175,15 @@ module _ (s : List ℕ) (c : Checked s 0) (h : 2 ≤ length s) where
 
 -- a string is cut short, or the tag is wrong or missing
 module _ (edition : ℕ) (s : List ℕ) (l : length s ≤ 8192) (d : edition ≡ 13) where
-  pub stored_cut : (r : ℕ) → Checked s r → 1 ≤ r → rejected 8 r ≡ judged_stored edition s
+  pub stored_cut : (r : ℕ) → CutShort s r → rejected 8 r ≡ judged_stored edition s
   unfolding judged_stored
-  stored_cut r c h = let (w, q) = c.cut h in rw (le-leb (length s) 8192 l, eq-eqb edition 13 d, w, q)
+  stored_cut r c = rw (le-leb (length s) 8192 l, eq-eqb edition 13 d, c.cut, c.last)
 
-  stored_whole : Checked s 0 → judged_stored edition s ≡ after_strings (lines_in false s 1)
+  stored_whole : AllWhole s → judged_stored edition s ≡ after_strings (lines_in false s 1)
   unfolding judged_stored
-  stored_whole c = rw (le-leb (length s) 8192 l, eq-eqb edition 13 d, (c.all_whole refl).0)
+  stored_whole c = rw (le-leb (length s) 8192 l, eq-eqb edition 13 d, c.whole)
 
-  pub stored_short : Checked s 0 → length s < 2 → rejected 14 1 ≡ judged_stored edition s
+  pub stored_short : AllWhole s → length s < 2 → rejected 14 1 ≡ judged_stored edition s
   stored_short c h = sym (stored_whole c ∙ by s refl h)
     where
       by : (t : List ℕ) → s ≡ t → length s < 2 → after_strings (lines_in false s 1) ≡ rejected 14 1
@@ -184,7 +191,7 @@ module _ (edition : ℕ) (s : List ℕ) (l : length s ≤ 8192) (d : edition ≡
       by (x ∷ []) q k = rw q
       by (x ∷ y ∷ t) q k = absurd (omega (arith, ap length q))
 
-  module _ (c : Checked s 0) (h : 2 ≤ length s) where
+  module _ (c : AllWhole s) (h : 2 ≤ length s) where
     stored_tag : judged_stored edition s ≡ or_rejected 14 1 (same_octets (slice 1 (1 + get_or s 0 0) s) tag) (stored_lines 2 (lines_in false s (1 + get_or s 0 0 + 1)))
     stored_tag = stored_whole c ∙ ap after_strings (first s c h).first
 

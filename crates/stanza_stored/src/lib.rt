@@ -2,23 +2,43 @@
 #![tactic(auto)]
 
 ghost use Rattle.std.specs.Prelude.{◌≤◌, ◌≡◌, length};
-ghost use Rattle.std.proofs.Math.Seq.{slice};
 ghost use Rattle.format.specs.Octets.{same_octets};
 ghost use Rattle.format.specs.Stored.{tag, as_stored};
 ghost use Rattle.stanza_judge.specs.Stanza.{Outlined};
-ghost use Rattle.stanza_stored.specs.Stored.{Checked, Starts, lent_as};
+ghost use Rattle.stanza_stored.specs.Stored.{fault_number, fault_place, Checked, Starts, lent_as};
 
 use stanza_judge::Outline;
 
-// What is known before any line is judged: a refusal's number and place, or where the first line begins.
+// Why no line is judged: the whole is too long, the edition is another, a string is cut short (its number), or the tag is missing.
 #[derive(Clone, Copy)]
-enum Start {
-    Refused(u8, u16),
-    Lines(usize),
+enum Fault {
+    TooLong,
+    Edition,
+    Cut(u16),
+    NoTag,
 }
 
-// The number of the string that is cut short, which is the last; 0 if none is.
-fn cut_string(s: &[u8]) -> u16
+impl Fault {
+    // The refusal: its number, and the number of the string at fault.
+    fn outline(self) -> Outline
+        ensures { result ≡ record { number = fault_number self; line = fault_place self; count = 0 } }
+    {
+        let (number, line) = match self {
+            Fault::TooLong => (1, 0),
+            Fault::Edition => (16, 0),
+            Fault::Cut(k) => (8, k),
+            Fault::NoTag => (14, 1),
+        };
+        Outline {
+            number,
+            line,
+            count: 0,
+        }
+    }
+}
+
+// The number of the string that is cut short, which is the last.
+fn cut_string(s: &[u8]) -> Option<u16>
     requires { length s.now ≤ 8192 }
     ensures { Checked s.now result }
 {
@@ -26,46 +46,45 @@ fn cut_string(s: &[u8]) -> u16
     // the number of the string whose count is at i
     let mut n: u16 = 1;
     while i < s.len() {
-        let k = s[i] as usize;
+        let k = usize::from(s[i]);
         if s.len() - i <= k {
-            return n;
+            return Some(n);
         }
-        i = i + 1 + k;
-        n = n + 1;
+        i += 1 + k;
+        n += 1;
     }
-    0
+    None
 }
 
-// Whether the string from a to e is the tag.
-fn is_tag(s: &[u8], a: usize, e: usize) -> bool
-    requires { (a ≤ e) × (e ≤ length s.now) }
-    ensures { result ≡ same_octets (slice a e s.now) tag }
+// Whether a string is the tag.
+fn is_tag(t: &[u8]) -> bool
+    ensures { result ≡ same_octets t.now tag }
 {
-    stanza_words::same(false, s, a, e, b"RRTYPE=1", 0, 8)
+    stanza_words::same(false, t, b"RRTYPE=1")
 }
 
-// Looks at what comes before the lines: the length of the whole, the edition, that no string is cut short, and the tag.
-fn start_of(s: &[u8], edition: usize) -> Start
+// Looks at what comes before the lines: the length of the whole, the edition, that no string is cut short, and the tag. Answers
+// where the first line begins.
+fn start_of(s: &[u8], edition: usize) -> Result<usize, Fault>
     ensures { Starts edition s.now result }
 {
     if 8192 < s.len() {
-        return Start::Refused(1, 0);
+        return Err(Fault::TooLong);
     }
     if edition != 13 {
-        return Start::Refused(16, 0);
+        return Err(Fault::Edition);
     }
-    let k = cut_string(s);
-    if 0 < k {
-        return Start::Refused(8, k);
+    if let Some(k) = cut_string(s) {
+        return Err(Fault::Cut(k));
     }
     if s.len() < 2 {
-        return Start::Refused(14, 1);
+        return Err(Fault::NoTag);
     }
-    let e = 1 + s[0] as usize;
-    if is_tag(s, 1, e) {
-        return Start::Lines(e + 1);
+    let e = 1 + usize::from(s[0]);
+    if is_tag(&s[1..e]) {
+        return Ok(e + 1);
     }
-    Start::Refused(14, 1)
+    Err(Fault::NoTag)
 }
 
 // Judges a stored description of an edition, and stores the codes of its fields in the caller's array.
@@ -73,18 +92,10 @@ pub fn judged_stored(s: &[u8], edition: usize, codes: &mut [u64; 64]) -> Outline
     requires { length codes.old ≡ 64 }
     ensures { Outlined (as_stored edition s.now) s.now codes.new result }
 {
-    let start = start_of(s, edition);
-    match start {
-        Start::Refused(number, place) => Outline {
-            number: number,
-            line: place,
-            count: 0,
-        },
+    match start_of(s, edition) {
+        Err(fault) => fault.outline(),
         // the tag is string 1
-        Start::Lines(at) => {
-            let r = stanza_judge::judged_lines(s, false, at, 1, codes);
-            stanza_judge::unpacked(r)
-        }
+        Ok(at) => stanza_judge::unpacked(stanza_judge::judged_lines(s, false, at, 1, codes)),
     }
 }
 

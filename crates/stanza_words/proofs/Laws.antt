@@ -4,27 +4,29 @@ use Prim.Native.Char.{code}
 use mathlib.Core.Path.{◌≡◌, refl, sym, ap, ◌∙◌}
 use mathlib.Core.Bool.{Bool, true, false, not, cond, ◌&&◌, ◌||◌, and-false}
 use mathlib.Core.List.{List, [], ◌∷◌, map}
-use mathlib.Core.Option.{none, some}
+use Rattle.std.specs.Prelude.{None, Some}
 use native.Mathlib.Omega.{arith}
-use lib.ListN.{length, get_or}
-use lib.Seq.{slice, length-slice}
-use lib.Dec.{eqb, leb, ltb}
-use borrow.Author.Tests.{eq-eqb, ne_eqb, eqb-true, lt-leb, le-leb, ltb-true, ltb-false}
+use native.Mathlib.Numerals.{add-one}
+use lib.ListN.{length, get_or, take, drop, drop_of_length-le}
+use lib.Seq.{slice, length-slice, drop-cons}
+use lib.Dec.{eqb, leb}
+use borrow.Author.Tests.{eq-eqb, ne_eqb}
 use Rattle.format.specs.Lists.{◌>>=◌, provided, any_of, all_of, Spanned, spanning, span}
-use Rattle.format.specs.Octets.{letter, digit, name_octet, lowered, same_octets}
+use Rattle.format.specs.Octets.{name_octet, lowered, same_octets}
 use Rattle.format.specs.Number.{decimal_of}
 use Rattle.format.specs.Field.{Part}
 use Rattle.format.specs.Lines.{placed}
 use Rattle.format.specs.Grammar.{word, symbol, starts_with_letter, is_name, if_qualifier, qualifier}
 use Rattle.format.specs.Types.{known_word, has_word}
 use Rattle.octets.specs.Octets.{part_in, front_end}
-use Rattle.octets.proofs.Slices.{next, none as nothing, front_on, front_end_lem, front_rest, front_within, span_front, part}
+use Rattle.octets.proofs.Slices.{next, none as nothing, front_rest, front_within, span_front, part, lent}
+use Rattle.std.specs.List.{list_all, zip}
 use Rattle.octets.proofs.Lines.{cut_rest, cut_first}
-use Rattle.stanza_words.specs.Qualifiers.{pieces_in, words_for, holds_of, any_in, same_by, name_in, twice_in}
+use Rattle.stanza_words.specs.Qualifiers.{pieces_in, words_for, holds_of, same_by, name_in, twice_in}
 use Rattle.stanza_words.specs.declared.Test.{Test}
 use Rattle.stanza_words.specs.declared.Test.TheVariants.{Malformed, Unknown, NotSymbol, NotWord, IsWord}
 use Rattle.stanza_words.specs.declared.Words.{Words}
-use Rattle.stanza_words.specs.declared.Words.TheVariants.{Nothing, OnR, OnN, OnS, OnX}
+use Rattle.stanza_words.specs.declared.Words.TheVariants.{OnR, OnN, OnS, OnX}
 
 -- the longest front that passes is the part up to its end
 module _ (f : ℕ → Bool) where
@@ -64,39 +66,54 @@ same_length g (x ∷ xs) (y ∷ ys) h =
     by true e = e
     by false e = refl
 
--- the first octets of two texts, and their rests; r says whether those are the same
-module _ (g : Bool) (s t : List ℕ) (i e j f : ℕ) (h : i < e) (l : e ≤ length s) (k : j < f) (m : f ≤ length t)
-    (r : Bool) (p : r ≡ eqb (cond g (lowered (get_or s i 0)) (get_or s i 0)) (cond g (lowered (get_or t j 0)) (get_or t j 0))) where
-  same_one : same_by g (slice i e s) (slice j f t) ≡ r && same_by g (slice (i + 1) e s) (slice (j + 1) f t)
-  same_one = rw (next s i e h l, next t j f k m, p) (same_next g (get_or s i 0) (get_or t j 0) (slice (i + 1) e s) (slice (j + 1) f t))
+-- the octets that a chain over both texts sees
+abbrev pub folded : Bool → ℕ → ℕ
+folded g x = cond g (lowered x) x
 
-  pub same_on : r ≡ true → same_by g (slice (i + 1) e s) (slice (j + 1) f t) ≡ same_by g (slice i e s) (slice j f t)
-  same_on q = rw (same_one, q)
+pub zipped : (g : Bool) (xs ys : List ℕ) → length xs ≡ length ys → list_all (λ (p : ℕ × ℕ). eqb (folded g p.0) (folded g p.1)) (zip xs ys) ≡ same_by g xs ys
+zipped g [] [] h = sym (same_none g)
+zipped g [] (y ∷ ys) h = absurd (omega arith)
+zipped g (x ∷ xs) [] h = absurd (omega arith)
+zipped g (x ∷ xs) (y ∷ ys) h = rw (same_next g x y xs ys, zipped g xs ys (omega arith))
 
-  pub same_more : (ok q : Bool) → q ≡ ok && r → q && same_by g (slice (i + 1) e s) (slice (j + 1) f t) ≡ ok && same_by g (slice i e s) (slice j f t)
-  same_more true q d = rw (same_one, d)
-  same_more false q d = rw d
+-- the rests of two texts after n octets: one octet more; r says whether those are the same
+pub same_more : (g : Bool) (s t : List ℕ) (n : ℕ) → n < length s → n < length t → (r ok : Bool) → r ≡ eqb (folded g (get_or s n 0)) (folded g (get_or t n 0))
+    → (ok && r) && same_by g (drop (n + 1) s) (drop (n + 1) t) ≡ ok && same_by g (drop n s) (drop n t)
+same_more g s t n h k r ok e =
+    rw (add-one, drop-cons s n 0 h, drop-cons t n 0 k, same_next g (get_or s n 0) (get_or t n 0) (drop (suc n) s) (drop (suc n) t), ← e) (by ok r)
+  where
+    by : (ok r : Bool) → (ok && r) && same_by g (drop (suc n) s) (drop (suc n) t) ≡ ok && (r && same_by g (drop (suc n) s) (drop (suc n) t))
+    by true r = refl
+    by false r = refl
 
-  pub same_off : r ≡ false → false ≡ same_by g (slice i e s) (slice j f t)
-  same_off q = rw (same_one, q)
+pub same_done : (g : Bool) (s t : List ℕ) (n : ℕ) (ok : Bool) → length s ≤ n → length t ≤ n → ok && same_by g (drop n s) (drop n t) ≡ ok
+same_done g s t n ok h k = rw (drop_of_length-le s h, drop_of_length-le t k, same_none g) (by ok)
+  where
+    by : (ok : Bool) → ok && true ≡ ok
+    by true = refl
+    by false = refl
 
-pub same_end : (g : Bool) (s t : List ℕ) (i e j f : ℕ) → e ≤ i → f ≤ j → true ≡ same_by g (slice i e s) (slice j f t)
-same_end g s t i e j f h k = rw (nothing s i e h, nothing t j f k, same_none g)
-
-pub same_done : (g : Bool) (s t : List ℕ) (i e j f : ℕ) (ok : Bool) → e ≤ i → f ≤ j → ok ≡ ok && same_by g (slice i e s) (slice j f t)
-same_done g s t i e j f true h k = same_end g s t i e j f h k
-same_done g s t i e j f false h k = refl
+pub unequal : (g : Bool) (xs ys : List ℕ) → (length xs ≡ length ys → ⊥) → eqb (length xs) (length ys) ≡ same_by g xs ys
+unequal g xs ys h = ne_eqb (length xs) (length ys) h ∙ sym (same_length g xs ys h)
 
 pub same_lengths : (g : Bool) (s t : List ℕ) (a e b f : ℕ) → e ≤ length s → f ≤ length t → (e - a ≡ f - b → ⊥) → false ≡ same_by g (slice a e s) (slice b f t)
 same_lengths g s t a e b f l m h =
     sym (same_length g (slice a e s) (slice b f t) (λ q. h (omega (arith, length-slice a e s l, length-slice b f t m))))
+
+-- a run of octets of a part that is lent: where it ends, and that its end lies in the part
+module _ (f : ℕ → Bool) (s : List ℕ) (i e r : ℕ) (h : i ≤ e) (q : r ≡ length (span f (take (e - i) (drop i s))).front) where
+  pub run_end : i + r ≡ front_end f s i e
+  run_end = ap (λ k. i + k) (q ∙ ap (λ t. length (span f t).front) (lent s i e h))
+
+  pub run_within : e ≤ length s → i + r ≤ e
+  run_within l = omega (arith, run_end, front_within f s i e h l)
 
 -- the qualifier of a part that begins with a name, and of a part that does not
 abbrev pub begins : List ℕ → Bool
 begins t = starts_with_letter t && leb (length t) 63
 
 module _ (a : ℕ) where
-  cut : (b : Bool) (w : Spanned) → (provided b w >>= if_qualifier a) ≡ cond b (if_qualifier a w) none
+  cut : (b : Bool) (w : Spanned) → (provided b w >>= if_qualifier a) ≡ cond b (if_qualifier a w) None
   cut true w = refl
   cut false w = refl
 
@@ -105,54 +122,39 @@ passed true c = refl
 passed false c = refl
 
 module _ (s : List ℕ) (a z n : ℕ) (h : a ≤ z) (l : z ≤ length s) (q : n ≡ front_end name_octet s a z) where
-  pub front_in : (a ≤ n) × (n ≤ z)
-  front_in = (omega arith, omega (arith, front_within name_octet s a z h l))
-
   pub is_name_lem : is_name (slice a n s) ≡ begins (slice a n s)
   is_name_lem = rw (q, all_passes name_octet s a z h l) (passed (starts_with_letter (slice a (front_end name_octet s a z) s)) _)
 
   spanned : span name_octet (slice a z s) ≡ record { front = slice a n s; rest = slice n z s }
   spanned = rw (q, front_rest name_octet s a z, ← front name_octet s a z h l)
 
-  pub named : qualifier (part_in s a z) ≡ cond (begins (slice a n s)) (if_qualifier a (record { front = slice a n s; rest = slice n z s })) none
+  pub named : qualifier (part_in s a z) ≡ cond (begins (slice a n s)) (if_qualifier a (record { front = slice a n s; rest = slice n z s })) None
   named =
       ap (λ w. provided (is_name w.front) w >>= if_qualifier a) spanned ∙ cut a (is_name (slice a n s)) (record { front = slice a n s; rest = slice n z s })
-      ∙ ap (λ b. cond b (if_qualifier a (record { front = slice a n s; rest = slice n z s })) none) is_name_lem
+      ∙ ap (λ b. cond b (if_qualifier a (record { front = slice a n s; rest = slice n z s })) None) is_name_lem
 
-  pub found_bad : begins (slice a n s) ≡ false → none ≡ qualifier (part_in s a z)
+  pub found_bad : begins (slice a n s) ≡ false → None ≡ qualifier (part_in s a z)
   found_bad b = rw (named, b)
 
   module _ (b : begins (slice a n s) ≡ true) where
-    pub found_word : n ≡ z → some (word (slice a z s)) ≡ qualifier (part_in s a z)
+    pub found_word : n ≡ z → Some (word (slice a z s)) ≡ qualifier (part_in s a z)
     found_word e = rw (named, b, nothing s n z (omega arith), e)
 
-    after_name : n < z → qualifier (part_in s a z) ≡ (provided (eqb (get_or s n 0) 61) (slice (n + 1) z s) >>= λ ds. decimal_of ds >>= λ v. some (symbol (record { spelling = part_in s a n; value = v })))
+    after_name : n < z → qualifier (part_in s a z) ≡ (provided (eqb (get_or s n 0) 61) (slice (n + 1) z s) >>= λ ds. decimal_of ds >>= λ v. Some (symbol (record { spelling = part_in s a n; value = v })))
     after_name e = rw (named, b, next s n z e l)
 
-    pub found_other : n < z → (get_or s n 0 ≡ 61 → ⊥) → none ≡ qualifier (part_in s a z)
+    pub found_other : n < z → (get_or s n 0 ≡ 61 → ⊥) → None ≡ qualifier (part_in s a z)
     found_other e o = rw (after_name e, ne_eqb (get_or s n 0) 61 o)
 
-    pub found_fault : n < z → get_or s n 0 ≡ 61 → decimal_of (slice (n + 1) z s) ≡ none → none ≡ qualifier (part_in s a z)
+    pub found_fault : n < z → get_or s n 0 ≡ 61 → decimal_of (slice (n + 1) z s) ≡ None → None ≡ qualifier (part_in s a z)
     found_fault e o d = rw (after_name e, eq-eqb (get_or s n 0) 61 o, d)
 
-    pub found_number : (v : ℕ) → n < z → get_or s n 0 ≡ 61 → decimal_of (slice (n + 1) z s) ≡ some v → some (symbol (record { spelling = part_in s a n; value = v })) ≡ qualifier (part_in s a z)
+    pub found_number : (v : ℕ) → n < z → get_or s n 0 ≡ 61 → decimal_of (slice (n + 1) z s) ≡ Some v → Some (symbol (record { spelling = part_in s a n; value = v })) ≡ qualifier (part_in s a z)
     found_number v e o d = rw (after_name e, eq-eqb (get_or s n 0) 61 o, d)
 
--- whether a part begins like a name, by its first octet and its length
-pub begins_next : (s : List ℕ) (a e : ℕ) → a < e → e ≤ length s → begins (slice a e s) ≡ letter (get_or s a 0) && leb (e - a) 63
-begins_next s a e h l = ap (λ n. starts_with_letter (slice a e s) && leb n 63) (length-slice a e s l) ∙ rw (next s a e h l)
-
--- tests, as the code computes them
-pub last_word : (b : Bool) → b ≡ b && true || false
-last_word true = refl
-last_word false = refl
-
-pub leb_ltb : (a b : ℕ) → leb a b ≡ not (ltb b a)
-leb_ltb a b = by (ltb b a) refl
-  where
-    by : (t : Bool) → ltb b a ≡ t → leb a b ≡ not t
-    by true e = lt-leb a b (ltb-true b a e)
-    by false e = le-leb a b (ltb-false b a e)
+-- whether a part that is lent begins like a name
+pub begins_lent : (s : List ℕ) (a n : ℕ) (r t : Bool) → a ≤ n → r ≡ begins (take (n - a) (drop a s)) → r ≡ t → begins (slice a n s) ≡ t
+begins_lent s a n r t h e k = sym (e ∙ ap begins (lent s a n h)) ∙ k
 
 -- words: no type takes a word that is not one letter
 pub letter_word : (s : List ℕ) (a z : ℕ) → a ≤ z → z ≤ length s → z - a ≡ 1 → slice a z s ≡ get_or s a 0 ∷ []
@@ -167,7 +169,6 @@ long_known : (w : List ℕ) → (length w ≡ 1 → ⊥) → known_word w ≡ fa
 long_known w h = rw (long w (code "L") h, long w (code "C") h, long w (code "A") h, long w (code "O") h, long w (code "M") h, long w (code "X") h)
 
 long_taken : (t : Words) (w : List ℕ) → (length w ≡ 1 → ⊥) → has_word (words_for t) w ≡ false
-long_taken Nothing w h = refl
 long_taken OnR w h = rw (long w (code "L") h)
 long_taken OnN w h = rw (long w (code "C") h, long w (code "A") h, long w (code "L") h, long w (code "O") h)
 long_taken OnS w h = rw (long w (code "M") h, long w (code "X") h)
@@ -176,7 +177,7 @@ long_taken OnX w h = rw (long w (code "C") h)
 pub none_taken : (t : Words) → has_word (words_for t) [] ≡ false
 none_taken t = long_taken t [] (λ e. omega arith)
 
-pub long_word : (t : Test) (w : List ℕ) → (length w ≡ 1 → ⊥) → holds_of t (some (word [])) ≡ holds_of t (some (word w))
+pub long_word : (t : Test) (w : List ℕ) → (length w ≡ 1 → ⊥) → holds_of t (Some (word [])) ≡ holds_of t (Some (word w))
 long_word Malformed w h = refl
 long_word Unknown w h = rw (long_known w h)
 long_word (NotSymbol limit) w h = refl
@@ -186,7 +187,7 @@ long_word (IsWord x) (y ∷ []) h = absurd (h refl)
 long_word (IsWord x) (y ∷ z ∷ w) h = simp and-false
 
 -- of a symbol, a test looks at the number only
-pub any_symbol : (t : Test) (p q : Part) (v : ℕ) → holds_of t (some (symbol (record { spelling = p; value = v }))) ≡ holds_of t (some (symbol (record { spelling = q; value = v })))
+pub any_symbol : (t : Test) (p q : Part) (v : ℕ) → holds_of t (Some (symbol (record { spelling = p; value = v }))) ≡ holds_of t (Some (symbol (record { spelling = q; value = v })))
 any_symbol Malformed p q v = refl
 any_symbol Unknown p q v = refl
 any_symbol (NotSymbol limit) p q v = refl
@@ -246,30 +247,3 @@ module _ (s : List ℕ) (i b z : ℕ) (h : i ≤ b) (l : b ≤ length s) (q : z 
 
   pub twice_last : (g : Bool) → z ≡ b → false ≡ twice_in g s i b
   twice_last g m = rw (last_piece m)
-
--- one letter between a and b is one qualifier, a word
-no_comma : (x : ℕ) → letter x ≡ true → eqb x (code ",") ≡ false
-no_comma x h = by (eqb x (code ",")) refl
-  where
-    by : (t : Bool) → eqb x (code ",") ≡ t → t ≡ false
-    by true e = let q : x ≡ code "," = eqb-true x (code ",") e in sym (rw q at h)
-    by false e = refl
-
-or_first : (u v : Bool) → u ≡ true → u || v ≡ true
-or_first u v h = rw h
-
-module _ (s : List ℕ) (a b : ℕ) (h : a ≤ b) (l : b ≤ length s) (q : b - a ≡ 1) (e : letter (get_or s a 0) ≡ true) where
-  one_front : (f : ℕ → Bool) → f (get_or s a 0) ≡ true → b ≡ front_end f s a b
-  one_front f t = let z : b ≡ a + 1 = omega arith in z ∙ front_end_lem f s (a + 1) b (omega arith) ∙ front_on f s a b (omega arith) l t
-
-  pub any_letter : (t : Test) → holds_of t (some (word (get_or s a 0 ∷ []))) ≡ any_in t s a b
-  any_letter t =
-      let n : b ≡ front_end name_octet s a b = one_front name_octet (or_first (letter (get_or s a 0) || digit (get_or s a 0)) (eqb (get_or s a 0) (code "-")) (or_first (letter (get_or s a 0)) (digit (get_or s a 0)) e)) in
-      let c : b ≡ front_end not_comma s a b = one_front not_comma (ap not (no_comma (get_or s a 0) e)) in
-      let g : begins (slice a b s) ≡ true = begins_next s a b (omega arith) l ∙ rw (e, q) in
-      ap (λ v. holds_of t (some (word v))) (sym (letter_word s a b h l q)) ∙ ap (holds_of t) (found_word s a b b h l n g refl) ∙ last (holds_of t (qualifier (part_in s a b)))
-      ∙ ap (any_of (λ p. holds_of t (qualifier p))) (sym (last_piece s a b b h l c refl))
-    where
-      last : (v : Bool) → v ≡ v || false
-      last true = refl
-      last false = refl

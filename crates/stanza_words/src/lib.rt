@@ -1,19 +1,18 @@
 // The qualifiers of a field line: their grammar, and the tests made of them.
 #![tactic(auto)]
 
-ghost use Rattle.std.specs.Prelude.{◌-◌, ◌≤◌, length, leb, eqb, ◌≡◌, ◌&&◌, cond, [], ◌∷◌};
-ghost use Rattle.std.proofs.Math.Seq.{slice};
-ghost use Rattle.std.proofs.Math.Option.{none, some};
+ghost use Rattle.std.specs.Prelude.{◌≤◌, length, leb, eqb, ◌≡◌, ◌&&◌, cond, [], ◌∷◌, None, Some};
 ghost use Rattle.format.specs.Octets.{lowered};
 ghost use Rattle.format.specs.Grammar.{word, symbol, starts_with_letter, qualifier};
 ghost use Rattle.format.specs.Types.{known_word, has_word};
 ghost use Rattle.octets.specs.Octets.{part_in};
 ghost use Rattle.stanza_words.specs.Qualifiers.{found_in, words_for, holds_of, any_in, same_by};
 
-// What a qualifier is by the grammar: none; a word; or a symbol, with the end of its name and its number.
+use octets::Class;
+
+// What a qualifier is by the grammar: a word; or a symbol, with the end of its name and its number.
 #[derive(Clone, Copy)]
-pub enum Found {
-    Bad,
+pub enum Qualifier {
     Word,
     Numbered(usize, u64),
 }
@@ -21,7 +20,6 @@ pub enum Found {
 // The words that a type takes; see specs/Qualifiers.antt.
 #[derive(Clone, Copy)]
 pub enum Words {
-    Nothing,
     OnR,
     OnN,
     OnS,
@@ -42,10 +40,7 @@ pub enum Test {
 pub fn fold(ignoring: bool, b: u8) -> u8
     ensures { result ≡ cond ignoring (lowered b) b }
 {
-    if ignoring {
-        return octets::lower(b);
-    }
-    b
+    if ignoring { octets::lower(b) } else { b }
 }
 
 // Whether two octets are the same, in lower case if `ignoring`.
@@ -55,254 +50,172 @@ fn same_octet(ignoring: bool, x: u8, y: u8) -> bool
     fold(ignoring, x) == fold(ignoring, y)
 }
 
-// Whether the text of s from a to e is the text of t from b to f; if `ignoring`, the case of letters does not count.
-pub fn same(ignoring: bool, s: &[u8], a: usize, e: usize, t: &[u8], b: usize, f: usize) -> bool
-    requires { (a ≤ e) × (e ≤ length s.now) × (b ≤ f) × (f ≤ length t.now) }
-    ensures { result ≡ same_by ignoring (slice a e s.now) (slice b f t.now) }
+// Whether two texts are the same; if `ignoring`, the case of letters does not count.
+pub fn same(ignoring: bool, s: &[u8], t: &[u8]) -> bool
+    ensures { result ≡ same_by ignoring s.now t.now }
 {
-    if e - a != f - b {
-        return false;
-    }
-    let mut i = a;
-    let mut j = b;
-    while i < e {
-        if same_octet(ignoring, s[i], t[j]) {
-            i = i + 1;
-            j = j + 1;
-        } else {
-            return false;
-        }
-    }
-    true
-}
-
-// Whether both are true.
-fn both(x: bool, y: bool) -> bool
-    ensures { result ≡ x && y }
-{
-    if x { y } else { false }
+    s.len() == t.len() && s.iter().zip(t).all(|(x, y)| same_octet(ignoring, *x, *y))
 }
 
 // The same for texts of one length. The loop never stops early, so that it takes many octets at once.
-fn same_all(ignoring: bool, s: &[u8], a: usize, e: usize, t: &[u8], b: usize, f: usize) -> bool
-    requires { (a ≤ e) × (e ≤ length s.now) × (b ≤ f) × (f ≤ length t.now) × (e - a ≡ f - b) }
-    ensures { result ≡ same_by ignoring (slice a e s.now) (slice b f t.now) }
+fn same_all(ignoring: bool, s: &[u8], t: &[u8]) -> bool
+    requires { length s.now ≡ length t.now }
+    ensures { result ≡ same_by ignoring s.now t.now }
 {
-    let mut i = a;
-    let mut j = b;
     let mut ok = true;
-    while i < e {
-        ok = both(ok, same_octet(ignoring, s[i], t[j]));
-        i = i + 1;
-        j = j + 1;
+    for (x, y) in s.iter().zip(t) {
+        ok &= same_octet(ignoring, *x, *y);
     }
     ok
 }
 
 // The same as `same`, quicker for long texts that begin with the same octets.
-pub fn same_long(ignoring: bool, s: &[u8], a: usize, e: usize, t: &[u8], b: usize, f: usize) -> bool
-    requires { (a ≤ e) × (e ≤ length s.now) × (b ≤ f) × (f ≤ length t.now) }
-    ensures { result ≡ same_by ignoring (slice a e s.now) (slice b f t.now) }
+pub fn same_long(ignoring: bool, s: &[u8], t: &[u8]) -> bool
+    ensures { result ≡ same_by ignoring s.now t.now }
 {
-    if e - a != f - b {
-        return false;
-    }
-    same_all(ignoring, s, a, e, t, b, f)
+    s.len() == t.len() && same_all(ignoring, s, t)
 }
 
-// Whether the part from a to e starts with a letter and has at most 63 octets.
-pub fn begins_name(s: &[u8], a: usize, e: usize) -> bool
-    requires { (a ≤ e) × (e ≤ length s.now) }
-    ensures { result ≡ starts_with_letter (slice a e s.now) && leb (length (slice a e s.now)) 63 }
+// Whether a text starts with a letter.
+pub fn starts_with_letter(t: &[u8]) -> bool
+    ensures { result ≡ starts_with_letter t.now }
 {
-    if a < e {
-        if octets::is_in(octets::Class::Letter, s[a]) {
-            return e - a <= 63;
-        }
-        return false;
-    }
-    false
+    t.first().is_some_and(|x| Class::Letter.has(*x))
 }
 
-// The qualifier from a to z.
-pub fn find(s: &[u8], a: usize, z: usize) -> Found
-    requires { (a ≤ z) × (z ≤ length s.now) }
+// Whether a text starts with a letter and has at most 63 octets.
+pub fn begins_name(t: &[u8]) -> bool
+    ensures { result ≡ starts_with_letter t.now && leb (length t.now) 63 }
+{
+    starts_with_letter(t) && t.len() <= 63
+}
+
+// The qualifier from a to z, if it is one.
+#[tactic(auto, using(crate::proofs::Laws::run_within))]
+pub fn find(s: &[u8], a: usize, z: usize) -> Option<Qualifier>
+    requires from { a ≤ z }
+    requires to { z ≤ length s.now }
     ensures { found_in s.now a z result ≡ qualifier (part_in s.now a z) }
 {
-    let n = octets::skip(s, a, z, octets::Class::NameOctet);
-    if begins_name(s, a, n) {
-        if n == z {
-            return Found::Word;
-        }
-        if s[n] == b'=' {
-            let d = octets::decimal(s, n + 1, z);
-            match d {
-                octets::Number::Value(v) => {
-                    return Found::Numbered(n, v);
-                }
-                octets::Number::Fault => {
-                    return Found::Bad;
-                }
-            }
-        }
-        return Found::Bad;
+    let n = a + octets::skip(&s[a..z], Class::NameOctet);
+    if !begins_name(&s[a..n]) {
+        return None;
     }
-    Found::Bad
+    if n == z {
+        return Some(Qualifier::Word);
+    }
+    if s[n] != b'=' {
+        return None;
+    }
+    let number = octets::decimal(&s[n + 1..z])?;
+    Some(Qualifier::Numbered(n, number))
 }
 
 // Whether a letter is a word that some type takes.
 fn known_letter(x: u8) -> bool
     ensures { result ≡ known_word (x ∷ []) }
 {
-    if x == b'L' {
-        return true;
-    }
-    if x == b'C' {
-        return true;
-    }
-    if x == b'A' {
-        return true;
-    }
-    if x == b'O' {
-        return true;
-    }
-    if x == b'M' {
-        return true;
-    }
-    x == b'X'
+    matches!(x, b'L' | b'C' | b'A' | b'O' | b'M' | b'X')
 }
 
-// Whether a letter is a word that the type takes.
-fn takes_letter(words: Words, x: u8) -> bool
-    ensures { result ≡ has_word (words_for words) (x ∷ []) }
-{
-    match words {
-        Words::Nothing => false,
-        Words::OnR => x == b'L',
-        Words::OnN => {
-            if x == b'C' {
-                return true;
-            }
-            if x == b'A' {
-                return true;
-            }
-            if x == b'L' {
-                return true;
-            }
-            x == b'O'
+impl Words {
+    // Whether a letter is a word that the type takes.
+    fn takes(self, x: u8) -> bool
+        ensures { result ≡ has_word (words_for self) (x ∷ []) }
+    {
+        match self {
+            Words::OnR => x == b'L',
+            Words::OnN => matches!(x, b'C' | b'A' | b'L' | b'O'),
+            Words::OnS => matches!(x, b'M' | b'X'),
+            Words::OnX => x == b'C',
         }
-        Words::OnS => {
-            if x == b'M' {
-                return true;
-            }
-            x == b'X'
+    }
+}
+
+impl Test {
+    // Whether the test holds of a text that is no qualifier.
+    fn holds_bad(self) -> bool
+        ensures { result ≡ holds_of self None }
+    {
+        matches!(
+            self,
+            Test::Malformed | Test::NotSymbol(_) | Test::NotWord(_)
+        )
+    }
+
+    // Whether the test holds of a symbol with the number v.
+    fn holds_symbol(self, v: u64) -> bool
+        ensures { result ≡ holds_of self (Some (symbol (record { spelling = part_in [] 0 0; value = v }))) }
+    {
+        match self {
+            Test::NotSymbol(limit) => limit <= v,
+            Test::NotWord(_) => true,
+            Test::Malformed | Test::Unknown | Test::IsWord(_) => false,
         }
-        Words::OnX => x == b'C',
     }
-}
 
-// Whether a test holds of a text that is no qualifier.
-fn holds_bad(test: Test) -> bool
-    ensures { result ≡ holds_of test none }
-{
-    match test {
-        Test::Malformed => true,
-        Test::Unknown => false,
-        Test::NotSymbol(limit) => true,
-        Test::NotWord(w) => true,
-        Test::IsWord(x) => false,
-    }
-}
-
-// Whether a test holds of a symbol with the number v.
-fn holds_symbol(test: Test, v: u64) -> bool
-    ensures { result ≡ holds_of test (some (symbol (record { spelling = part_in [] 0 0; value = v }))) }
-{
-    match test {
-        Test::Malformed => false,
-        Test::Unknown => false,
-        Test::NotSymbol(limit) => limit <= v,
-        Test::NotWord(w) => true,
-        Test::IsWord(x) => false,
-    }
-}
-
-// Whether a test holds of a word of one letter.
-fn holds_letter(test: Test, x: u8) -> bool
-    ensures { result ≡ holds_of test (some (word (x ∷ []))) }
-{
-    match test {
-        Test::Malformed => false,
-        Test::Unknown => {
-            if known_letter(x) {
-                return false;
-            }
-            true
+    // Whether the test holds of a word of one letter.
+    fn holds_letter(self, x: u8) -> bool
+        ensures { result ≡ holds_of self (Some (word (x ∷ []))) }
+    {
+        match self {
+            Test::Malformed => false,
+            Test::Unknown => !known_letter(x),
+            Test::NotSymbol(_) => true,
+            Test::NotWord(w) => !w.takes(x),
+            Test::IsWord(y) => y == x,
         }
-        Test::NotSymbol(limit) => true,
-        Test::NotWord(w) => {
-            if takes_letter(w, x) {
-                return false;
-            }
-            true
-        }
-        Test::IsWord(y) => y == x,
     }
-}
 
-// Whether a test holds of a word that is not one letter, which no type takes.
-fn holds_long(test: Test) -> bool
-    ensures { result ≡ holds_of test (some (word [])) }
-{
-    match test {
-        Test::Malformed => false,
-        Test::Unknown => true,
-        Test::NotSymbol(limit) => true,
-        Test::NotWord(w) => true,
-        Test::IsWord(x) => false,
+    // Whether the test holds of a word that is not one letter, which no type takes.
+    fn holds_long(self) -> bool
+        ensures { result ≡ holds_of self (Some (word [])) }
+    {
+        matches!(self, Test::Unknown | Test::NotSymbol(_) | Test::NotWord(_))
     }
-}
 
-// Whether a test holds of the qualifier from a to z.
-fn holds(test: Test, s: &[u8], a: usize, z: usize) -> bool
-    requires { (a ≤ z) × (z ≤ length s.now) }
-    ensures { result ≡ holds_of test (qualifier (part_in s.now a z)) }
-{
-    let q = find(s, a, z);
-    match q {
-        Found::Bad => holds_bad(test),
-        Found::Word => {
-            if z - a == 1 {
-                return holds_letter(test, s[a]);
+    // Whether the test holds of the qualifier from a to z.
+    fn holds(self, s: &[u8], a: usize, z: usize) -> bool
+        requires from { a ≤ z }
+        requires to { z ≤ length s.now }
+        ensures { result ≡ holds_of self (qualifier (part_in s.now a z)) }
+    {
+        match find(s, a, z) {
+            None => self.holds_bad(),
+            Some(Qualifier::Word) => {
+                if z - a == 1 {
+                    return self.holds_letter(s[a]);
+                }
+                self.holds_long()
             }
-            holds_long(test)
+            Some(Qualifier::Numbered(_, v)) => self.holds_symbol(v),
         }
-        Found::Numbered(e, v) => holds_symbol(test, v),
     }
 }
 
 // Whether a test holds of some qualifier between a and b. Most often there is one, of one letter, which is tested directly.
 pub fn any(test: Test, s: &[u8], a: usize, b: usize) -> bool
-    requires { (a ≤ b) × (b ≤ length s.now) }
+    requires from { a ≤ b }
+    requires to { b ≤ length s.now }
     ensures { result ≡ any_in test s.now a b }
 {
-    if b - a == 1 {
-        if octets::is_in(octets::Class::Letter, s[a]) {
-            return holds_letter(test, s[a]);
-        }
+    if b - a == 1 && Class::Letter.has(s[a]) {
+        return test.holds_letter(s[a]);
     }
     any_of(test, s, a, b)
 }
 
 // The same, one qualifier after another.
+#[tactic(auto, using(crate::proofs::Laws::run_within))]
 fn any_of(test: Test, s: &[u8], a: usize, b: usize) -> bool
-    requires { (a ≤ b) × (b ≤ length s.now) }
+    requires from { a ≤ b }
+    requires to { b ≤ length s.now }
     ensures { result ≡ any_in test s.now a b }
 {
     let mut i = a;
     loop {
-        let end = octets::skip(s, i, b, octets::Class::NotComma);
-        if holds(test, s, i, end) {
+        let end = i + octets::skip(&s[i..b], Class::NotComma);
+        if test.holds(s, i, end) {
             return true;
         }
         if end == b {

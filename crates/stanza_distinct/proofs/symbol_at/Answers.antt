@@ -1,58 +1,38 @@
-use mathlib.Core.Path.{sym, ◌∙◌}
 use Prim.Native.Nat.{◌+◌}
+use mathlib.Core.Path.{sym, ap, ◌∙◌}
 use Rattle.format.specs.Octets.{digit, name_octet}
-use Rattle.octets.proofs.Slices.{front_within}
-use Rattle.stanza_distinct.proofs.Symbols.{octet_there, symbol_found}
+use Rattle.format.specs.Number.{decimal_of}
+use Rattle.octets.proofs.Slices.{lent}
+use Rattle.stanza_words.proofs.Laws.{run_end, run_within, begins_lent}
+use Rattle.stanza_distinct.proofs.Symbols.{symbol_found}
 use native.Mathlib.Omega.{arith}
+use borrow.Author.Rules.{rules}
 use Rattle.stanza_distinct.proofs.symbol_at.Goals as goal
 
-pub begins_name-requires : goal.begins_name-requires
-begins_name-requires c = (
-  omega (arith, c.skip-n.ensures),
-  omega (arith, c.skip-n.ensures, front_within name_octet c.args.s.now c.args.i c.args.b c.requires.0 c.requires.1),
-)
+pub overflow_add-end : goal.overflow_add-end
+overflow_add-end c =
+    let w = run_within name_octet c.args.s.now c.args.i c.args.b _ c.requires.from c.skip.ensures c.requires.to in
+    omega (arith, run_within digit c.args.s.now (c.args.i + c.skip.result + 1) c.args.b _ (omega (arith, w)) c.skip-2.ensures c.requires.to)
 
-pub overflow_add-n : goal.overflow_add-n
-overflow_add-n c =
-    omega (
-      arith,
-      octet_there c.args.s.now c.skip-n.result c.args.b c.requires.1 (sym c.octet_at.ensures ∙ c.if-octet_at.true),
-    )
+pub ends_at-requires-clause-from : goal.ends_at-requires-clause-from
+ends_at-requires-clause-from c =
+    let w = run_within name_octet c.args.s.now c.args.i c.args.b _ c.requires.from c.skip.ensures c.requires.to in
+    run_within digit c.args.s.now (c.args.i + c.skip.result + 1) c.args.b _ (omega (arith, w)) c.skip-2.ensures c.requires.to
 
-pub skip-z-requires : goal.skip-z-requires
-skip-z-requires c = (
-  omega (
-    arith,
-    octet_there c.args.s.now c.skip-n.result c.args.b c.requires.1 (sym c.octet_at.ensures ∙ c.if-octet_at.true),
-  ),
-  c.requires.1,
-)
+pub slice_bounds-decimal-end : goal.slice_bounds-decimal-end
+slice_bounds-decimal-end c =
+    let w = run_within name_octet c.args.s.now c.args.i c.args.b _ c.requires.from c.skip.ensures c.requires.to in
+    let v = run_within digit c.args.s.now (c.args.i + c.skip.result + 1) c.args.b _ (omega (arith, w)) c.skip-2.ensures c.requires.to in
+    search (rules, v)
 
-pub ends_at-requires : goal.ends_at-requires
-ends_at-requires c =
-    let v = octet_there c.args.s.now c.skip-n.result c.args.b c.requires.1
-    (sym c.octet_at.ensures ∙ c.if-octet_at.true) in (
-      omega (
-        arith,
-        c.skip-z.ensures,
-        front_within digit c.args.s.now (c.skip-n.result + 1) c.args.b (omega (arith, v)) c.requires.1,
-      ),
-      c.requires.1,
-    )
-
-pub numbered-requires : goal.numbered-requires
-numbered-requires c =
-    let v = octet_there c.args.s.now c.skip-n.result c.args.b c.requires.1 (sym c.octet_at.ensures ∙ c.if-octet_at.true) in (
-      omega (arith, c.skip-z.ensures),
-      omega (
-        arith,
-        c.skip-z.ensures,
-        front_within digit c.args.s.now (c.skip-n.result + 1) c.args.b (omega (arith, v)) c.requires.1,
-      ),
-    )
-
-pub returns-then-ends_at : goal.returns-then-ends_at
-returns-then-ends_at c =
-    symbol_found c.args.s.now c.args.i c.args.b _ _ c.requires.0 c.requires.1 c.skip-n.ensures
-    (sym c.begins_name.ensures ∙ c.if-begins_name.true) (sym c.octet_at.ensures ∙ c.if-octet_at.true) c.skip-z.ensures
-    (c.ends_at.ensures c.if-ends_at.true) c.numbered.result c.numbered.ensures
+pub returns : goal.returns
+returns c =
+    let w = run_within name_octet c.args.s.now c.args.i c.args.b _ c.requires.from c.skip.ensures c.requires.to in
+    let n = c.args.i + c.skip.result in
+    symbol_found c.args.s.now c.args.i c.args.b _ _ c.requires.from c.requires.to
+    (run_end name_octet c.args.s.now c.args.i c.args.b _ c.requires.from c.skip.ensures)
+    (begins_lent c.args.s.now c.args.i _ _ _ (omega arith) c.begins_name.ensures c.if-not-begins_name.false)
+    (omega (arith, w)) c.if-s-name_end-ne61.false
+    (run_end digit c.args.s.now (n + 1) c.args.b _ (omega (arith, w)) c.skip-2.ensures)
+    (c.ends_at.ensures c.if-not-ends_at.false) _
+    (ap decimal_of (sym (lent c.args.s.now (n + 1) _ (omega arith))) ∙ sym c.decimal.ensures ∙ c.in_ok-number.was)

@@ -1,24 +1,20 @@
-use Rattle.stanza_form.proofs.Words.{same_start, same_on, same_off, same_end, same_other}
-use mathlib.Core.Path.{sym, ◌∙◌}
-use Prim.Native.Nat.{◌-◌}
-use native.Mathlib.Omega.{arith}
+use Prim.Native.Nat.{ℕ}
+use mathlib.Core.Path.{◌∙◌}
+use mathlib.Core.Bool.{false}
+use lib.Dec.{eqb}
 use borrow.Author.Rules.{rules}
+use Rattle.std.specs.Iterator.Adapters.{zip_first, zip_second}
+use Rattle.std.proofs.lemmas.Iterator.{YieldsList-from_zip, YieldsList-from_slice}
+use Rattle.std.proofs.lemmas.Iterator.Search.{all_from_yields_List}
+use Rattle.stanza_words.proofs.Laws.{zipped, unequal}
 use Rattle.stanza_form.proofs.is_word.Goals as goal
 
-pub loop-j-init : goal.loop-j-init
-loop-j-init c = (search rules, c.if-e-a.true, λ l. same_start _ _ _ _ l)
+pub returns-then-t-w : goal.returns-then-t-w
+returns-then-t-w c =
+    all_from_yields_List (λ (p : ℕ × ℕ). eqb p.0 p.1) c.all.new.self _ _ c.all.ensures.ran
+    (YieldsList-from_zip {s = c.zip.result} (YieldsList-from_slice {s = zip_first c.zip.result} c.args.t.now cc)
+    (YieldsList-from_slice {s = zip_second c.zip.result} c.args.w.now cc)) (λ x b q k. search rules)
+    ∙ zipped false c.args.t.now c.args.w.now c.if-t-w.true
 
-pub loop-j-preserved : goal.loop-j-preserved
-loop-j-preserved c =
-    (search rules, c.loop-j.invariant.1, λ l. same_on _ _ _ _ l _ (omega arith) c.loop-j-test.true c.if-s-a.true ∙ c.loop-j.invariant.2 l)
-
-pub returns-else-s-a : goal.returns-else-s-a
-returns-else-s-a c =
-    sym (same_off _ _ _ _ c.requires.1 _ (omega arith) c.loop-j-test.true c.if-s-a.false) ∙ c.loop-j.invariant.2 c.requires.1
-
-pub returns-then-e-a : goal.returns-then-e-a
-returns-then-e-a c =
-    sym (same_end _ _ _ _ c.requires.1 _ c.loop-j.invariant.1 c.loop-j-test.false) ∙ c.loop-j.invariant.2 c.requires.1
-
-pub returns : goal.returns
-returns c = sym (same_other _ _ _ _ c.requires.1 c.requires.0 c.if-e-a.false)
+pub returns-else-t-w : goal.returns-else-t-w
+returns-else-t-w c = unequal false c.args.t.now c.args.w.now c.if-t-w.false

@@ -1,52 +1,34 @@
-use mathlib.Core.Path.{sym, ◌∙◌}
-use Rattle.stanza_grammar.proofs.Laws.{first_in_lem, no_brackets, brackets_on, brackets_open, brackets_empty}
+use Prim.Native.Nat.{◌+◌}
 use native.Mathlib.Omega.{arith}
+use Rattle.format.specs.Grammar.{not_bracket}
+use Rattle.stanza_words.proofs.Laws.{run_end, run_within}
+use Rattle.stanza_grammar.proofs.Laws.{begun, first_in_lem, no_brackets, brackets_on, brackets_open, brackets_empty}
 use Rattle.stanza_grammar.proofs.bracketed.Goals as goal
+use Rattle.stanza_grammar.proofs.bracketed.Goals.{then-e-i-via-then-e-i, then-e-i-via-else-e-i+then-not-begins-2}
 
-pub skip-e-requires : goal.skip-e-requires
-skip-e-requires c = (
-  omega (
-    arith,
-    first_in_lem c.args.s.now c.args.i c.args.end 91 (omega arith) (sym c.octet_at.ensures ∙ c.if-octet_at.true),
-  ),
-  c.requires.1,
-)
+pub returns-then-not-begins-clause-value : goal.returns-then-not-begins-clause-value
+returns-then-not-begins-clause-value c =
+    no_brackets c.args.s.now c.args.i c.args.end c.requires.to
+    (begun c.args.s.now c.args.i c.args.end 91 _ _ c.requires.from c.begins.ensures c.if-not-begins.true)
 
-pub overflow_add-result-then-octet_at-2 : goal.overflow_add-result-then-octet_at-2
-overflow_add-result-then-octet_at-2 c =
-    omega (
-      arith,
-      first_in_lem c.args.s.now c.skip-e.result c.args.end 93 (omega arith)
-          (sym c.octet_at-then-i-e.ensures ∙ c.if-octet_at-2.true),
-    )
+pub returns-clause-value : goal.returns-clause-value
+returns-clause-value c =
+    let b = begun c.args.s.now c.args.i c.args.end 91 _ _ c.requires.from c.begins.ensures c.if-not-begins.false in
+    let h = first_in_lem c.args.s.now c.args.i c.args.end 91 b in
+    let w = run_within not_bracket c.args.s.now (c.args.i + 1) c.args.end _ (omega (arith, h)) c.skip.ensures c.requires.to in
+    brackets_on c.args.s.now c.args.i c.args.end c.requires.to _ b
+    (run_end not_bracket c.args.s.now (c.args.i + 1) c.args.end _ (omega (arith, h)) c.skip.ensures) (omega arith)
+    (begun c.args.s.now _ c.args.end 93 _ _ w c.begins-else-e-i.ensures c.if-not-begins-2.false)
 
-pub returns-then-octet_at-2 : goal.returns-then-octet_at-2
-returns-then-octet_at-2 c = (
-  brackets_on c.args.s.now c.args.i c.args.end c.requires.1 _ (sym c.octet_at.ensures ∙ c.if-octet_at.true)
-      c.skip-e.ensures c.if-i-e.true (sym c.octet_at-then-i-e.ensures ∙ c.if-octet_at-2.true),
-  omega (
-    arith,
-    first_in_lem c.args.s.now c.skip-e.result c.args.end 93 (omega arith)
-        (sym c.octet_at-then-i-e.ensures ∙ c.if-octet_at-2.true),
-  ),
-)
-
-pub returns-else-octet_at-2 : goal.returns-else-octet_at-2
-returns-else-octet_at-2 c = (
-  brackets_open c.args.s.now c.args.i c.args.end c.requires.1 _ (sym c.octet_at.ensures ∙ c.if-octet_at.true)
-      c.skip-e.ensures (λ h. c.if-octet_at-2.false (c.octet_at-then-i-e.ensures ∙ h)),
-  tt,
-)
-
-pub returns-else-i-e : goal.returns-else-i-e
-returns-else-i-e c = (
-  brackets_empty c.args.s.now c.args.i c.args.end c.requires.1 _ (sym c.octet_at.ensures ∙ c.if-octet_at.true)
-      c.skip-e.ensures c.if-i-e.false,
-  tt,
-)
-
-pub returns : goal.returns
-returns c = (
-  no_brackets c.args.s.now c.args.i c.args.end c.requires.1 (λ h. c.if-octet_at.false (c.octet_at.ensures ∙ h)),
-  (omega arith, c.requires.0, c.requires.0),
-)
+pub returns-then-e-i-clause-value : goal.returns-then-e-i-clause-value
+returns-then-e-i-clause-value c =
+    let b = begun c.args.s.now c.args.i c.args.end 91 _ _ c.requires.from c.begins.ensures c.if-not-begins.false in
+    let h = first_in_lem c.args.s.now c.args.i c.args.end 91 b in
+    let q = run_end not_bracket c.args.s.now (c.args.i + 1) c.args.end _ (omega (arith, h)) c.skip.ensures in
+    let w = run_within not_bracket c.args.s.now (c.args.i + 1) c.args.end _ (omega (arith, h)) c.skip.ensures c.requires.to in
+    elim c.then-e-i.branch [
+      | then-e-i-via-then-e-i v ↦ brackets_empty c.args.s.now c.args.i c.args.end c.requires.to _ b q (omega arith)
+      | then-e-i-via-else-e-i+then-not-begins-2 v ↦
+          brackets_open c.args.s.now c.args.i c.args.end c.requires.to _ b q
+          (begun c.args.s.now _ c.args.end 93 _ _ w v.begins-else-e-i.ensures v.if-not-begins-2.true)
+    ]

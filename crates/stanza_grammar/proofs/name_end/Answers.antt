@@ -1,19 +1,23 @@
-use Rattle.stanza_grammar.proofs.Laws.{named, overlong, unlettered, cut_within}
-use mathlib.Core.Path.{sym, ◌∙◌}
+use mathlib.Core.Path.{sym, ap, ◌∙◌}
 use Rattle.format.specs.Octets.{name_octet}
+use Rattle.format.specs.Grammar.{starts_with_letter}
+use Rattle.octets.proofs.Slices.{lent}
+use Rattle.stanza_words.proofs.Laws.{run_end}
+use Rattle.stanza_grammar.proofs.Laws.{named, overlong, unlettered}
 use Rattle.stanza_grammar.proofs.name_end.Goals as goal
 
-pub returns-then-e-at-le63 : goal.returns-then-e-at-le63
-returns-then-e-at-le63 c = (
-  named c.args.s.now c.args.at c.args.end _ c.requires.0 c.requires.1
-      (sym c.starts_with_letter.ensures ∙ c.if-starts_with_letter.true) c.skip-e.ensures c.if-e-at-le63.true,
-  cut_within name_octet c.args.s.now c.args.at c.args.end _ c.requires.0 c.requires.1 c.skip-e.ensures,
-)
+pub returns-then-not-starts_with_letter-clause-value : goal.returns-then-not-starts_with_letter-clause-value
+returns-then-not-starts_with_letter-clause-value c =
+    unlettered c.args.s.now c.args.at c.args.end
+    (ap starts_with_letter (sym (lent c.args.s.now c.args.at c.args.end c.requires.from)) ∙ sym c.starts_with_letter.ensures ∙ c.if-not-starts_with_letter.true)
 
-pub returns-else-e-at-le63 : goal.returns-else-e-at-le63
-returns-else-e-at-le63 c =
-    (overlong c.args.s.now c.args.at c.args.end _ c.skip-e.ensures c.if-e-at-le63.false, tt)
+pub returns-then-e-at-le63-clause-value : goal.returns-then-e-at-le63-clause-value
+returns-then-e-at-le63-clause-value c =
+    named c.args.s.now c.args.at c.args.end _ c.requires.from c.requires.to
+    (ap starts_with_letter (sym (lent c.args.s.now c.args.at c.args.end c.requires.from)) ∙ sym c.starts_with_letter.ensures ∙ c.if-not-starts_with_letter.false)
+    (run_end name_octet c.args.s.now c.args.at c.args.end _ c.requires.from c.skip.ensures) c.if-e-at-le63.true
 
-pub returns-else-starts_with_letter : goal.returns-else-starts_with_letter
-returns-else-starts_with_letter c =
-    (unlettered c.args.s.now c.args.at c.args.end (sym c.starts_with_letter.ensures ∙ c.if-starts_with_letter.false), tt)
+pub returns-clause-value : goal.returns-clause-value
+returns-clause-value c =
+    overlong c.args.s.now c.args.at c.args.end _
+    (run_end name_octet c.args.s.now c.args.at c.args.end _ c.requires.from c.skip.ensures) c.if-e-at-le63.false

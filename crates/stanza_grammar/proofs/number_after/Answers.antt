@@ -1,42 +1,37 @@
 use lib.Seq.{slice}
-use mathlib.Core.Path.{sym, ◌∙◌}
-use Prim.Native.Nat.{◌+◌, ◌≤◌}
-use Rattle.format.specs.Octets.{digit}
-use Rattle.stanza_grammar.proofs.Laws.{first_in_lem, number_on, number_off, no_number, later_within}
+use Prim.Native.Nat.{◌+◌}
+use mathlib.Core.Path.{sym, ap, ◌∙◌}
 use native.Mathlib.Omega.{arith}
-use Rattle.octets.proofs.Numbers.{number_some, number_none}
+use Rattle.format.specs.Octets.{digit}
+use Rattle.format.specs.Number.{decimal_of}
+use Rattle.octets.proofs.Slices.{lent}
+use Rattle.stanza_words.proofs.Laws.{run_end, run_within}
+use Rattle.stanza_grammar.proofs.Laws.{begun, first_in_lem, number_on, number_off, no_number}
 use Rattle.stanza_grammar.proofs.number_after.Goals as goal
 
-pub skip-e-requires : goal.skip-e-requires
-skip-e-requires c = (
-  omega (
-    arith,
-    first_in_lem c.args.s.now c.args.i c.args.end 58 (omega arith) (sym c.octet_at.ensures ∙ c.if-octet_at.true),
-  ),
-  c.requires.1,
-)
+pub returns-then-not-begins-clause-value : goal.returns-then-not-begins-clause-value
+returns-then-not-begins-clause-value c =
+    no_number (slice c.args.i c.args.end c.args.s.now) (begun c.args.s.now c.args.i c.args.end 58 _ _ c.requires.from c.begins.ensures c.if-not-begins.true)
 
-pub decimal-n-requires : goal.decimal-n-requires
-decimal-n-requires c =
-    let w : (c.args.i + 1 ≤ c.skip-e.result) × (c.skip-e.result ≤ c.args.end) = later_within digit c.args.s.now c.args.i
-    c.args.end _ 58 c.requires.1 (omega arith) (sym c.octet_at.ensures ∙ c.if-octet_at.true) c.skip-e.ensures in
-    (w.0, omega (arith, c.requires.1))
+pub returns-in_err-number-clause-value : goal.returns-in_err-number-clause-value
+returns-in_err-number-clause-value c =
+    let b = begun c.args.s.now c.args.i c.args.end 58 _ _ c.requires.from c.begins.ensures c.if-not-begins.false in
+    let h = first_in_lem c.args.s.now c.args.i c.args.end 58 b in
+    rw c.from_residual.ensures
+    (number_off c.args.s.now c.args.i c.args.end _ c.requires.to b
+    (run_end digit c.args.s.now (c.args.i + 1) c.args.end _ (omega (arith, h)) c.skip.ensures)
+    (ap decimal_of (sym (lent c.args.s.now (c.args.i + 1) _ (omega arith))) ∙ sym c.decimal.ensures ∙ c.in_err-number.was))
 
-pub returns-in-Value : goal.returns-in-Value
-returns-in-Value c = (
-  number_on c.args.s.now c.args.i c.args.end _ c.requires.1 (sym c.octet_at.ensures ∙ c.if-octet_at.true)
-      c.skip-e.ensures _ (number_some _ _ (sym c.decimal-n.ensures ∙ c.in-Value.is)),
-  (later_within digit c.args.s.now c.args.i c.args.end _ 58 c.requires.1 (omega arith)
-      (sym c.octet_at.ensures ∙ c.if-octet_at.true) c.skip-e.ensures).1,
-)
+pub returns-clause-value : goal.returns-clause-value
+returns-clause-value c =
+    let b = begun c.args.s.now c.args.i c.args.end 58 _ _ c.requires.from c.begins.ensures c.if-not-begins.false in
+    let h = first_in_lem c.args.s.now c.args.i c.args.end 58 b in
+    number_on c.args.s.now c.args.i c.args.end _ c.requires.to b
+    (run_end digit c.args.s.now (c.args.i + 1) c.args.end _ (omega (arith, h)) c.skip.ensures) _
+    (ap decimal_of (sym (lent c.args.s.now (c.args.i + 1) _ (omega arith))) ∙ sym c.decimal.ensures ∙ c.in_ok-number.was)
 
-pub returns-in-Fault : goal.returns-in-Fault
-returns-in-Fault c = (
-  number_off c.args.s.now c.args.i c.args.end _ c.requires.1 (sym c.octet_at.ensures ∙ c.if-octet_at.true)
-      c.skip-e.ensures (number_none _ (sym c.decimal-n.ensures ∙ c.in-Fault.is)),
-  tt,
-)
-
-pub returns : goal.returns
-returns c =
-    (no_number (slice c.args.i c.args.end c.args.s.now) (λ h. c.if-octet_at.false (c.octet_at.ensures ∙ h)), tt)
+pub returns-clause-within : goal.returns-clause-within
+returns-clause-within c =
+    let b = begun c.args.s.now c.args.i c.args.end 58 _ _ c.requires.from c.begins.ensures c.if-not-begins.false in
+    let h = first_in_lem c.args.s.now c.args.i c.args.end 58 b in
+    run_within digit c.args.s.now (c.args.i + 1) c.args.end _ (omega (arith, h)) c.skip.ensures c.requires.to

@@ -10,12 +10,12 @@ use lib.ListN.{length}
 use Prim.Native.Nat.{◌+◌, ◌-◌}
 use Rattle.stanza_judge.proofs.judged_lines.Given as goal
 
--- If nothing is refused so far, judging the lines from `at` on gives the verdict on all lines; else the refusal is that
--- verdict. The codes are those of the fields found so far.
+-- Nothing is refused so far, and judging the lines from `at` on gives the verdict on all lines. The codes are those of the fields
+-- found so far.
 abbrev pub invariant-loop-at : goal.invariant-loop-at
 invariant-loop-at l =
     (h : HeaderDesc) × (fs : List FieldDesc)
-    × Judging l.in_file (begun l.in_file l.s l.first l.before) l.s h fs l.names l.ends l.n l.header_seen l.tail_seen l.number l.place l.at l.line
+    × Judging l.in_file (begun l.in_file l.s l.first l.before) l.s h fs l.names l.n l.seen l.at l.line
     × (fields_of l.codes ≡ without_texts fs)
 
 abbrev pub decreases-loop-at : goal.decreases-loop-at

@@ -1,51 +1,45 @@
-use Rattle.stanza_line.proofs.Verdicts.{after_tail, named_again, too_many, one_more}
-use Rattle.stanza_form.specs.Fields.{field_of}
-use mathlib.Core.Path.{refl, sym, ◌∙◌}
+use mathlib.Core.Path.{sym, ap, ◌∙◌}
+use Rattle.octets.proofs.Slices.{lent}
+use Rattle.stanza_line.specs.Verdict.{field_for, named_among}
+use Rattle.stanza_line.proofs.Verdicts.{seen_header, named_again, too_many, one_more}
+use native.Mathlib.Omega.{arith}
 use Rattle.stanza_line.proofs.field_step.Goals as goal
 
-pub returns-then-tail_seen : goal.returns-then-tail_seen
-returns-then-tail_seen c = (
-  tt,
-  λ d st. rw c.in-GoodField.is
-      (after_tail c.args.s.now d c.args.tail_seen c.args.names.now c.args.ends.now c.args.n st
-      (field_of c.args.s.now c.in-GoodField.x.field c.in-GoodField.x.name_at
-      c.in-GoodField.x.name_end) c.in-GoodField.x.name_at c.in-GoodField.x.name_end refl
-      c.if-tail_seen.true),
-)
-
-pub name_again-requires : goal.name_again-requires
-name_again-requires c =
-    ((rw c.in-GoodField.is at c.requires.0).0, (rw c.in-GoodField.is at c.requires.0).1, c.requires.1, c.requires.2)
-
 pub returns-then-name_again : goal.returns-then-name_again
-returns-then-name_again c = (
-  tt,
-  λ d st. rw c.in-GoodField.is
-      (named_again c.args.s.now d c.args.tail_seen c.args.names.now c.args.ends.now c.args.n st
-      (field_of c.args.s.now c.in-GoodField.x.field c.in-GoodField.x.name_at
-      c.in-GoodField.x.name_end) c.in-GoodField.x.name_at c.in-GoodField.x.name_end refl c.if-tail_seen.false
-      (sym c.name_again.ensures ∙ c.if-name_again.true)),
-)
+returns-then-name_again c =
+    let q = seen_header c.args.seen c.requires.after c.in_default.not-Tail in
+    let a = c.from-a.result in
+    let e = c.from-e.result in record {
+      due = tt;
+      verdict =
+          rw q
+          (λ d st. named_again c.args.s.now d c.args.names.now (field_for c.args.s.now c.args.x) a e (rw (c.from-a.ensures, c.from-e.ensures)) st
+          (ap (named_among c.args.s.now c.args.names.now) (sym (lent c.args.s.now a e (omega (arith, c.requires.within.name_from))))
+          ∙ sym c.name_again.ensures ∙ c.if-name_again.true));
+    }
 
-pub returns-then-n-ge64 : goal.returns-then-n-ge64
-returns-then-n-ge64 c = (
-  tt,
-  λ d st. rw c.in-GoodField.is
-      (too_many c.args.s.now d c.args.tail_seen c.args.names.now c.args.ends.now c.args.n st
-      (field_of c.args.s.now c.in-GoodField.x.field c.in-GoodField.x.name_at
-      c.in-GoodField.x.name_end) c.in-GoodField.x.name_at c.in-GoodField.x.name_end refl c.if-tail_seen.false
-      (sym c.name_again.ensures ∙ c.if-name_again.false) c.if-n-ge64.true),
-)
+pub returns-then-names-ge64 : goal.returns-then-names-ge64
+returns-then-names-ge64 c =
+    let q = seen_header c.args.seen c.requires.after c.in_default.not-Tail in
+    let a = c.from-a.result in
+    let e = c.from-e.result in record {
+      due = tt;
+      verdict =
+          rw q
+          (λ d st. too_many c.args.s.now d c.args.names.now (field_for c.args.s.now c.args.x) a e (rw (c.from-a.ensures, c.from-e.ensures)) st
+          (ap (named_among c.args.s.now c.args.names.now) (sym (lent c.args.s.now a e (omega (arith, c.requires.within.name_from))))
+          ∙ sym c.name_again.ensures ∙ c.if-name_again.false) c.if-names-ge64.true);
+    }
 
-pub returns-in-BadField : goal.returns-in-BadField
-returns-in-BadField c = (tt, λ d st. rw c.in-BadField.is)
-
-pub returns-else-n-ge64 : goal.returns-else-n-ge64
-returns-else-n-ge64 c = (
-  (c.if-n-ge64.false, (rw c.in-GoodField.is at c.requires.0).2),
-  λ d st. rw c.in-GoodField.is
-      (one_more c.args.s.now d c.args.tail_seen c.args.names.now c.args.ends.now c.args.n st
-      (field_of c.args.s.now c.in-GoodField.x.field c.in-GoodField.x.name_at
-      c.in-GoodField.x.name_end) c.in-GoodField.x.name_at c.in-GoodField.x.name_end refl c.if-tail_seen.false
-      (sym c.name_again.ensures ∙ c.if-name_again.false) c.if-n-ge64.false),
-)
+pub returns : goal.returns
+returns c =
+    let q = seen_header c.args.seen c.requires.after c.in_default.not-Tail in
+    let a = c.from-a.result in
+    let e = c.from-e.result in record {
+      due = record { few = c.if-names-ge64.false; after = q; placed = c.requires.within.placed };
+      verdict =
+          rw q
+          (λ d st. one_more c.args.s.now d c.args.names.now (field_for c.args.s.now c.args.x) a e (rw (c.from-a.ensures, c.from-e.ensures)) st
+          (ap (named_among c.args.s.now c.args.names.now) (sym (lent c.args.s.now a e (omega (arith, c.requires.within.name_from))))
+          ∙ sym c.name_again.ensures ∙ c.if-name_again.false) c.if-names-ge64.false);
+    }

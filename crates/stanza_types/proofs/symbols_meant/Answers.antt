@@ -4,8 +4,8 @@ use Rattle.stanza_types.proofs.symbols_meant.Goals as goal
 
 pub returns-then-plain_symbols : goal.returns-then-plain_symbols
 returns-then-plain_symbols c =
-    let y = c.plain_symbols.ensures c.if-plain_symbols.true in
-    symbols_once c.args.w c.args.s.now c.args.a c.args.b c.requires.0 (rw (← c.limit-m.ensures) y.0) y.1
+    symbols_once c.args.w c.args.s.now c.args.a c.args.b c.requires.some
+    (rw (← c.limit-m.ensures) (c.plain_symbols.ensures.plain c.if-plain_symbols.true)) (c.plain_symbols.ensures.once c.if-plain_symbols.true)
 
 pub returns-then-any : goal.returns-then-any
 returns-then-any c =
@@ -20,5 +20,5 @@ returns-then-twice c =
 
 pub returns : goal.returns
 returns c =
-    symbols_once c.args.w c.args.s.now c.args.a c.args.b c.requires.0
+    symbols_once c.args.w c.args.s.now c.args.a c.args.b c.requires.some
     (rw (← c.limit-m.ensures) (sym c.any.ensures ∙ c.if-any.false)) (sym c.twice.ensures ∙ c.if-twice.false)

@@ -1,36 +1,20 @@
-use Prim.Native.Nat.{◌-◌}
-use mathlib.Core.Path.{refl, ◌∙◌}
-use Rattle.stanza_words.proofs.Laws.{same_on, same_off, same_end, same_lengths}
-use native.Mathlib.Omega.{arith}
+use Prim.Native.Nat.{ℕ}
+use mathlib.Core.Path.{◌∙◌}
+use lib.Dec.{eqb}
 use borrow.Author.Rules.{rules}
+use Rattle.std.specs.Iterator.Adapters.{zip_first, zip_second}
+use Rattle.std.proofs.lemmas.Iterator.{YieldsList-from_zip, YieldsList-from_slice}
+use Rattle.std.proofs.lemmas.Iterator.Search.{all_from_yields_List}
+use Rattle.stanza_words.proofs.Laws.{folded, zipped, unequal}
 use Rattle.stanza_words.proofs.same.Goals as goal
 
-pub returns-then-e-a : goal.returns-then-e-a
-returns-then-e-a c =
-    same_lengths c.args.ignoring c.args.s.now c.args.t.now c.args.a c.args.e c.args.b c.args.f
-    c.requires.1 c.requires.3 c.if-e-a.true
+pub returns-then-s-t : goal.returns-then-s-t
+returns-then-s-t c =
+    all_from_yields_List (λ (p : ℕ × ℕ). eqb (folded c.args.ignoring p.0) (folded c.args.ignoring p.1)) c.all.new.self _ _
+    c.all.ensures.ran
+    (YieldsList-from_zip {s = c.zip.result} (YieldsList-from_slice {s = zip_first c.zip.result} c.args.s.now cc) (YieldsList-from_slice {s = zip_second c.zip.result} c.args.t.now cc))
+    (λ x b q k. search rules)
+    ∙ zipped c.args.ignoring c.args.s.now c.args.t.now c.if-s-t.true
 
-pub loop-i-init : goal.loop-i-init
-loop-i-init c = (search rules, search rules, search rules, refl)
-
-pub loop-i-preserved : goal.loop-i-preserved
-loop-i-preserved c = (
-  search rules,
-  search rules,
-  search rules,
-  same_on c.args.ignoring c.args.s.now c.args.t.now c.loop-i.i c.args.e c.loop-i.j c.args.f c.loop-i-test.true
-      c.requires.1 (omega arith) c.requires.3 _ c.same_octet.ensures c.if-same_octet.true
-      ∙ c.loop-i.invariant.3,
-)
-
-pub returns-else-same_octet : goal.returns-else-same_octet
-returns-else-same_octet c =
-    same_off c.args.ignoring c.args.s.now c.args.t.now c.loop-i.i c.args.e c.loop-i.j c.args.f c.loop-i-test.true
-    c.requires.1 (omega arith) c.requires.3 _ c.same_octet.ensures c.if-same_octet.false
-    ∙ c.loop-i.invariant.3
-
-pub returns : goal.returns
-returns c =
-    same_end c.args.ignoring c.args.s.now c.args.t.now c.loop-i.i c.args.e c.loop-i.j
-    c.args.f c.loop-i-test.false (omega arith)
-    ∙ c.loop-i.invariant.3
+pub returns-else-s-t : goal.returns-else-s-t
+returns-else-s-t c = unequal c.args.ignoring c.args.s.now c.args.t.now c.if-s-t.false

@@ -1,14 +1,10 @@
-use Prim.Native.Nat.{◌-◌, ◌≤◌}
 use mathlib.Core.Path.{◌≡◌}
 use mathlib.Core.Bool.{◌&&◌}
-use lib.Seq.{slice}
+use lib.ListN.{length, drop}
 use Rattle.stanza_words.specs.Qualifiers.{same_by}
 use Rattle.stanza_words.proofs.same_all.Given as goal
 
--- The two texts are the same exactly if they are so up to i and j, which ok says, and their rests are.
-abbrev pub invariant-loop-i : goal.invariant-loop-i
-invariant-loop-i l =
-    (l.i ≤ l.e) × (l.j ≤ l.f) × (l.e - l.i ≡ l.f - l.j) × (l.ok && same_by l.ignoring (slice l.i l.e l.s) (slice l.j l.f l.t) ≡ same_by l.ignoring (slice l.a l.e l.s) (slice l.b l.f l.t))
-
-abbrev pub decreases-loop-i : goal.decreases-loop-i
-decreases-loop-i l = l.e - l.i
+-- The two texts are the same exactly if they are so up to this pair, which ok says, and their rests are.
+abbrev pub invariant-loop-x : goal.invariant-loop-x
+invariant-loop-x l =
+    l.ok && same_by l.ignoring (drop (length l.yielded) l.s) (drop (length l.yielded) l.t) ≡ same_by l.ignoring l.s l.t

@@ -1,5 +1,0 @@
-use Rattle.stanza_types.proofs.marks.Goals as goal
-
-pub returns : goal.returns
-returns c =
-    rw (c.mark.ensures, c.mark-2.ensures, c.mark-3.ensures, c.mark-4.ensures)
