@@ -3,7 +3,7 @@ use Prim.Native.Nat.{ℕ, zero, suc, ◌+◌}
 use mathlib.Core.Path.{◌≡◌, refl, ap}
 use mathlib.Core.Bool.{cond}
 use mathlib.Core.List.{List, [], ◌∷◌, ◌++◌}
-use mathlib.Core.Option.{Option, none, some}
+use Rattle.std.specs.Prelude.{Option, None, Some}
 use native.Mathlib.Omega.{arith}
 use lib.ListN.{length, take}
 use lib.Dec.{ltb}
@@ -16,15 +16,15 @@ longer [] n = refl
 longer (x ∷ l) n = ap suc (longer l n)
 
 after_same : (o : Option TypeName) (i : ℕ) (f g : TypeName → Catalogued) → ((n : TypeName) → f n ≡ g n) → after_entry o i f ≡ after_entry o i g
-after_same none i f g h = refl
-after_same (some n) i f g h = h n
+after_same None i f g h = refl
+after_same (Some n) i f g h = h n
 
 from_cut : (k : ℕ) (earlier : List TypeName) (names : List ℕ) (es : List Entry) → length earlier + suc k ≡ 513 → catalogued_from earlier names (take (suc k) es) ≡ catalogued_from earlier names es
 unfolding catalogued_from
 from_cut k earlier names [] l = refl
 from_cut zero earlier names (e ∷ es) l = rw (le-ltb (length earlier) 512 (omega (arith, l))) refl
 from_cut (suc k) earlier names (e ∷ es) l =
-    after_same (cond (ltb (length earlier) 512) (entry_after earlier names e) none) (suc (length earlier))
+    after_same (cond (ltb (length earlier) 512) (entry_after earlier names e) None) (suc (length earlier))
     (λ n. catalogued_from (earlier ++ n ∷ []) names (take (suc k) es)) (λ n. catalogued_from (earlier ++ n ∷ []) names es)
     (λ n. from_cut k (earlier ++ n ∷ []) names es (let h = longer earlier n in omega (arith, l, h)))
 

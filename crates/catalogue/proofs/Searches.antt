@@ -1,95 +1,90 @@
 -- Laws of the two searches: by number in halves, and by name.
-use Prim.Native.Nat.{ℕ, zero, suc, ◌+◌, ◌-◌, ◌≤◌, ◌<◌}
-use mathlib.Core.Path.{◌≡◌, refl, ap}
+use Prim.Native.Nat.{ℕ, ◌≤◌, ◌<◌}
+use mathlib.Core.Path.{◌≡◌, refl, sym, subst}
 use mathlib.Core.Bool.{Bool, true, false, cond}
-use mathlib.Core.List.{List, [], ◌∷◌}
-use mathlib.Core.Option.{some}
+use mathlib.Core.List.{List}
+use Rattle.std.specs.Prelude.{None, Some, Result, Ok, Err}
+use Rattle.std.proofs.Common.{Ordering, Less, Equal, Greater, MatchResult}
+use Rattle.std.specs.Ordering.{nat_cmp, ordering_index, MatchOrdering}
+use Rattle.std.specs.Result.{result_ok}
+use Rattle.std.specs.Cmp.{ranks}
+use Rattle.std.specs.List.Sorted.{IsBinarySearchResult, IsSearchInRange}
+use Rattle.std.proofs.lemmas.List.Sums.{position_or_len_is, fails_before_first}
+use Rattle.std.specs.List.{position_or_len}
+use Rattle.std.proofs.lemmas.List.Quantifiers.{position-Some}
+use Rattle.std.proofs.lemmas.List.Sorted.{IsNonDecreasingBy-from_default}
 use native.Mathlib.Omega.{arith}
-use lib.ListN.{length, drop, get_or}
-use lib.Seq.{slice}
-use lib.Dec.{ltb}
-use borrow.Author.Tests.{eq-eqb, ne_eqb, ltb-true, ltb-false}
-use Rattle.format.specs.Octets.{same_word}
-use Rattle.format.proofs.Lists.{drop_next}
-use Rattle.octets.proofs.Slices.{take_drop}
-use Rattle.stanza_words.specs.Qualifiers.{same_by}
-use Rattle.stanza_words.proofs.Laws.{same_lengths}
-use Rattle.catalogue.specs.Entries.{entry_at, spelled_at, names_of, Rising, Within, place_of, name_number}
+use lib.ListN.{length, drop, get_or, length-take}
+use lib.Dec.{ltb, eqb}
+use borrow.Author.Tests.{eq-eqb, ne_eqb, lt-ltb, le-ltb, ltb-true, ltb-false, tests}
+use Rattle.format.specs.Rrtype.{type_text}
+use Rattle.format.specs.Catalogue.{type_text_in}
+use Rattle.catalogue.specs.Entries.{entry_at, spelled_at, names_of, Rising, Within, place_of}
+use Rattle.catalogue.proofs.Laws.{type_at, text_found, text_none}
 
--- the type number of the entry at a place
-abbrev pub type_at : List ℕ → ℕ → ℕ
-type_at ws k = (entry_at (get_or ws k 0)).type_no
+-- what std's search by halves says of what rises by a number
+module _ {X : Type 0} (key : X → ℕ) (xs : List X) (d : X) (v : ℕ) (rising : (i j : ℕ) → i < j → j < length xs → key (get_or xs i d) < key (get_or xs j d)) where
+  order : (k : ℕ) (o : Ordering) → nat_cmp (key (get_or xs k d)) v ≡ o → MatchOrdering o (key (get_or xs k d) < v) (key (get_or xs k d) ≡ v) (v < key (get_or xs k d))
+  order k o e = subst (λ o. MatchOrdering o (key (get_or xs k d) < v) (key (get_or xs k d) ≡ v) (v < key (get_or xs k d))) e (ranks (key (get_or xs k d)) v)
 
--- an entry with the number that none before has it stands at its place
-place_first : (ws : List ℕ) (v k : ℕ) → k < length ws → type_at ws k ≡ v → ((i : ℕ) → i < k → type_at ws i ≡ v → ⊥) → k ≡ place_of ws v
-place_first [] v k l e f = absurd (omega arith)
-place_first (w ∷ ws) v zero l e f = rw (eq-eqb (entry_at w).type_no v e)
-place_first (w ∷ ws) v (suc k) l e f =
-    rw (ne_eqb (entry_at w).type_no v (f 0 (omega arith))) (ap suc (place_first ws v k (omega arith) e (λ i m. f (suc i) (omega (arith, m)))))
+  higher : (a b : ℕ) → a ≤ b → ordering_index (nat_cmp a v) ≤ ordering_index (nat_cmp b v)
+  higher a b le = grind (arith, tests)
 
-place_none : (ws : List ℕ) (v : ℕ) → ((i : ℕ) → i < length ws → type_at ws i ≡ v → ⊥) → length ws ≡ place_of ws v
-place_none [] v f = refl
-place_none (w ∷ ws) v f = rw (ne_eqb (entry_at w).type_no v (f 0 (omega arith))) (ap suc (place_none ws v (λ i m. f (suc i) (omega (arith, m)))))
-
--- Where the number v may still be: the numbers before lo are lower, those from hi on are higher.
-pub record Sought (ws : List ℕ) (v lo hi : ℕ) : Type 0 where
-  pub lower : (i : ℕ) → i < lo → type_at ws i < v
-  pub upper : (i : ℕ) → hi ≤ i → i < length ws → v < type_at ws i
-
-module _ (ws : List ℕ) (v : ℕ) where
-  pub sought_all : Sought ws v 0 (length ws)
-  sought_all = record { lower = λ i l. absurd (omega (arith, l)); upper = λ i l m. absurd (omega (arith, l, m)) }
-
-  module _ (rising : Rising ws) (lo hi mid : ℕ) (l : mid < length ws) (s : Sought ws v lo hi) where
-    -- the entry in the middle is lower: so are those before it
-    pub sought_up : type_at ws mid < v → Sought ws v (mid + 1) hi
-    sought_up h = record { lower = λ i m. by i m (ltb i mid) refl; upper = s.upper }
-      where
-        by : (i : ℕ) → i < mid + 1 → (b : Bool) → ltb i mid ≡ b → type_at ws i < v
-        by i m true e = omega (arith, h, rising i mid (ltb-true i mid e) l)
-        by i m false e = let q : i ≡ mid = omega (arith, m, ltb-false i mid e) in rw q h
-
-    -- it is higher: so are those after it
-    pub sought_down : (type_at ws mid ≡ v → ⊥) → v ≤ type_at ws mid → Sought ws v lo mid
-    sought_down n h = record { lower = s.lower; upper = λ i m k. by i m k (ltb mid i) refl }
-      where
-        above : v < type_at ws mid
-        above = omega (arith, n, h)
-
-        by : (i : ℕ) → mid ≤ i → i < length ws → (b : Bool) → ltb mid i ≡ b → v < type_at ws i
-        by i m k true e = omega (arith, above, rising mid i (ltb-true mid i e) k)
-        by i m k false e = let q : i ≡ mid = omega (arith, m, ltb-false mid i e) in rw q above
-
-    pub sought_found : type_at ws mid ≡ v → mid ≡ place_of ws v
-    sought_found e = place_first ws v mid l e (λ i m q. omega (arith, e, q, rising i mid m l))
-
-  pub sought_none : (lo hi : ℕ) → Sought ws v lo hi → hi ≤ lo → length ws ≡ place_of ws v
-  sought_none lo hi s h = place_none ws v (λ i m q. by i m q (ltb i lo) refl)
+  rises : (i j : ℕ) → i ≤ j → j < length xs → key (get_or xs i d) ≤ key (get_or xs j d)
+  rises i j a b = by (ltb i j) refl
     where
-      by : (i : ℕ) → i < length ws → type_at ws i ≡ v → (b : Bool) → ltb i lo ≡ b → ⊥
-      by i m q true e = omega (arith, q, s.lower i (ltb-true i lo e))
-      by i m q false e = omega (arith, q, s.upper i (omega (arith, h, ltb-false i lo e)) m)
+      by : (c : Bool) → ltb i j ≡ c → key (get_or xs i d) ≤ key (get_or xs j d)
+      by true e = omega (arith, rising i j (ltb-true i j e) b)
+      by false e = let q : i ≡ j = omega (arith, a, ltb-false i j e) in rw q (omega arith)
 
--- the name of an entry as a part of the text
-module _ (names t : List ℕ) (w i e : ℕ) where
-  spelled_part : spelled_at names w ≡ slice (entry_at w).start ((entry_at w).start + (entry_at w).size) names
-  spelled_part = take_drop (entry_at w).size (entry_at w).start names
+  pub searched : (r : Result ℕ ℕ) → IsSearchInRange r (length xs) → IsBinarySearchResult (λ x. nat_cmp (key x) v) xs r
+      → MatchResult r (λ k. (k < length xs) × (key (get_or xs k d) ≡ v)) (λ _. (i : ℕ) → i < length xs → key (get_or xs i d) ≡ v → ⊥)
+  searched (Ok k) l h = (l, order k Equal (h d))
+  searched (Err k) l h =
+      let (below, above) = h (IsNonDecreasingBy-from_default (λ x. ordering_index (nat_cmp (key x) v)) xs d (λ i j a b. higher (key (get_or xs i d)) (key (get_or xs j d)) (rises i j a b))) in
+      λ i m e. by below above i m e (ltb i k) refl
+    where
+      by : ((i : ℕ) (d : X) → 0 ≤ i → i < k → nat_cmp (key (get_or xs i d)) v ≡ Less) → ((i : ℕ) (d : X) → k ≤ i → i < length xs → nat_cmp (key (get_or xs i d)) v ≡ Greater)
+          → (i : ℕ) → i < length xs → key (get_or xs i d) ≡ v → (b : Bool) → ltb i k ≡ b → ⊥
+      by below above i m e true q = omega (arith, e, order i Less (below i d (omega arith) (ltb-true i k q)))
+      by below above i m e false q = omega (arith, e, order i Greater (above i d (ltb-false i k q) m))
 
-  -- a name of another size is another word
-  pub other_size : Within names w → e ≤ length t → ((entry_at w).size ≡ e - i → ⊥) → false ≡ same_word (spelled_at names w) (slice i e t)
-  other_size k l h =
-      rw (spelled_part) (same_lengths true names t (entry_at w).start ((entry_at w).start + (entry_at w).size) i e k.in_text l (λ q. h (omega (arith, q))))
+-- so the search finds the place of the first entry with the number
+module _ (ws : List ℕ) (v : ℕ) (rising : Rising ws) where
+  placed : (k : ℕ) → k < length ws → type_at ws k ≡ v → place_of ws v ≡ Some k
+  placed k l e =
+      let q = position_or_len_is (λ w. eqb (entry_at w).type_no v) ws k 0 (omega (arith, l)) (λ i m. ne_eqb (type_at ws i) v (λ z. absurd (omega (arith, z, e, rising i k m l)))) (λ m. eq-eqb (type_at ws k) v e) in
+      rw (q, lt-ltb k (length ws) l)
 
-  pub same_name : (a n : ℕ) (r : Bool) → a ≡ (entry_at w).start → n ≡ (entry_at w).size → r ≡ same_by true (slice a (a + n) names) (slice i e t) → r ≡ same_word (spelled_at names w) (slice i e t)
-  same_name a n r p q h = rw (spelled_part, ← p, ← q) h
+  unplaced : ((k : ℕ) → k < length ws → type_at ws k ≡ v → ⊥) → place_of ws v ≡ None
+  unplaced n =
+      let q = position_or_len_is (λ w. eqb (entry_at w).type_no v) ws (length ws) 0 (omega arith) (λ i m. ne_eqb (type_at ws i) v (n i m)) (λ m. absurd (omega (arith, m))) in
+      rw (q, le-ltb (length ws) (length ws) (omega arith))
 
--- the next entry's name is the token, or the search goes on after it
-module _ (names ws t : List ℕ) (k : ℕ) (l : k < length ws) (r : Bool) (q : r ≡ same_word (spelled_at names (get_or ws k 0)) t) where
-  next_name : name_number (names_of names (drop k ws)) t ≡ cond r (some (type_at ws k)) (name_number (names_of names (drop (k + 1) ws)) t)
-  next_name = rw (drop_next ws k l, q)
+  pub searched_place : (r : Result ℕ ℕ) → IsSearchInRange r (length ws) → IsBinarySearchResult (λ w. nat_cmp (entry_at w).type_no v) ws r → result_ok r ≡ place_of ws v
+  searched_place (Ok k) l h = let (m, e) = searched (λ w. (entry_at w).type_no) ws 0 v rising (Ok k) l h in sym (placed k m e)
+  searched_place (Err k) l h = sym (unplaced (searched (λ w. (entry_at w).type_no) ws 0 v rising (Err k) l h))
 
-  pub name_found : r ≡ true → name_number (names_of names (drop k ws)) t ≡ some (type_at ws k)
-  name_found e = rw (next_name, e)
+-- the place that was found says what the type's text is
+module _ (names ws : List ℕ) (v : ℕ) where
+  pub found_text : (k : ℕ) → place_of ws v ≡ Some k → (k < length ws) × (type_text_in (names_of names ws) v ≡ spelled_at names (get_or ws k 0))
+  found_text k e =
+      let (l, t, f) = position-Some (λ w. eqb (entry_at w).type_no v) ws k 0 e in
+      (l, text_found names ws v k l t f)
 
-  pub name_after : r ≡ false → name_number (names_of names (drop k ws)) t ≡ name_number (names_of names (drop (k + 1) ws)) t
-  name_after e = rw (next_name, e)
+  pub unfound_text : place_of ws v ≡ None → type_text_in (names_of names ws) v ≡ type_text v
+  unfound_text e = text_none names ws v (λ i l. fails_before_first test ws i 0 (by (position_or_len test ws) i l e))
+    where
+      test : ℕ → Bool
+      test w = eqb (entry_at w).type_no v
+
+      by : (n i : ℕ) → i < length ws → cond (ltb n (length ws)) (Some n) None ≡ None → i < n
+      by n i l e = on (ltb n (length ws)) refl e
+        where
+          on : (b : Bool) → ltb n (length ws) ≡ b → cond b (Some n) None ≡ None → i < n
+          on true q e = cc
+          on false q e = omega (arith, l, ltb-false n (length ws) q)
+
+-- an entry's name is short
+pub spelled_short : (names : List ℕ) (w : ℕ) → Within names w → length (spelled_at names w) ≤ 63
+spelled_short names w k = omega (arith, length-take (entry_at w).size (drop (entry_at w).start names), k.short)

@@ -1,6 +1,7 @@
 -- A catalogue's entries as numbers, and what they say of a lent text.
-use Rattle.std.specs.Prelude.{ℕ, zero, suc, ◌+◌, ◌/◌, ◌%◌, ◌<◌, ◌≤◌, ◌≡◌, cond, List, [], ◌∷◌, length, take, drop, get_or, eqb}
-use Rattle.std.proofs.Math.Option.{Option, none, some}
+use Rattle.std.specs.Prelude.{ℕ, ◌+◌, ◌/◌, ◌%◌, ◌<◌, ◌≤◌, ◌≡◌, cond, List, [], ◌∷◌, length, take, drop, get_or, eqb}
+use Rattle.std.specs.Prelude.{Option, None, Some}
+use Rattle.std.specs.List.{position}
 use Rattle.format.specs.Octets.{same_word}
 use Rattle.format.specs.Catalogue.{Entry, TypeName, known, catalogued}
 
@@ -35,12 +36,11 @@ pub record Within (names : List ℕ) (w : ℕ) : Type 0 where
   pub short : (entry_at w).size ≤ 63
   pub low : (entry_at w).type_no < 65536
 
--- how many entries stand before the first with the number v: all of them, if none has it
-abbrev pub place_of : List ℕ → ℕ → ℕ
-place_of [] v = zero
-place_of (w ∷ ws) v = cond (eqb (entry_at w).type_no v) zero (suc (place_of ws v))
+-- the place of the first entry with the number v
+abbrev pub place_of : List ℕ → ℕ → Option ℕ
+place_of ws v = position (λ w. eqb (entry_at w).type_no v) ws
 
 -- the number of the type whose name is t, case ignored
 abbrev pub name_number : List TypeName → List ℕ → Option ℕ
-name_number [] t = none
-name_number (m ∷ ms) t = cond (same_word m.spelled t) (some m.type_no) (name_number ms t)
+name_number [] t = None
+name_number (m ∷ ms) t = cond (same_word m.spelled t) (Some m.type_no) (name_number ms t)

@@ -3,6 +3,7 @@ use Prim.Native.Nat.{ℕ, ◌+◌, ◌≤◌, ◌<◌}
 use mathlib.Core.Path.{◌≡◌, refl, sym, ap, ◌∙◌}
 use mathlib.Core.Bool.{Bool, true, false, not, cond, ◌&&◌, ◌||◌, or-true}
 use mathlib.Core.List.{List}
+use Rattle.std.specs.Prelude.{None, Some}
 use native.Mathlib.Omega.{arith}
 use lib.ListN.{length, take, get_or, set}
 use lib.Seq.{get_or-set_same, get_or-set_other}
@@ -14,8 +15,8 @@ use Rattle.format.specs.Grammar.{starts_with_letter, is_name}
 use Rattle.format.specs.Catalogue.{is_type_number, good_alone}
 use Rattle.format.proofs.Lists.{and_left, and_right}
 use Rattle.catalogue.specs.Entries.{entry_at, spelled_at}
-use Rattle.catalogue_judge.specs.Judging.{word_from, type_at, good_at, bad_after, Known, Hashed}
-use Rattle.catalogue_judge.proofs.Words.{word_below}
+use Rattle.catalogue_judge.specs.Judging.{word_from, type_at, good_at, bad_after, Known, Hashed, Front}
+use Rattle.catalogue_judge.proofs.Words.{word_named}
 use Rattle.catalogue_judge.proofs.Entries.{number_at}
 use Rattle.catalogue_judge.proofs.Marks.{any_next, each_next}
 
@@ -38,32 +39,26 @@ module _ (names : List ℕ) (w : ℕ) (g : good_at names w ≡ true) where
       let b = and_left (leb (entry_at w).type_no 65535 && is_name (spelled_at names w)) (not (is_type_number (spelled_at names w))) a in
       leb-true (entry_at w).type_no 65535 (and_left (leb (entry_at w).type_no 65535) (is_name (spelled_at names w)) b)
 
--- what the number h of an entry's name, or 2^32, says of it
-pub no_number : (names : List ℕ) (w h : ℕ) → h ≡ number_at names w → h ≡ 72057594037927936 → good_at names w ≡ false
-no_number names w h q e = by (good_at names w) refl (sym q ∙ e)
+-- what the number of an entry's name, if there is one, says of it
+pub no_number : (names : List ℕ) (w : ℕ) → number_at names w ≡ None → good_at names w ≡ false
+no_number names w e = by (good_at names w) refl e
   where
-    by : (b : Bool) → good_at names w ≡ b → cond b (word_from 0 (spelled_at names w)) 72057594037927936 ≡ 72057594037927936 → b ≡ false
-    by true g z = absurd (omega (arith, word_below 0 (spelled_at names w) (omega arith) (good_named names w g)))
+    by : (b : Bool) → good_at names w ≡ b → cond b (word_from 0 (spelled_at names w)) None ≡ None → b ≡ false
+    by true g z = absurd (word_named 0 (spelled_at names w) (good_named names w g) z)
     by false g z = refl
 
 -- an entry that is good in itself, with the number of its name
 pub record Numbered (names : List ℕ) (w h : ℕ) : Type 0 where
   pub good : good_at names w ≡ true
-  pub below : h < 72057594037927936
   pub low : (entry_at w).type_no ≤ 65535
   pub known : Known names w h
 
-pub a_number : (names : List ℕ) (w h : ℕ) → h ≡ number_at names w → (h ≡ 72057594037927936 → ⊥) → Numbered names w h
-a_number names w h q n = by (good_at names w) refl q
+pub a_number : (names : List ℕ) (w h : ℕ) → number_at names w ≡ Some h → Numbered names w h
+a_number names w h e = by (good_at names w) refl e
   where
-    by : (b : Bool) → good_at names w ≡ b → h ≡ cond b (word_from 0 (spelled_at names w)) 72057594037927936 → Numbered names w h
-    by true g z = record {
-      good = g;
-      below = omega (arith, word_below 0 (spelled_at names w) (omega arith) (good_named names w g));
-      low = good_low names w g;
-      known = record { in_text = good_inside names w g; named = good_named names w g; number = z };
-    }
-    by false g z = absurd (n z)
+    by : (b : Bool) → good_at names w ≡ b → cond b (word_from 0 (spelled_at names w)) None ≡ Some h → Numbered names w h
+    by true g z = record { good = g; low = good_low names w g; known = record { in_text = good_inside names w g; named = good_named names w g; number = z } }
+    by false g z = let y : ◌≡◌ {A = ℕ} 0 1 = cc in absurd (omega arith)
 
 -- the first i entries: good and rising, with numbers below `low` and no lower bound; the numbers of their names are stored
 pub record Going (names ws hashes : List ℕ) (low i : ℕ) : Type 0 where
@@ -71,12 +66,9 @@ pub record Going (names ws hashes : List ℕ) (low i : ℕ) : Type 0 where
   pub reached : (m : ℕ) → any_of (λ v. leb m (entry_at v).type_no) (take i ws) ≡ ltb m low
   pub hashed : Hashed names ws hashes i
 
-pub going_none : (names ws hashes : List ℕ) → Going names ws hashes 0 0
-going_none names ws hashes = record {
-  good = λ k l. absurd (omega arith);
-  reached = λ m. sym (le-ltb m 0 (omega arith));
-  hashed = λ k l. absurd (omega arith);
-}
+-- entry i is the first bad one, of the first n
+pub stops_here : (names ws hashes : List ℕ) (n low i : ℕ) → Going names ws hashes low i → i < n → n ≤ length hashes → bad_after names ws i ≡ true → Front names ws hashes n i
+stops_here names ws hashes n low i g l f b = record { within = omega arith; fits = omega arith; good = g.good; bad = λ o. b; hashed = g.hashed }
 
 module _ (names ws hashes : List ℕ) (low i t : ℕ) (g : Going names ws hashes low i) (q : t ≡ (entry_at (get_or ws i 0)).type_no) where
   -- not above all earlier ones

@@ -3,4 +3,3 @@ pub mod Entries
 pub mod Fronts
 pub mod Marks
 pub mod Verdicts
-pub mod Answers

@@ -1,22 +1,22 @@
 -- Names that are the same as an earlier one: by their numbers, and by the marks that the numbers set.
 use Prim.Native.Nat.{ℕ, zero, suc, ◌+◌, ◌≤◌, ◌<◌}
 use mathlib.Core.Path.{◌≡◌, refl, sym, ap, ◌∙◌}
-use mathlib.Core.Bool.{Bool, true, false, ◌||◌, or-true}
+use mathlib.Core.Bool.{Bool, true, false, ◌||◌, or-true, true≢false}
 use mathlib.Core.List.{List, [], ◌∷◌, ◌++◌}
 use native.Mathlib.Omega.{arith}
 use native.Mathlib.Numerals.{add-one}
 use native.Mathlib.Nat.{mod-lt}
 use lib.ListN.{length, take, get_or, set}
-use lib.Seq.{slice, take-suc, get_or-set_same, get_or-set_other}
+use lib.Seq.{take-suc, get_or-set_same, get_or-set_other}
 use lib.Dec.{ltb, eqb}
 use borrow.Author.Tests.{ltb-true, ltb-false, eqb-true, eqb-false}
 use Rattle.format.specs.Lists.{any_of}
 use Rattle.format.specs.Octets.{same_word}
 use Rattle.format.proofs.Lists.{or_left, or_right}
-use Rattle.catalogue.specs.Entries.{entry_at, spelled_at}
+use Rattle.std.specs.Prelude.{Some}
+use Rattle.catalogue.specs.Entries.{spelled_at}
 use Rattle.catalogue_judge.specs.Judging.{mark_of, same_as, met_before, Known, Hashed}
 use Rattle.catalogue_judge.proofs.Words.{words_other}
-use Rattle.catalogue_judge.proofs.Entries.{spelled_part}
 
 pub take_next : (xs : List ℕ) (j : ℕ) → j < length xs → take (j + 1) xs ≡ take j xs ++ get_or xs j 0 ∷ []
 take_next xs j l = rw add-one (take-suc xs j 0 l)
@@ -37,9 +37,6 @@ module _ (f : ℕ → Bool) where
 
   pub any_next : (xs : List ℕ) (j : ℕ) → j < length xs → any_of f (take (j + 1) xs) ≡ any_of f (take j xs) || f (get_or xs j 0)
   any_next xs j l = ap (any_of f) (take_next xs j l) ∙ any_snoc (take j xs) (get_or xs j 0)
-
-  pub any_upto : (xs : List ℕ) (j k : ℕ) → j ≤ k → k ≤ j → any_of f (take j xs) ≡ any_of f (take k xs)
-  any_upto xs j k a b = let q : j ≡ k = omega arith in ap (λ i. any_of f (take i xs)) q
 
   any_at : (xs : List ℕ) (k j : ℕ) → j < k → k ≤ length xs → f (get_or xs j 0) ≡ true → any_of f (take k xs) ≡ true
   any_at [] k j h l e = absurd (omega arith)
@@ -76,12 +73,15 @@ each_next P k h p j l = by (ltb j k) refl
 
 -- the names of two entries
 module _ (names : List ℕ) (v x w y : ℕ) (p : Known names v x) (q : Known names w y) where
-  pub names_other : (x ≡ y → ⊥) → false ≡ same_word (spelled_at names v) (spelled_at names w)
-  names_other n = sym (words_other (spelled_at names v) (spelled_at names w) p.named q.named (λ e. n (p.number ∙ e ∙ sym q.number)))
+  some_same : Some x ≡ Some y → x ≡ y
+  some_same e = cc
 
-  pub names_part : (r : Bool) (a n b m : ℕ) → a ≡ (entry_at v).start → n ≡ (entry_at v).size → b ≡ (entry_at w).start → m ≡ (entry_at w).size
-      → r ≡ same_word (slice a (a + n) names) (slice b (b + m) names) → r ≡ same_word (spelled_at names v) (spelled_at names w)
-  names_part r a n b m i j k l e = e ∙ rw (spelled_part names v a n i j, spelled_part names w b m k l)
+  pub names_other : (x ≡ y → ⊥) → false ≡ same_word (spelled_at names v) (spelled_at names w)
+  names_other n = sym (words_other (spelled_at names v) (spelled_at names w) p.named q.named (λ e. n (some_same (sym p.number ∙ e ∙ q.number))))
+
+-- whether the names of two entries are the same, from the names as they are lent
+pub spelled_same : (names : List ℕ) (v w : ℕ) (x y : List ℕ) (r : Bool) → x ≡ spelled_at names v → y ≡ spelled_at names w → r ≡ same_word x y → r ≡ same_as names w v
+spelled_same names v w x y r p q e = e ∙ rw (p, q)
 
 -- entry k and the earlier ones
 module _ (names ws hashes : List ℕ) (k : ℕ) (l : k < length ws) (h : Hashed names ws hashes (suc k)) where
@@ -95,21 +95,21 @@ module _ (names ws hashes : List ℕ) (k : ℕ) (l : k < length ws) (h : Hashed 
   hash_none m e = apart_numbers (λ j o q. eqb-false (get_or hashes j 0) (get_or hashes k 0) (none_at (λ x. eqb x (get_or hashes k 0)) hashes k j o m e) q)
 
   -- where its mark is not set, it is the same as none
-  pub mark_none : (met : List ℕ) → ((j : ℕ) → j < k → get_or met (mark_of (get_or hashes j 0)) 0 ≡ 1) → get_or met (mark_of (get_or hashes k 0)) 0 ≡ 0 → met_before names ws k ≡ false
-  mark_none met m z = apart_numbers (λ j o q. let u : ◌≡◌ {A = ℕ} 1 0 = sym (m j o) ∙ ap (λ x. get_or met (mark_of x) 0) q ∙ z in absurd (omega arith))
+  pub mark_none : (met : List Bool) → ((j : ℕ) → j < k → get_or met (mark_of (get_or hashes j 0)) false ≡ true) → get_or met (mark_of (get_or hashes k 0)) false ≡ false → met_before names ws k ≡ false
+  mark_none met m z = apart_numbers (λ j o q. absurd (true≢false (sym (m j o) ∙ ap (λ x. get_or met (mark_of x) false) q ∙ z)))
 
 pub mark_below : (h : ℕ) → mark_of h < 4096
 mark_below h = mod-lt _ (omega arith)
 
 -- the marks of k names and one more
-pub marked_next : (hashes met : List ℕ) (k : ℕ) → length met ≡ 4096 → ((j : ℕ) → j < k → get_or met (mark_of (get_or hashes j 0)) 0 ≡ 1)
-    → (j : ℕ) → j < k + 1 → get_or (set met (mark_of (get_or hashes k 0)) 1) (mark_of (get_or hashes j 0)) 0 ≡ 1
+pub marked_next : (hashes : List ℕ) (met : List Bool) (k : ℕ) → length met ≡ 4096 → ((j : ℕ) → j < k → get_or met (mark_of (get_or hashes j 0)) false ≡ true)
+    → (j : ℕ) → j < k + 1 → get_or (set met (mark_of (get_or hashes k 0)) true) (mark_of (get_or hashes j 0)) false ≡ true
 marked_next hashes met k l m =
-    each_next (λ j. get_or (set met (mark_of (get_or hashes k 0)) 1) (mark_of (get_or hashes j 0)) 0 ≡ 1) k (λ j o. by j o (eqb (mark_of (get_or hashes j 0)) (mark_of (get_or hashes k 0))) refl) new
+    each_next (λ j. get_or (set met (mark_of (get_or hashes k 0)) true) (mark_of (get_or hashes j 0)) false ≡ true) k (λ j o. by j o (eqb (mark_of (get_or hashes j 0)) (mark_of (get_or hashes k 0))) refl) new
   where
-    new : get_or (set met (mark_of (get_or hashes k 0)) 1) (mark_of (get_or hashes k 0)) 0 ≡ 1
-    new = get_or-set_same met (mark_of (get_or hashes k 0)) 1 0 (omega (arith, mark_below (get_or hashes k 0)))
+    new : get_or (set met (mark_of (get_or hashes k 0)) true) (mark_of (get_or hashes k 0)) false ≡ true
+    new = get_or-set_same met (mark_of (get_or hashes k 0)) true false (omega (arith, mark_below (get_or hashes k 0)))
 
-    by : (j : ℕ) → j < k → (b : Bool) → eqb (mark_of (get_or hashes j 0)) (mark_of (get_or hashes k 0)) ≡ b → get_or (set met (mark_of (get_or hashes k 0)) 1) (mark_of (get_or hashes j 0)) 0 ≡ 1
-    by j o true e = ap (λ i. get_or (set met (mark_of (get_or hashes k 0)) 1) i 0) (eqb-true (mark_of (get_or hashes j 0)) (mark_of (get_or hashes k 0)) e) ∙ new
-    by j o false e = get_or-set_other met (mark_of (get_or hashes k 0)) (mark_of (get_or hashes j 0)) 1 0 (eqb-false (mark_of (get_or hashes j 0)) (mark_of (get_or hashes k 0)) e) ∙ m j o
+    by : (j : ℕ) → j < k → (b : Bool) → eqb (mark_of (get_or hashes j 0)) (mark_of (get_or hashes k 0)) ≡ b → get_or (set met (mark_of (get_or hashes k 0)) true) (mark_of (get_or hashes j 0)) false ≡ true
+    by j o true e = ap (λ i. get_or (set met (mark_of (get_or hashes k 0)) true) i false) (eqb-true (mark_of (get_or hashes j 0)) (mark_of (get_or hashes k 0)) e) ∙ new
+    by j o false e = get_or-set_other met (mark_of (get_or hashes k 0)) (mark_of (get_or hashes j 0)) true false (eqb-false (mark_of (get_or hashes j 0)) (mark_of (get_or hashes k 0)) e) ∙ m j o

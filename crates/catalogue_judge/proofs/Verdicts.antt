@@ -3,7 +3,7 @@ use Prim.Native.Nat.{ℕ, zero, suc, ◌+◌, ◌≤◌, ◌<◌, min}
 use mathlib.Core.Path.{◌≡◌, refl, sym, ap, ◌∙◌}
 use mathlib.Core.Bool.{Bool, true, false, not, cond, ◌&&◌, ◌||◌}
 use mathlib.Core.List.{List, [], ◌∷◌, ◌++◌}
-use mathlib.Core.Option.{Option, none}
+use Rattle.std.specs.Prelude.{Option, None}
 use native.Mathlib.Omega.{arith}
 use native.Mathlib.Numerals.{add-one}
 use lib.ListN.{length, take, drop, get_or, length-take}
@@ -14,8 +14,8 @@ use Rattle.format.specs.Lists.{◌>>=◌, provided, any_of}
 use Rattle.format.specs.Octets.{same_word}
 use Rattle.format.specs.Catalogue.{TypeName, good_alone, clashes, if_good, entry_after, Catalogued, bad_entry, known, after_entry, catalogued_from, catalogued}
 use Rattle.format.proofs.Lists.{drop_next, drop_none}
-use Rattle.catalogue.specs.Entries.{entry_at, entries_at, spelled_at, names_of}
-use Rattle.catalogue_judge.specs.Judging.{verdict_of, stopped_at, type_at, bad_after, met_before, Front, Settled}
+use Rattle.catalogue.specs.Entries.{entry_at, entries_at, spelled_at, names_of, Listed}
+use Rattle.catalogue_judge.specs.Judging.{stopped_at, type_at, bad_after, met_before, Front, Settled}
 use Rattle.catalogue_judge.proofs.Marks.{take_next}
 
 -- the names of entries
@@ -52,12 +52,12 @@ entry_after_lem names ws k =
     w : ℕ
     w = get_or ws k 0
 
-    inside : (a : Bool) (f : List ℕ → Option TypeName) → (provided a (spelled_at names w) >>= f) ≡ cond a (f (spelled_at names w)) none
+    inside : (a : Bool) (f : List ℕ → Option TypeName) → (provided a (spelled_at names w) >>= f) ≡ cond a (f (spelled_at names w)) None
     inside true f = refl
     inside false f = refl
 
     by : (a g c r m : Bool) → c ≡ r || m
-        → cond a (provided (g && not c) (type_at names w)) none ≡ provided (not ((not (a && g) || r) || m)) (type_at names w)
+        → cond a (provided (g && not c) (type_at names w)) None ≡ provided (not ((not (a && g) || r) || m)) (type_at names w)
     by true true c true m e = rw e
     by true true c false true e = rw e
     by true true c false false e = rw e
@@ -74,14 +74,14 @@ module _ (names ws : List ℕ) (k : ℕ) where
 
   -- one step: the entry after k others, and what follows
   step : k < length ws → stage names ws k
-      ≡ after_entry (cond (ltb k 512) (provided (not (bad_after names ws k || met_before names ws k)) (type_at names (get_or ws k 0))) none) (suc k)
+      ≡ after_entry (cond (ltb k 512) (provided (not (bad_after names ws k || met_before names ws k)) (type_at names (get_or ws k 0))) None) (suc k)
       (λ n. catalogued_from (names_of names (take k ws) ++ n ∷ []) names (entries_at (drop (k + 1) ws)))
   unfolding catalogued_from
   step l =
       ap (λ es. catalogued_from (names_of names (take k ws)) names (entries_at es)) (drop_next ws k l)
-      ∙ ap (λ i. after_entry (cond (ltb i 512) (entry_after (names_of names (take k ws)) names (entry_at (get_or ws k 0))) none) (suc i)
+      ∙ ap (λ i. after_entry (cond (ltb i 512) (entry_after (names_of names (take k ws)) names (entry_at (get_or ws k 0))) None) (suc i)
       (λ n. catalogued_from (names_of names (take k ws) ++ n ∷ []) names (entries_at (drop (k + 1) ws)))) (count (omega arith))
-      ∙ ap (λ o. after_entry (cond (ltb k 512) o none) (suc k) (λ n. catalogued_from (names_of names (take k ws) ++ n ∷ []) names (entries_at (drop (k + 1) ws)))) (entry_after_lem names ws k)
+      ∙ ap (λ o. after_entry (cond (ltb k 512) o None) (suc k) (λ n. catalogued_from (names_of names (take k ws) ++ n ∷ []) names (entries_at (drop (k + 1) ws)))) (entry_after_lem names ws k)
 
   stage_on : k < length ws → k < 512 → bad_after names ws k ≡ false → met_before names ws k ≡ false → stage names ws k ≡ stage names ws (k + 1)
   stage_on l m a b =
@@ -91,7 +91,7 @@ module _ (names ws : List ℕ) (k : ℕ) where
   stage_bad : k < length ws → bad_after names ws k || met_before names ws k ≡ true → stage names ws k ≡ bad_entry (suc k)
   stage_bad l e = step l ∙ rw e (by (ltb k 512))
     where
-      by : (b : Bool) → after_entry (cond b none none) (suc k) (λ n. catalogued_from (names_of names (take k ws) ++ n ∷ []) names (entries_at (drop (k + 1) ws))) ≡ bad_entry (suc k)
+      by : (b : Bool) → after_entry (cond b None None) (suc k) (λ n. catalogued_from (names_of names (take k ws) ++ n ∷ []) names (entries_at (drop (k + 1) ws))) ≡ bad_entry (suc k)
       by true = refl
       by false = refl
 
@@ -110,9 +110,13 @@ stage_all names ws (suc r) l m a b =
     stage_all names ws r (omega arith) (omega arith) (λ k o. a k (omega arith)) (λ k o. b k (omega arith))
     ∙ stage_on names ws r (omega arith) (omega arith) (a r (omega arith)) (b r (omega arith)) ∙ ap (stage names ws) (add-one r)
 
+-- what is settled of m entries, where they are n
+pub Settled-count : (names ws : List ℕ) (m n r : ℕ) → m ≡ n → Settled names ws m r → Settled names ws n r
+Settled-count names ws m n r e s = rw (← e) s
+
 -- what the two passes over the entries say together
 module _ (names ws hashes : List ℕ) (n r : ℕ) (f : Front names ws hashes (min (length ws) 512) n) (s : Settled names ws n r) where
-  pub few_good : r ≤ 512
+  few_good : r ≤ 512
   few_good = omega (arith, f.within, s.within)
 
   inside : r ≤ length ws
@@ -145,13 +149,10 @@ module _ (names ws hashes : List ℕ) (n r : ℕ) (f : Front names ws hashes (mi
       by false e = stage_end names ws r (ltb-false r (length ws) e)
 
 -- the answer
-pub none_bad : (names ws : List ℕ) → length ws ≡ 0 → catalogued names (entries_at ws) ≡ verdict_of 0 (names_of names ws)
+pub none_bad : (names ws : List ℕ) → length ws ≡ 0 → Listed names ws
 unfolding catalogued_from
 none_bad names [] e = refl
 none_bad names (w ∷ ws) e = absurd (omega arith)
 
-pub one_bad : (names ws : List ℕ) (r : ℕ) → r < length ws → catalogued names (entries_at ws) ≡ stopped_at r names ws → catalogued names (entries_at ws) ≡ verdict_of (r + 1) (names_of names ws)
-one_bad names ws r l e = e ∙ rw (lt-ltb r (length ws) l, add-one)
-
-pub all_good : (names ws : List ℕ) (r : ℕ) → length ws ≤ r → catalogued names (entries_at ws) ≡ stopped_at r names ws → catalogued names (entries_at ws) ≡ verdict_of 0 (names_of names ws)
+pub all_good : (names ws : List ℕ) (r : ℕ) → length ws ≤ r → catalogued names (entries_at ws) ≡ stopped_at r names ws → Listed names ws
 all_good names ws r l e = e ∙ rw (le-ltb r (length ws) l)

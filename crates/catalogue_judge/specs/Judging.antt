@@ -1,14 +1,9 @@
 -- The first bad entry of a catalogue: what the code keeps of the entries before it.
-use Rattle.std.specs.Prelude.{ℕ, zero, suc, ◌+◌, ◌*◌, ◌/◌, ◌%◌, ◌≤◌, ◌<◌, ◌≡◌, Bool, true, false, not, cond, ◌&&◌, ◌||◌, List, [], ◌∷◌, length, take, get_or, leb, ltb}
+use Rattle.std.specs.Prelude.{ℕ, zero, suc, ◌+◌, ◌*◌, ◌/◌, ◌%◌, ◌≤◌, ◌<◌, ◌≡◌, Bool, true, false, not, cond, ◌&&◌, ◌||◌, List, [], ◌∷◌, length, take, get_or, leb, ltb, Option, None, Some}
 use Rattle.format.specs.Lists.{any_of, all_of}
 use Rattle.format.specs.Octets.{name_octet, lowered, same_word}
 use Rattle.format.specs.Catalogue.{TypeName, good_alone, Catalogued, bad_entry, known}
 use Rattle.catalogue.specs.Entries.{entry_at, spelled_at, names_of}
-
--- the answer as a verdict: the place of the first bad entry, from 1, or 0 if none is bad
-abbrev pub verdict_of : ℕ → List TypeName → Catalogued
-verdict_of zero c = known c
-verdict_of (suc i) c = bad_entry (suc i)
 
 -- the verdict where the first r entries are good, and the next, if there is one, is not
 abbrev pub stopped_at : ℕ → List ℕ → List ℕ → Catalogued
@@ -31,10 +26,10 @@ folded_table = folded_from 0 256
 abbrev pub mixed : ℕ → ℕ → ℕ
 mixed h x = (h * 129 + x) % 72057594037927936
 
--- the number of a word that begins with the number h: the same for words that are the same but for case; 2^56 if it is no name
-abbrev pub word_from : ℕ → List ℕ → ℕ
-word_from h [] = h
-word_from h (x ∷ t) = cond (name_octet x) (word_from (mixed h (lowered x)) t) 72057594037927936
+-- the number of a word that begins with the number h: the same for words that are the same but for case; none if it is no name
+abbrev pub word_from : ℕ → List ℕ → Option ℕ
+word_from h [] = Some h
+word_from h (x ∷ t) = cond (name_octet x) (word_from (mixed h (lowered x)) t) None
 
 -- which of 4,096 marks a word with that number sets
 abbrev pub mark_of : ℕ → ℕ
@@ -64,7 +59,7 @@ met_before names ws k = any_of (same_as names (get_or ws k 0)) (take k ws)
 pub record Known (names : List ℕ) (w h : ℕ) : Type 0 where
   pub in_text : (entry_at w).start + (entry_at w).size ≤ length names
   pub named : all_of name_octet (spelled_at names w) ≡ true
-  pub number : h ≡ word_from 0 (spelled_at names w)
+  pub number : word_from 0 (spelled_at names w) ≡ Some h
 
 -- the numbers of the first n names
 abbrev pub Hashed : List ℕ → List ℕ → List ℕ → ℕ → Type 0

@@ -1,3 +1,4 @@
 pub mod Rows
 pub mod Parallel
 pub mod Whole
+pub mod Places

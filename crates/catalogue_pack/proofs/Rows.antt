@@ -1,5 +1,5 @@
 -- Lists of entries and of their numbers.
-use Prim.Native.Nat.{ℕ, zero, suc, ◌+◌, ◌/◌, ◌%◌, ◌≤◌, ◌<◌}
+use Prim.Native.Nat.{ℕ, zero, suc, ◌+◌, ◌/◌, ◌%◌, ◌≤◌, ◌<◌, min}
 use mathlib.Core.Path.{◌≡◌, refl, ap, ◌∙◌, subst}
 use mathlib.Core.List.{List, [], ◌∷◌, ◌++◌}
 use native.Mathlib.Omega.{arith}
@@ -8,15 +8,11 @@ use Rattle.format.specs.Catalogue.{Entry}
 use Rattle.catalogue.specs.Entries.{entry_at, entries_at}
 use Rattle.catalogue_pack.specs.declared.Entry.{Entry as Lent}
 use Rattle.catalogue_pack.specs.Place.{no_lent}
-use Rattle.catalogue_pack.specs.Packed.{entry_of, entries_of, pack_of, packs, Fitting, AllFit, packed_in, room_for, Packed}
+use Rattle.catalogue_pack.specs.Packed.{entry_of, lent_of, entries_of, pack_of, packs, Fitting, AllFit, packed_in, room_for, Packed}
 
 -- what stands past the end
 abbrev pub no_entry : Entry
 no_entry = entry_of 0 0 0
-
--- the entry of the struct at a place
-abbrev pub lent_of : Lent → Entry
-lent_of e = entry_of e.number e.start e.length
 
 pub lent_at : (ys : List Lent) (i : ℕ) → get_or (entries_of ys) i no_entry ≡ lent_of (get_or ys i no_lent)
 lent_at [] i = refl
@@ -40,20 +36,20 @@ fit_suc [] i l a f = absurd (omega arith)
 fit_suc (e ∷ es) zero l a f = (f, tt)
 fit_suc (e ∷ es) (suc i) l a f = (a.0, fit_suc es i (omega arith) a.1 f)
 
--- the next entry is e, and its number is stored
-module _ (es : List Entry) (i : ℕ) (e : Entry) (l : i < length es) (q : get_or es i no_entry ≡ e) where
-  pub next_packed : (xs : List ℕ) → i < length xs → set (packed_in es xs i) i (pack_of e) ≡ packed_in es xs (i + 1)
-  next_packed xs m = let s : suc i ≡ i + 1 = omega arith in rw (← s, ← q) (next_suc es xs i l m)
+-- the first i entries stand in the array as numbers, and fit
+abbrev pub Stored : List Entry → List ℕ → List ℕ → ℕ → Type 0
+Stored es before raw i = (raw ≡ packed_in es before i) × AllFit (take i es)
 
-  pub next_fit : AllFit (take i es) → Fitting e → AllFit (take (i + 1) es)
-  next_fit a f = let s : suc i ≡ i + 1 = omega arith in rw (← s) (fit_suc es i l a (rw q f))
+-- the next entry is e, and its number is stored
+pub next_stored : (es : List Entry) (before raw : List ℕ) (i : ℕ) (e : Entry) (w : ℕ) → i < length es → i < length before → get_or es i no_entry ≡ e → w ≡ pack_of e → Fitting e
+    → Stored es before raw i → Stored es before (set raw i w) (i + 1)
+next_stored es before raw i e w l m q v f (s, a) =
+    let z : suc i ≡ i + 1 = omega arith in
+    (rw (s, v, ← z, ← q) (next_suc es before i l m), rw (← z) (fit_suc es i l a (rw q f)))
 
 -- all are packed, or 513
-pub all_packed : (es : List Entry) (i : ℕ) → i ≤ length es → i ≤ 513 → length es ≤ i → i ≡ room_for es
-all_packed es i a b c = omega (arith, length-take 513 es)
-
-pub full_packed : (es : List Entry) (i : ℕ) → i ≤ length es → i ≤ 513 → 513 ≤ i → i ≡ room_for es
-full_packed es i a b c = omega (arith, length-take 513 es)
+pub all_packed : (es : List Entry) (before raw : List ℕ) (n : ℕ) → n ≡ min (length es) 513 → Stored es before raw n → Packed es before raw n
+all_packed es before raw n q (s, a) = record { count = omega (arith, q, length-take 513 es); numbers = s; fit = a }
 
 -- the numbers of the first k entries, or of all, whatever stands after them
 fronts : (k : ℕ) (es : List Entry) (l : List ℕ) → take (length (take k es)) (packs (take (length (take k es)) es) ++ l) ≡ packs (take k es)

@@ -7,10 +7,14 @@ use Rattle.catalogue_pack.specs.declared.Entry.{Entry as Lent}
 abbrev pub entry_of : ℕ → ℕ → ℕ → Entry
 entry_of number start size = record { type_no = number; start = start; size = size }
 
+-- the entry of a struct
+abbrev pub lent_of : Lent → Entry
+lent_of e = entry_of e.number e.start e.length
+
 -- the entries of structs
 abbrev pub entries_of : List Lent → List Entry
 entries_of [] = []
-entries_of (e ∷ es) = entry_of e.number e.start e.length ∷ entries_of es
+entries_of (e ∷ es) = lent_of e ∷ entries_of es
 
 -- the entries of parallel lists, as many as the shortest has
 abbrev pub parallel : List ℕ → List ℕ → List ℕ → List Entry

@@ -1,12 +1,8 @@
-use Rattle.catalogue_judge.proofs.Verdicts.{few_good, stops}
 use native.Mathlib.Omega.{arith}
+use lib.ListN.{length-take}
+use Rattle.catalogue_judge.proofs.Verdicts.{Settled-count, stops}
 use Rattle.catalogue_judge.proofs.good_before.Goals as goal
 
-pub first_again-requires : goal.first_again-requires
-first_again-requires c =
-    (c.front-n.ensures.fits, omega (arith, c.front-n.ensures.within), c.front-n.ensures.hashed)
-
-pub returns : goal.returns
-returns c =
-    let f = c.front-n.ensures in
-    (few_good _ _ _ _ _ f c.first_again.ensures, stops _ _ _ _ _ f c.first_again.ensures)
+pub returns-clause-stopped : goal.returns-clause-stopped
+returns-clause-stopped c =
+    stops _ _ _ c.front-n.result _ c.front-n.ensures (Settled-count c.args.names.now c.args.entries.now _ _ _ (omega (arith, length-take c.front-n.result c.front-n.new.hashes, c.front-n.ensures.fits)) c.first_again.ensures)

@@ -1,19 +1,13 @@
-use Rattle.catalogue_judge.proofs.Verdicts.{none_bad, one_bad, all_good}
-use native.Mathlib.Omega.{arith}
-use borrow.Author.Rules.{rules}
+use mathlib.Core.Path.{sym, ◌∙◌}
+use lib.ListN.{length}
+use borrow.Author.Tests.{eqb-true}
+use Rattle.catalogue_judge.proofs.Verdicts.{none_bad, all_good}
+use Rattle.catalogue_judge.proofs.judged.Goals.{then-not-is_empty+else-k-entries, else-not-is_empty}
 use Rattle.catalogue_judge.proofs.judged.Goals as goal
 
-pub returns-then-entries-eq0 : goal.returns-then-entries-eq0
-returns-then-entries-eq0 c =
-    (none_bad c.args.names.now c.args.entries.now c.if-entries-eq0.true, search rules)
-
-pub overflow_add-result : goal.overflow_add-result
-overflow_add-result c = omega (arith, c.good_before-k.ensures.0)
-
-pub returns-then-k-entries : goal.returns-then-k-entries
-returns-then-k-entries c =
-    (one_bad c.args.names.now c.args.entries.now _ c.if-k-entries.true c.good_before-k.ensures.1, omega (arith, c.good_before-k.ensures.0))
-
-pub returns : goal.returns
-returns c =
-    (all_good c.args.names.now c.args.entries.now _ c.if-k-entries.false c.good_before-k.ensures.1, search rules)
+pub invariant_of-result : goal.invariant_of-result
+invariant_of-result c =
+    elim c.if-not-is_empty.branch [
+      | then-not-is_empty+else-k-entries w ↦ record { listed = all_good c.args.names.now c.args.entries.now w.good_before-k.result w.if-k-entries.false w.good_before-k.ensures.stopped }
+      | else-not-is_empty w ↦ record { listed = none_bad c.args.names.now c.args.entries.now (eqb-true (length c.args.entries.now) 0 (sym c.is_empty.ensures ∙ w.if-not-is_empty.false)) }
+    ]

@@ -1,54 +1,20 @@
-use Prim.Native.Nat.{◌-◌}
-use mathlib.Core.Path.{refl, ap, ◌∙◌}
+use mathlib.Core.Path.{sym, ap, ◌∙◌}
 use native.Mathlib.Nat.{mod-lt}
-use lib.ListN.{get_or}
-use Rattle.catalogue_judge.proofs.Words.{octet_held, word_off, word_on, word_end}
 use native.Mathlib.Omega.{arith}
-use borrow.Author.Rules.{rules}
+use lib.ListN.{get_or}
+use Rattle.catalogue_judge.specs.Judging.{folded_table}
+use Rattle.catalogue_judge.proofs.Words.{word_off, word_on}
 use Rattle.catalogue_judge.proofs.word.Goals as goal
-
-pub loop-i-init : goal.loop-i-init
-loop-i-init c = (search rules, search rules, refl)
-
-pub overflow_cast-f : goal.overflow_cast-f
-overflow_cast-f c =
-    omega (arith, c.shared_slice_known-1.given c.loop-i.i)
-
-pub bounds-table-names : goal.bounds-table-names
-bounds-table-names c =
-    omega (arith, c.shared_slice_known-1.given c.loop-i.i)
 
 pub returns-then-f-eq0 : goal.returns-then-f-eq0
 returns-then-f-eq0 c =
-    word_off c.args.names.now c.loop-i.i c.args.e c.loop-i.h _ c.loop-i-test.true c.requires.2
-    (c.shared_slice_known-1.given c.loop-i.i).fits (ap (λ t. get_or t (get_or c.args.names.now c.loop-i.i 0) 0) c.requires.0) c.if-f-eq0.true
-    ∙ c.loop-i.invariant.2
+    sym (word_off c.args.t.now c.loop-b.b-index c.loop-b.h _ c.loop-b-test.true (c.type_inv.t c.loop-b.b-index).fits (ap (λ l. get_or l c.from.result 0) c.requires ∙ ap (λ x. get_or folded_table x 0) c.from.ensures) c.if-f-eq0.true)
+    ∙ c.loop-b.invariant.1
 
-pub overflow_cast-h : goal.overflow_cast-h
-overflow_cast-h c =
-    omega (
-      arith,
-      octet_held c.args.table.now (get_or c.args.names.now c.loop-i.i 0) c.requires.0
-          (c.type_inv.names c.loop-i.i).fits,
-    )
-
-pub overflow_add-h : goal.overflow_add-h
-overflow_add-h c =
-    omega (
-      arith,
-      octet_held c.args.table.now (get_or c.args.names.now c.loop-i.i 0) c.requires.0
-          (c.type_inv.names c.loop-i.i).fits,
-    )
-
-pub loop-i-preserved : goal.loop-i-preserved
-loop-i-preserved c = (
-  search rules,
+pub loop-b-preserved : goal.loop-b-preserved
+loop-b-preserved c = (
   mod-lt _ (omega arith),
-  word_on c.args.names.now c.loop-i.i c.args.e c.loop-i.h _ c.loop-i-test.true c.requires.2
-      (c.type_inv.names c.loop-i.i).fits (ap (λ t. get_or t (get_or c.args.names.now c.loop-i.i 0) 0) c.requires.0) c.if-f-eq0.false
-      ∙ c.loop-i.invariant.2,
+  rw (c.from-in-loop-b.ensures)
+      (word_on c.args.t.now c.loop-b.b-index c.loop-b.h _ c.loop-b-test.true (c.type_inv.t c.loop-b.b-index).fits (ap (λ l. get_or l c.from.result 0) c.requires ∙ ap (λ x. get_or folded_table x 0) c.from.ensures) c.if-f-eq0.false)
+      ∙ c.loop-b.invariant.1,
 )
-
-pub returns : goal.returns
-returns c =
-    word_end c.args.names.now c.loop-i.i c.args.e c.loop-i.h c.loop-i-test.false ∙ c.loop-i.invariant.2
