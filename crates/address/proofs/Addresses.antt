@@ -3,7 +3,7 @@ use Prim.Native.Nat.{ℕ, ◌<◌}
 use mathlib.Core.Path.{◌≡◌, refl, ap, ◌∙◌}
 use mathlib.Core.Bool.{Bool, true, false}
 use mathlib.Core.List.{List, [], ◌∷◌, ◌++◌, map}
-use mathlib.Core.Option.{Option, none, some}
+use Rattle.std.specs.Prelude.{Option, None, Some}
 use native.Mathlib.Nat.{mod-eq_of_lt}
 use lib.Dec.{eqb}
 use lib.ListN.{length, length-map}
@@ -18,29 +18,29 @@ use Rattle.address.specs.Part.{octets_of, piece_of, joined, parts_by, parts_of}
 use Rattle.address.proofs.Numbers.{cons_some, pair_octet, small_octet}
 
 module _ (f : List ℕ → Option ℕ) where
-  each_octets : (w : ℕ) (ts : List (List ℕ)) → each_of (λ t. octets_of w (f t)) ts ≡ (each_of f ts >>= λ xs. some (map (digits 256 w) xs))
+  each_octets : (w : ℕ) (ts : List (List ℕ)) → each_of (λ t. octets_of w (f t)) ts ≡ (each_of f ts >>= λ xs. Some (map (digits 256 w) xs))
   each_octets w [] = refl
   each_octets w (t ∷ ts) = ap (cons_both (octets_of w (f t))) (each_octets w ts) ∙ by (f t) (each_of f ts)
     where
-      by : (o : Option ℕ) (p : Option (List ℕ)) → cons_both (octets_of w o) (p >>= λ xs. some (map (digits 256 w) xs)) ≡ (cons_both o p >>= λ xs. some (map (digits 256 w) xs))
-      by none p = refl
-      by (some x) none = refl
-      by (some x) (some xs) = refl
+      by : (o : Option ℕ) (p : Option (List ℕ)) → cons_both (octets_of w o) (p >>= λ xs. Some (map (digits 256 w) xs)) ≡ (cons_both o p >>= λ xs. Some (map (digits 256 w) xs))
+      by None p = refl
+      by (Some x) None = refl
+      by (Some x) (Some xs) = refl
 
-  joined_octets : (w k : ℕ) (ts : List (List ℕ)) → joined k (each_of (λ t. octets_of w (f t)) ts) ≡ (exactly k (each_of f ts) >>= λ xs. some (flat (map (digits 256 w) xs)))
+  joined_octets : (w k : ℕ) (ts : List (List ℕ)) → joined k (each_of (λ t. octets_of w (f t)) ts) ≡ (exactly k (each_of f ts) >>= λ xs. Some (flat (map (digits 256 w) xs)))
   joined_octets w k ts = ap (joined k) (each_octets w ts) ∙ by (each_of f ts)
     where
-      on : (b : Bool) (xs : List ℕ) → provided b (flat (map (digits 256 w) xs)) ≡ (provided b xs >>= λ xs. some (flat (map (digits 256 w) xs)))
+      on : (b : Bool) (xs : List ℕ) → provided b (flat (map (digits 256 w) xs)) ≡ (provided b xs >>= λ xs. Some (flat (map (digits 256 w) xs)))
       on true xs = refl
       on false xs = refl
 
-      by : (o : Option (List ℕ)) → joined k (o >>= λ xs. some (map (digits 256 w) xs)) ≡ (exactly k o >>= λ xs. some (flat (map (digits 256 w) xs)))
-      by none = refl
-      by (some xs) = ap (λ n. provided (eqb n k) (flat (map (digits 256 w) xs))) (length-map xs (digits 256 w)) ∙ on (eqb (length xs) k) xs
+      by : (o : Option (List ℕ)) → joined k (o >>= λ xs. Some (map (digits 256 w) xs)) ≡ (exactly k o >>= λ xs. Some (flat (map (digits 256 w) xs)))
+      by None = refl
+      by (Some xs) = ap (λ n. provided (eqb n k) (flat (map (digits 256 w) xs))) (length-map xs (digits 256 w)) ∙ on (eqb (length xs) k) xs
 
   -- each number is an octet
-  module _ (h : (t : List ℕ) (v : ℕ) → f t ≡ some v → v < 256) where
-    pub each_octet : (ts : List (List ℕ)) (xs : List ℕ) → each_of f ts ≡ some xs → Below 256 xs
+  module _ (h : (t : List ℕ) (v : ℕ) → f t ≡ Some v → v < 256) where
+    pub each_octet : (ts : List (List ℕ)) (xs : List ℕ) → each_of f ts ≡ Some xs → Below 256 xs
     each_octet [] xs e = let q : [] ≡ xs = cc in rw (← q) tt
     each_octet (t ∷ ts) xs e = let (x, ys, a, b, q) = cons_some (f t) (each_of f ts) xs e in rw (← q) (h t x a, each_octet ts ys b)
 
@@ -51,13 +51,13 @@ module _ (f : List ℕ → Option ℕ) where
     one_octet : (k : ℕ) (ts : List (List ℕ)) → joined k (each_of (λ t. octets_of 1 (f t)) ts) ≡ exactly k (each_of f ts)
     one_octet k ts = joined_octets 1 k ts ∙ by (each_of f ts) refl
       where
-        on : (b : Bool) (xs : List ℕ) → Below 256 xs → (provided b xs >>= λ xs. some (flat (map (digits 256 1) xs))) ≡ provided b xs
-        on true xs l = ap some (flat_octets xs l)
+        on : (b : Bool) (xs : List ℕ) → Below 256 xs → (provided b xs >>= λ xs. Some (flat (map (digits 256 1) xs))) ≡ provided b xs
+        on true xs l = ap Some (flat_octets xs l)
         on false xs l = refl
 
-        by : (o : Option (List ℕ)) → each_of f ts ≡ o → (exactly k o >>= λ xs. some (flat (map (digits 256 1) xs))) ≡ exactly k o
-        by none e = refl
-        by (some xs) e = on (eqb (length xs) k) xs (each_octet ts xs e)
+        by : (o : Option (List ℕ)) → each_of f ts ≡ o → (exactly k o >>= λ xs. Some (flat (map (digits 256 1) xs))) ≡ exactly k o
+        by None e = refl
+        by (Some xs) e = on (eqb (length xs) k) xs (each_octet ts xs e)
 
 flat_groups : (gs : List ℕ) → flat (map (digits 256 2) gs) ≡ group_octets gs
 flat_groups [] = refl
@@ -75,6 +75,6 @@ pub aa_parts : (t : List ℕ) → parts_of Group 4 t ≡ read_aa t
 unfolding parts_by piece_of
 aa_parts t = joined_octets group_of 2 4 (split_on 58 t) ∙ by (exactly 4 (each_of group_of (split_on 58 t)))
   where
-    by : (o : Option (List ℕ)) → (o >>= λ gs. some (flat (map (digits 256 2) gs))) ≡ (o >>= λ gs. some (group_octets gs))
-    by none = refl
-    by (some gs) = ap some (flat_groups gs)
+    by : (o : Option (List ℕ)) → (o >>= λ gs. Some (flat (map (digits 256 2) gs))) ≡ (o >>= λ gs. Some (group_octets gs))
+    by None = refl
+    by (Some gs) = ap Some (flat_groups gs)

@@ -1,7 +1,9 @@
-pub mod GroupTexts
-pub mod ZeroRuns
 pub mod Numbers
+pub mod Marks
 pub mod Parts
 pub mod Addresses
 pub mod Doubled
 pub mod Groups
+pub mod GroupTexts
+pub mod Texts
+pub mod ZeroRuns

@@ -3,35 +3,25 @@ use Prim.Native.Nat.{ℕ, zero, suc, ◌+◌, ◌*◌, ◌-◌, ◌^◌, ◌≤�
 use mathlib.Core.Path.{◌≡◌, refl, sym, ap, ◌∙◌}
 use mathlib.Core.Bool.{Bool, true, false, not, cond}
 use mathlib.Core.List.{List, [], ◌∷◌, ◌++◌, map}
-use mathlib.Core.Option.{Option, none, some}
+use Rattle.std.specs.Prelude.{Option, None, Some}
 use native.Mathlib.Omega.{arith}
+use native.Mathlib.Numerals.{add-one}
 use native.Mathlib.Nat.{pow-suc, pow-le-pow_right}
-use lib.ListN.{length, get_or, length-append, length-map, replicate, length-replicate}
-use lib.Seq.{slice, length-slice}
+use lib.ListN.{length, drop, get_or, length-append, length-map, replicate, length-replicate}
 use lib.Dec.{leb, ltb, eqb, lit<}
-use borrow.Author.Tests.{le-leb, lt-leb, leb-true, lt-ltb, le-ltb, ltb-true, eqb-true, eq-eqb, ne_eqb}
+use borrow.Author.Tests.{leb-true, lt-ltb, ltb-true, eqb-true, ne_eqb}
 use Rattle.format.specs.Lists.{◌>>=◌, provided, cons_both, each_of}
 use Rattle.format.specs.Octets.{Below, digit, letter, lowered, in_range, same_octets}
 use Rattle.format.specs.Digits.{digits, number_from, number, without_zeros, upper_digit, digit_value}
 use Rattle.format.specs.Number.{decimal, decimal_of, below}
 use Rattle.format.specs.Hex.{hex_pair}
-use Rattle.format.specs.Address.{small_number, group_of}
-use Rattle.format.proofs.Lists.{and_left, and_right, bind_some, provided_some, same_octets_lem, octets_same}
-use Rattle.format.proofs.Finite.{all_same}
+use Rattle.format.specs.Address.{small_number}
+use Rattle.format.proofs.Lists.{and_left, and_right, bind_some, provided_some, drop_next, drop_none, same_octets_lem, octets_same}
 use Rattle.format.proofs.Digits.{digits_length, digits_number, zeros_length, number_bound}
-use Rattle.octets.proofs.Slices.{next, none as no-octet}
-use Rattle.octets.specs.declared.Number.{Number}
-use Rattle.octets.specs.declared.Number.TheVariants.{Value, Fault}
-use Rattle.octets.specs.Octets.{number_of}
-use Rattle.octets.proofs.Numbers.{value_in, value_each, number_none, number_some}
+use Rattle.octets.proofs.Numbers.{value_in, value_each}
 use Rattle.address.specs.declared.part.PartForm.{PartForm}
 use Rattle.address.specs.declared.part.PartForm.TheVariants.{Pair, Small, Group}
-use Rattle.address.specs.Part.{hex_of, hex_number, zero_first, width_of, value_of, piece_of}
-
--- a hex digit, by testing all 256 octets
-hex_digit_lem : (b : ℕ) → b < 256 → digit_value 16 b ≡ provided (ltb (hex_of b) 16) (hex_of b)
-unfolding hex_of
-hex_digit_lem = all_same 256 (digit_value 16) (λ b. provided (ltb (hex_of b) 16) (hex_of b)) refl
+use Rattle.address.specs.Part.{hex_number, zero_first, width_of, value_of, piece_of}
 
 -- the number of hex digits that are v so far and go on with these
 abbrev pub hex_from : ℕ → List ℕ → Option ℕ
@@ -40,64 +30,46 @@ hex_from v xs = value_in 16 v xs
 pub hex_start : (xs : List ℕ) → hex_from 0 xs ≡ hex_number xs
 hex_start xs = value_each 16 0 xs
 
-module _ (s : List ℕ) (j e v d : ℕ) (h : j < e) (l : e ≤ length s) (b : get_or s j 0 < 256) (q : d ≡ hex_of (get_or s j 0)) where
-  pub hex_off : 15 < d → hex_from v (slice j e s) ≡ none
-  unfolding value_in
-  hex_off k = rw (next s j e h l, hex_digit_lem (get_or s j 0) b, ← q, le-ltb d 16 (omega arith))
+-- the next octet is no hex digit, or it is one; or no octet is left
+module _ (s : List ℕ) (j v : ℕ) where
+  module _ (h : j < length s) where
+    pub hex_off : digit_value 16 (get_or s j 0) ≡ None → hex_from v (drop j s) ≡ None
+    unfolding value_in
+    hex_off e = rw (drop_next s j h, e)
 
-  pub hex_on : d ≤ 15 → hex_from v (slice j e s) ≡ hex_from (v * 16 + d) (slice (j + 1) e s)
-  unfolding value_in
-  hex_on k = rw (next s j e h l, hex_digit_lem (get_or s j 0) b, ← q, lt-ltb d 16 (omega arith))
+    pub hex_on : (d : ℕ) → digit_value 16 (get_or s j 0) ≡ Some d → hex_from v (drop j s) ≡ hex_from (v * 16 + d) (drop (j + 1) s)
+    unfolding value_in
+    hex_on d e = rw (drop_next s j h, e)
 
-pub hex_end : (s : List ℕ) (j e v : ℕ) → e ≤ j → hex_from v (slice j e s) ≡ some v
-unfolding value_in
-hex_end s j e v h = rw (no-octet s j e h)
+  pub hex_end : length s ≤ j → hex_from v (drop j s) ≡ Some v
+  unfolding value_in
+  hex_end h = rw (drop_none s j h)
 
 -- the value so far is below 16 to the power of the digits read
-pub hex_more : (v i j d : ℕ) → i ≤ j → v < 16 ^ (j - i) → d ≤ 15 → v * 16 + d < 16 ^ (j + 1 - i)
-hex_more v i j d l h k = let e : j + 1 - i ≡ suc (j - i) = omega arith in rw (e, pow-suc 16 (j - i)) (omega arith)
+pub hex_more : (v n d : ℕ) → v < 16 ^ n → d < 16 → v * 16 + d < 16 ^ (n + 1)
+hex_more v n d h k = rw (add-one, pow-suc 16 n) (omega arith)
 
 pub hex_fits : (v n : ℕ) → n < 4 → v < 16 ^ n → v < 4096
 hex_fits v n h k = omega (arith, pow-le-pow_right {n = 16} (lit< tt) {i = n} {j = 3} (omega arith))
 
-pub hex_none : (i : ℕ) → 0 < 16 ^ (i - i)
-hex_none i = let e : i - i ≡ 0 = omega arith in rw e (omega arith)
-
--- a pair and a group, by their lengths
-module _ (s : List ℕ) (i e : ℕ) (l : e ≤ length s) where
-  pub is_pair : e - i ≡ 2 → hex_number (slice i e s) ≡ hex_pair (slice i e s)
-  is_pair h = rw (eq-eqb (length (slice i e s)) 2 (length-slice i e s l ∙ h))
-
-  pub not_pair : (e - i ≡ 2 → ⊥) → none ≡ hex_pair (slice i e s)
-  not_pair h = rw (ne_eqb (length (slice i e s)) 2 (λ q. h (sym (length-slice i e s l) ∙ q)))
-
-  pub is_group : 1 ≤ e - i → e - i ≤ 4 → hex_number (slice i e s) ≡ group_of (slice i e s)
-  is_group h k = let n : length (slice i e s) ≡ e - i = length-slice i e s l in rw (le-leb 1 (length (slice i e s)) (omega arith), le-leb (length (slice i e s)) 4 (omega arith))
-
-  pub no_group : e - i < 1 → none ≡ group_of (slice i e s)
-  no_group h = let n : length (slice i e s) ≡ e - i = length-slice i e s l in rw (lt-leb 1 (length (slice i e s)) (omega arith))
-
-  pub long_group : 1 ≤ e - i → 4 < e - i → none ≡ group_of (slice i e s)
-  long_group k h = let n : length (slice i e s) ≡ e - i = length-slice i e s l in rw (le-leb 1 (length (slice i e s)) (omega arith), lt-leb (length (slice i e s)) 4 (omega arith))
-
 -- digits that were read are below the base
-digit_below : (b x d : ℕ) → digit_value b x ≡ some d → d < b
+pub digit_below : (b x d : ℕ) → digit_value b x ≡ Some d → d < b
 digit_below b x d e = by (digit x) (letter x) e
   where
-    ok : (y : ℕ) → provided (ltb y b) y ≡ some d → d < b
+    ok : (y : ℕ) → provided (ltb y b) y ≡ Some d → d < b
     ok y f = let r = provided_some (ltb y b) y d f in omega (arith, ltb-true y b r.0, r.1)
 
-    by : (p q : Bool) → cond p (provided (ltb (x - 48) b) (x - 48)) (cond q (provided (ltb (lowered x - 97 + 10) b) (lowered x - 97 + 10)) none) ≡ some d → d < b
+    by : (p q : Bool) → cond p (provided (ltb (x - 48) b) (x - 48)) (cond q (provided (ltb (lowered x - 97 + 10) b) (lowered x - 97 + 10)) None) ≡ Some d → d < b
     by true q f = ok (x - 48) f
     by false true f = ok (lowered x - 97 + 10) f
     by false false f = let z : ◌≡◌ {A = ℕ} 0 1 = cc in absurd (omega arith)
 
-pub cons_some : (o : Option ℕ) (p : Option (List ℕ)) (ds : List ℕ) → cons_both o p ≡ some ds → (x : ℕ) × (xs : List ℕ) × (o ≡ some x) × (p ≡ some xs) × (x ∷ xs ≡ ds)
-cons_some none p ds e = let z : ◌≡◌ {A = ℕ} 0 1 = cc in absurd (omega arith)
-cons_some (some x) none ds e = let z : ◌≡◌ {A = ℕ} 0 1 = cc in absurd (omega arith)
-cons_some (some x) (some xs) ds e = (x, xs, refl, refl, cc)
+pub cons_some : (o : Option ℕ) (p : Option (List ℕ)) (ds : List ℕ) → cons_both o p ≡ Some ds → (x : ℕ) × (xs : List ℕ) × (o ≡ Some x) × (p ≡ Some xs) × (x ∷ xs ≡ ds)
+cons_some None p ds e = let z : ◌≡◌ {A = ℕ} 0 1 = cc in absurd (omega arith)
+cons_some (Some x) None ds e = let z : ◌≡◌ {A = ℕ} 0 1 = cc in absurd (omega arith)
+cons_some (Some x) (Some xs) ds e = (x, xs, refl, refl, cc)
 
-each_below : (b : ℕ) (t ds : List ℕ) → each_of (digit_value b) t ≡ some ds → Below b ds × (length ds ≡ length t)
+each_below : (b : ℕ) (t ds : List ℕ) → each_of (digit_value b) t ≡ Some ds → Below b ds × (length ds ≡ length t)
 each_below b [] ds e = let q : [] ≡ ds = cc in rw (← q) (tt, refl)
 each_below b (x ∷ t) ds e =
     let (d, es, f, g, q) = cons_some (digit_value b x) (each_of (digit_value b) t) ds e in
@@ -105,19 +77,19 @@ each_below b (x ∷ t) ds e =
     rw (← q) ((digit_below b x d f, r.0), ap suc r.1)
 
 -- a pair and a small number are below 256
-pub pair_octet : (t : List ℕ) (v : ℕ) → hex_pair t ≡ some v → v < 256
+pub pair_octet : (t : List ℕ) (v : ℕ) → hex_pair t ≡ Some v → v < 256
 pair_octet t v e = by (eqb (length t) 2) refl e
   where
-    by : (b : Bool) → eqb (length t) 2 ≡ b → cond b (hex_number t) none ≡ some v → v < 256
+    by : (b : Bool) → eqb (length t) 2 ≡ b → cond b (hex_number t) None ≡ Some v → v < 256
     by true f g =
-        let (ds, h, k) = bind_some (each_of (digit_value 16) t) (λ ds. some (number 16 ds)) v g in
+        let (ds, h, k) = bind_some (each_of (digit_value 16) t) (λ ds. Some (number 16 ds)) v g in
         let r = each_below 16 t ds h in
         let m : length ds ≡ 2 = r.1 ∙ eqb-true (length t) 2 f in
         let w : number 16 ds ≡ v = cc in
         omega (arith, rw m at (number_bound 16 ds r.0))
     by false f g = let z : ◌≡◌ {A = ℕ} 0 1 = cc in absurd (omega arith)
 
-pub small_octet : (t : List ℕ) (v : ℕ) → small_number t ≡ some v → v < 256
+pub small_octet : (t : List ℕ) (v : ℕ) → small_number t ≡ Some v → v < 256
 small_octet t v e =
     let (x, f, g) = bind_some (below 256 (decimal_of t)) (λ v. provided (same_octets (decimal v) t) v) v e in
     let (y, h, k) = bind_some (decimal_of t) (λ v. provided (ltb v 256) v) x f in
@@ -133,13 +105,13 @@ not_same xs ys h = by (same_octets xs ys) refl
     by true e = absurd (omega (arith, ap length (octets_same xs ys e)))
     by false e = refl
 
-digit_char : (x d : ℕ) → digit_value 10 x ≡ some d → x ≡ upper_digit d
+digit_char : (x d : ℕ) → digit_value 10 x ≡ Some d → x ≡ upper_digit d
 digit_char x d e = by (digit x) refl (letter x) e
   where
-    no : (y : ℕ) → provided (ltb (y + 10) 10) (y + 10) ≡ some d → x ≡ upper_digit d
+    no : (y : ℕ) → provided (ltb (y + 10) 10) (y + 10) ≡ Some d → x ≡ upper_digit d
     no y f = let r = provided_some (ltb (y + 10) 10) (y + 10) d f in absurd (omega (arith, ltb-true (y + 10) 10 r.0))
 
-    by : (p : Bool) → digit x ≡ p → (q : Bool) → cond p (provided (ltb (x - 48) 10) (x - 48)) (cond q (provided (ltb (lowered x - 97 + 10) 10) (lowered x - 97 + 10)) none) ≡ some d → x ≡ upper_digit d
+    by : (p : Bool) → digit x ≡ p → (q : Bool) → cond p (provided (ltb (x - 48) 10) (x - 48)) (cond q (provided (ltb (lowered x - 97 + 10) 10) (lowered x - 97 + 10)) None) ≡ Some d → x ≡ upper_digit d
     by true h q f =
         let r = provided_some (ltb (x - 48) 10) (x - 48) d f in
         let k = leb-true 48 x (and_left (leb 48 x) (leb x 57) h) in
@@ -148,7 +120,7 @@ digit_char x d e = by (digit x) refl (letter x) e
     by false h true f = no (lowered x - 97) f
     by false h false f = let z : ◌≡◌ {A = ℕ} 0 1 = cc in absurd (omega arith)
 
-each_char : (t ds : List ℕ) → each_of (digit_value 10) t ≡ some ds → t ≡ map upper_digit ds
+each_char : (t ds : List ℕ) → each_of (digit_value 10) t ≡ Some ds → t ≡ map upper_digit ds
 each_char [] ds e = let q : [] ≡ ds = cc in rw (← q)
 each_char (x ∷ t) ds e =
     let (d, es, f, g, q) = cons_some (digit_value 10 x) (each_of (digit_value 10) t) ds e in
@@ -183,16 +155,16 @@ plainly (suc d ∷ e ∷ ds) b h =
     let f : eqb (upper_digit (suc d)) 48 ≡ false = rw (lt-ltb (suc d) 10 b.0) (ne_eqb (48 + suc d) 48 (λ q. omega arith)) in
     same_octets_lem (map upper_digit (suc d ∷ e ∷ ds)) ∙ ap not (sym f)
 
-spelled : (t : List ℕ) (v : ℕ) → decimal_of t ≡ some v → same_octets (decimal v) t ≡ not (zero_first t)
+spelled : (t : List ℕ) (v : ℕ) → decimal_of t ≡ Some v → same_octets (decimal v) t ≡ not (zero_first t)
 spelled t v e = by (in_range 1 10 (length t)) refl e
   where
     first : (ds : List ℕ) → 1 ≤ length ds → without_zeros (replicate (10 - length ds) 0 ++ ds) ≡ without_zeros ds
     first [] h = absurd (omega arith)
     first (d ∷ ds) h = zeros_gone (10 - length (d ∷ ds)) d ds
 
-    by : (b : Bool) → in_range 1 10 (length t) ≡ b → cond b (each_of (digit_value 10) t >>= λ ds. some (number 10 ds)) none ≡ some v → same_octets (decimal v) t ≡ not (zero_first t)
+    by : (b : Bool) → in_range 1 10 (length t) ≡ b → cond b (each_of (digit_value 10) t >>= λ ds. Some (number 10 ds)) None ≡ Some v → same_octets (decimal v) t ≡ not (zero_first t)
     by true f g =
-        let (ds, h, k) = bind_some (each_of (digit_value 10) t) (λ ds. some (number 10 ds)) v g in
+        let (ds, h, k) = bind_some (each_of (digit_value 10) t) (λ ds. Some (number 10 ds)) v g in
         let r = each_below 10 t ds h in
         let lo = leb-true 1 (length t) (and_left (leb 1 (length t)) (leb (length t) 10) f) in
         let hi = leb-true (length t) 10 (and_right (leb 1 (length t)) (leb (length t) 10) f) in
@@ -204,55 +176,17 @@ spelled t v e = by (in_range 1 10 (length t)) refl e
     by false f g = let z : ◌≡◌ {A = ℕ} 0 1 = cc in absurd (omega arith)
 
 -- a number 0 to 255
-module _ (t : List ℕ) (r : Number) (d : r ≡ number_of (decimal_of t)) where
-  pub no_small : r ≡ Fault → Fault ≡ number_of (small_number t)
-  no_small e = rw (number_none (decimal_of t) (sym d ∙ e))
-
-  module _ (v : ℕ) (e : r ≡ Value v) where
-    found : decimal_of t ≡ some v
-    found = number_some (decimal_of t) v (sym d ∙ e)
-
-    pub large : 255 < v → Fault ≡ number_of (small_number t)
-    large h = rw (found, le-ltb v 256 (omega arith))
-
-    module _ (z : Bool) (h : v ≤ 255) (y : z ≡ zero_first t) where
-      pub leading : z ≡ true → Fault ≡ number_of (small_number t)
-      leading f = let s : same_octets (decimal v) t ≡ false = spelled t v found ∙ ap not (sym y ∙ f) in rw (found, lt-ltb v 256 (omega arith), s)
-
-      pub is_small : z ≡ false → Value v ≡ number_of (small_number t)
-      is_small f = let s : same_octets (decimal v) t ≡ true = spelled t v found ∙ ap not (sym y ∙ f) in rw (found, lt-ltb v 256 (omega arith), s)
-
--- a zero before another octet
-module _ (s : List ℕ) (i e : ℕ) (l : e ≤ length s) where
-  pub short : e - i < 2 → false ≡ zero_first (slice i e s)
-  short h = by (slice i e s) (length-slice i e s l)
-    where
-      by : (t : List ℕ) → length t ≡ e - i → false ≡ zero_first t
-      by [] q = refl
-      by (x ∷ []) q = refl
-      by (x ∷ y ∷ t) q = absurd (omega arith)
-
-  pub first_of : 2 ≤ e - i → eqb (get_or s i 0) 48 ≡ zero_first (slice i e s)
-  first_of h = rw (next s i e (omega arith) l, next s (i + 1) e (omega arith) l)
-
--- the octets of one part
-module _ (f : PartForm) (t : List ℕ) (r : Number) (d : r ≡ number_of (value_of f t)) where
-  pub piece_some : (v : ℕ) → r ≡ Value v → piece_of f t ≡ some (digits 256 (width_of f) v)
-  unfolding piece_of
-  piece_some v e = rw (number_some (value_of f t) v (sym d ∙ e))
-
-  pub piece_none : r ≡ Fault → piece_of f t ≡ none
-  unfolding piece_of
-  piece_none e = rw (number_none (value_of f t) (sym d ∙ e))
+pub is_small : (t : List ℕ) (v : ℕ) → decimal_of t ≡ Some v → v ≤ 255 → zero_first t ≡ false → Some v ≡ small_number t
+is_small t v e h f = let s : same_octets (decimal v) t ≡ true = spelled t v e ∙ ap not f in rw (e, lt-ltb v 256 (omega arith), s)
 
 width_small : (f : PartForm) → width_of f ≤ 2
 width_small Pair = omega arith
 width_small Small = omega arith
 width_small Group = omega arith
 
-pub piece_short : (f : PartForm) (t xs : List ℕ) → piece_of f t ≡ some xs → length xs ≤ 2
+pub piece_short : (f : PartForm) (t xs : List ℕ) → piece_of f t ≡ Some xs → length xs ≤ 2
 unfolding piece_of
 piece_short f t xs e =
-    let (v, a, b) = bind_some (value_of f t) (λ v. some (digits 256 (width_of f) v)) xs e in
+    let (v, a, b) = bind_some (value_of f t) (λ v. Some (digits 256 (width_of f) v)) xs e in
     let q : digits 256 (width_of f) v ≡ xs = cc in
     omega (arith, ap length q, digits_length 256 (width_of f) v, width_small f)

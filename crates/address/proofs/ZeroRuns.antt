@@ -1,115 +1,120 @@
 -- Laws of the first of the longest runs of zero groups, searched from the last group backwards.
-use Prim.Native.Nat.{ℕ, zero, suc, ◌+◌, ◌*◌, ◌-◌, ◌%◌, ◌≤◌, ◌<◌, max}
+use Prim.Native.Nat.{ℕ, zero, suc, ◌+◌, ◌*◌, ◌-◌, ◌≤◌, ◌<◌, max}
 use mathlib.Core.Path.{◌≡◌, refl, sym, ap, ◌∙◌}
 use mathlib.Core.Bool.{Bool, true, false, cond}
-use mathlib.Core.List.{List, ◌∷◌, ◌++◌}
+use mathlib.Core.List.{List, [], ◌∷◌, ◌++◌}
 use native.Mathlib.Omega.{arith}
 use lib.Dec.{leb, eqb}
-use lib.ListN.{length, drop, get_or}
-use lib.Seq.{slice, length-slice}
-use borrow.Author.Tests.{lt-ltb, le-ltb, leb-true, leb-false, eq-eqb, ne_eqb}
-use Rattle.format.specs.Address.{groups, group_text, colons, zeros_at, longest_zeros, before_run, after_run, aaaa_text}
+use lib.ListN.{length, take, drop, get_or, length-drop, drop_of_length-le}
+use lib.Seq.{drop-drop}
+use borrow.Author.Tests.{le-ltb, leb-true, leb-false, eq-eqb, ne_eqb}
+use Rattle.format.specs.Address.{groups, group_text, colons, zeros_at, longest_zeros, aaaa_text}
 use Rattle.format.proofs.Field.{pieces_bound}
 use Rattle.format.proofs.Address.{groups_short}
-use Rattle.octets.proofs.Slices.{none}
 use Rattle.address.specs.Zeros.{Longest}
-use Rattle.address.proofs.GroupTexts.{next_group, group_short}
+use Rattle.address.proofs.GroupTexts.{group_short}
 
--- the groups after k groups
-after_groups : (p : List ℕ) (i e k : ℕ) → i + 2 * k ≤ e → e ≤ length p → drop k (groups (slice i e p)) ≡ groups (slice (i + 2 * k) e p)
-after_groups p i e zero h l = let q : i ≡ i + 2 * 0 = omega arith in ap (λ j. groups (slice j e p)) q
-after_groups p i e (suc k) h l =
-    let q : i + 2 + 2 * k ≡ i + 2 * suc k = omega arith in
-    ap (drop (suc k)) (next_group p i e _ (omega arith) l refl) ∙ after_groups p (i + 2) e k (omega arith) l ∙ ap (λ j. groups (slice j e p)) q
+-- the groups from a place on, up to it, and after it
+pub groups_from : (k i : ℕ) (p : List ℕ) → i ≡ 2 * k → groups (drop i p) ≡ drop k (groups p)
+groups_from zero zero p h = refl
+groups_from zero (suc i) p h = absurd (omega arith)
+groups_from (suc k) zero p h = absurd (omega arith)
+groups_from (suc k) (suc zero) p h = absurd (omega arith)
+groups_from (suc k) (suc (suc i)) [] h = refl
+groups_from (suc k) (suc (suc i)) (x ∷ []) h = refl
+groups_from (suc k) (suc (suc i)) (x ∷ y ∷ p) h = groups_from k i p (omega arith)
+
+pub groups_upto : (k i : ℕ) (p : List ℕ) → i ≡ 2 * k → groups (take i p) ≡ take k (groups p)
+groups_upto zero zero p h = refl
+groups_upto zero (suc i) p h = absurd (omega arith)
+groups_upto (suc k) zero p h = absurd (omega arith)
+groups_upto (suc k) (suc zero) p h = absurd (omega arith)
+groups_upto (suc k) (suc (suc i)) [] h = refl
+groups_upto (suc k) (suc (suc i)) (x ∷ []) h = refl
+groups_upto (suc k) (suc (suc i)) (x ∷ y ∷ p) h = ap (λ gs. (x * 256 + y) ∷ gs) (groups_upto k i p (omega arith))
+
+group_first : (p : List ℕ) → 2 ≤ length p → groups p ≡ (get_or p 0 0 * 256 + get_or p 1 0) ∷ groups (drop 2 p)
+group_first [] h = absurd (omega arith)
+group_first (x ∷ []) h = absurd (omega arith)
+group_first (x ∷ y ∷ p) h = refl
+
+pub group_at : (k j : ℕ) (p : List ℕ) → j ≡ k + 1 → 2 * j ≤ length p → drop k (groups p) ≡ (get_or (drop (2 * k) p) 0 0 * 256 + get_or (drop (2 * k) p) 1 0) ∷ drop j (groups p)
+group_at k j p q h =
+    sym (groups_from k (2 * k) p refl) ∙ group_first (drop (2 * k) p) (omega (arith, length-drop (2 * k) p))
+    ∙ ap (λ gs. (get_or (drop (2 * k) p) 0 0 * 256 + get_or (drop (2 * k) p) 1 0) ∷ gs) (ap groups (drop-drop 2 (2 * k) p) ∙ groups_from j (2 * k + 2) p (omega arith))
+
+-- sixteen octets have no group after eight
+pub no_group : (p : List ℕ) → length p ≡ 16 → drop 8 (groups p) ≡ []
+no_group p h = let l : length p ≤ 16 = omega arith in sym (groups_from 8 16 p refl) ∙ ap groups (drop_of_length-le p l)
+
+zeros_short : (gs : List ℕ) → zeros_at gs ≤ length gs
+zeros_short [] = omega arith
+zeros_short (zero ∷ gs) = omega (arith, zeros_short gs)
+zeros_short (suc g ∷ gs) = omega arith
 
 -- a zero group before others, and a group that is not zero
-pub zero_before : (g z : ℕ) (gs : List ℕ) → g < 1 → z ≡ zeros_at gs → z + 1 ≡ zeros_at (g ∷ gs)
+pub zero_before : (g z : ℕ) (gs : List ℕ) → g ≡ 0 → z ≡ zeros_at gs → z + 1 ≡ zeros_at (g ∷ gs)
 zero_before zero z gs h q = omega (arith, q)
 zero_before (suc g) z gs h q = absurd (omega arith)
 
-pub other_before : (g : ℕ) (gs : List ℕ) → 1 ≤ g → 0 ≡ zeros_at (g ∷ gs)
-other_before zero gs h = absurd (omega arith)
+pub other_before : (g : ℕ) (gs : List ℕ) → (g ≡ 0 → ⊥) → 0 ≡ zeros_at (g ∷ gs)
+other_before zero gs h = absurd (h refl)
 other_before (suc g) gs h = refl
 
--- no groups
-pub no_zeros : (p : List ℕ) (e : ℕ) → zeros_at (groups (slice e e p)) ≡ 0
-no_zeros p e = ap (λ xs. zeros_at (groups xs)) (none p e e (omega arith))
-
-pub run_none : (p : List ℕ) (e : ℕ) → Longest p e e e 0
+pub run_none : Longest [] 0 0
 unfolding longest_zeros
-run_none p e =
-    let q = none p e e (omega arith) in
-    let r : e + 2 * 0 ≡ e = omega arith in
-    record {
-      longest = sym (ap (λ xs. longest_zeros (groups xs)) q);
-      before = rw q;
-      after = rw (r, q);
-      from = omega arith;
-      within = omega arith;
-      even = omega arith;
-    }
+run_none = record { longest = refl; before = refl; after = refl; within = omega arith }
 
--- one more group, at j, before those from k on
-module _ (p : List ℕ) (j k g : ℕ) (n : k ≡ j + 2) (d : g ≡ get_or p j 0 * 256 + get_or p (j + 1) 0) where
-  pub first_group : (x : ℕ) → k ≤ x → x ≤ length p → groups (slice j x p) ≡ g ∷ groups (slice k x p)
-  first_group x h l = next_group p j x g (omega arith) l d ∙ ap (λ m. g ∷ groups (slice m x p)) (sym n)
+-- one more group, before the others
+module _ (g z : ℕ) (gs : List ℕ) (count : ℕ) (w : z ≡ zeros_at (g ∷ gs)) where
+  here : (at : ℕ) → Longest gs at count → count ≤ z → Longest (g ∷ gs) 0 z
+  unfolding longest_zeros
+  here at o a =
+      let t : eqb (zeros_at (g ∷ gs)) z ≡ true = eq-eqb _ _ (sym w) in
+      let q : 0 + z ≡ z = omega arith in
+      record {
+        longest = omega (arith, o.longest);
+        before = rw t;
+        after = ap (λ n. drop n (g ∷ gs)) q ∙ rw t;
+        within = omega (arith, zeros_short (g ∷ gs));
+      }
 
-  module _ (e z at count : ℕ) (h : k ≤ e) (l : e ≤ length p) (w : z ≡ zeros_at (g ∷ groups (slice k e p))) (v : j + 2 * z ≤ e) (o : Longest p k e at count) where
-    here : count ≤ z → Longest p j e j z
-    unfolding longest_zeros
-    here a =
-        let q = first_group e h l in
-        let t : eqb (zeros_at (g ∷ groups (slice k e p))) z ≡ true = eq-eqb _ _ (sym w) in
-        record {
-          longest = omega (arith, ap longest_zeros q, o.longest);
-          before = ap groups (none p j j (omega arith)) ∙ sym (ap (before_run z) q ∙ rw t);
-          after = sym (ap (after_run z) q ∙ rw t (sym (ap (drop z) q) ∙ after_groups p j e z v l));
-          from = omega arith;
-          within = v;
-          even = omega arith;
-        }
+  later : (at : ℕ) → Longest gs at count → z < count → Longest (g ∷ gs) (suc at) count
+  unfolding longest_zeros
+  later at o a =
+      let t : eqb (zeros_at (g ∷ gs)) count ≡ false = ne_eqb _ _ (λ (x : zeros_at (g ∷ gs) ≡ count). omega arith) in
+      let q : suc at + count ≡ suc (at + count) = omega arith in
+      record {
+        longest = omega (arith, o.longest);
+        before = rw t (ap (λ l. g ∷ l) o.before);
+        after = rw (t, q) o.after;
+        within = omega (arith, o.within);
+      }
 
-    later : z < count → Longest p j e at count
-    unfolding longest_zeros
-    later a =
-        let q = first_group e h l in
-        let t : eqb (zeros_at (g ∷ groups (slice k e p))) count ≡ false = ne_eqb _ _ (λ (x : zeros_at (g ∷ groups (slice k e p)) ≡ count). omega arith) in
-        record {
-          longest = omega (arith, ap longest_zeros q, o.longest);
-          before = first_group at o.from (omega (arith, o.within)) ∙ sym (ap (before_run count) q ∙ rw t (ap (λ s. g ∷ s) (sym o.before)));
-          after = o.after ∙ sym (ap (after_run count) q ∙ rw t);
-          from = omega (arith, o.from);
-          within = o.within;
-          even = omega (arith, o.from, o.even);
-        }
-
-    pub run_next : (at' count' : ℕ) → at' ≡ cond (leb count z) j at → count' ≡ max z count → Longest p j e at' count'
-    run_next at' count' x y = by (leb count z) refl
-      where
-        by : (b : Bool) → leb count z ≡ b → Longest p j e at' count'
-        by true t =
-            let a : count ≤ z = leb-true count z t in
-            let u : at' ≡ j = x ∙ rw t in
-            let m : count' ≡ z = omega arith in
-            rw (u, m) (here a)
-        by false t =
-            let a : z < count = leb-false count z t in
-            let u : at' ≡ at = x ∙ rw t in
-            let m : count' ≡ count = omega arith in
-            rw (u, m) (later a)
+  -- the group stands at j, and the others from k on
+  pub run_next : (j k at : ℕ) → k ≡ j + 1 → k ≤ at → Longest gs (at - k) count → (at' count' : ℕ) → at' ≡ cond (leb count z) j at → count' ≡ max z count
+      → (j ≤ at') × Longest (g ∷ gs) (at' - j) count'
+  run_next j k at n h o at' count' x y = by (leb count z) refl
+    where
+      by : (b : Bool) → leb count z ≡ b → (j ≤ at') × Longest (g ∷ gs) (at' - j) count'
+      by true t =
+          let a : count ≤ z = leb-true count z t in
+          let u : at' ≡ j = x ∙ rw t in
+          let v : at' - j ≡ 0 = omega arith in
+          let m : count' ≡ z = omega arith in
+          (omega arith, rw (v, m) (here (at - k) o a))
+      by false t =
+          let a : z < count = leb-false count z t in
+          let u : at' ≡ at = x ∙ rw t in
+          let v : at' - j ≡ suc (at - k) = omega arith in
+          let m : count' ≡ count = omega arith in
+          (omega arith, rw (v, m) (later (at - k) o a))
 
 -- the length of a text of groups with colons between them
-pub colons_short : (p : List ℕ) (i e : ℕ) → e ≤ length p → 2 * length (colons (groups (slice i e p))) ≤ 5 * (e - i)
-colons_short p i e l = omega (arith, pieces_bound 4 58 group_text (groups (slice i e p)) group_short, groups_short (slice i e p), length-slice i e p l)
+pub colons_short : (p : List ℕ) → 2 * length (colons (groups p)) ≤ 5 * length p
+colons_short p = omega (arith, pieces_bound 4 58 group_text (groups p) group_short, groups_short p)
 
--- the text without `::`, and with it
-module _ (p : List ℕ) (i e at count : ℕ) (o : Longest p i e at count) where
-  pub whole_text : count < 2 → colons (groups (slice i e p)) ≡ aaaa_text (groups (slice i e p))
-  whole_text h = rw (← o.longest, lt-ltb count 2 h)
-
-  pub parted_text : 2 ≤ count → colons (groups (slice i at p)) ++ (58 ∷ 58 ∷ colons (groups (slice (at + 2 * count) e p))) ≡ aaaa_text (groups (slice i e p))
+-- the text with `::`
+module _ (gs : List ℕ) (at count : ℕ) (o : Longest gs at count) where
+  pub parted_text : 2 ≤ count → colons (take at gs) ++ (58 ∷ 58 ∷ colons (drop (at + count) gs)) ≡ aaaa_text gs
   parted_text h = rw (← o.longest, le-ltb count 2 h, o.before, o.after)
-
--- the group before an even place stands at an even place, counted from i
-pub even_before : (i k : ℕ) → i < k → (k - i) % 2 ≡ 0 → (k - 2 - i) % 2 ≡ 0
-even_before i k h q = omega arith

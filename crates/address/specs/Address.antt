@@ -1,22 +1,20 @@
 -- AAAA: the octets of its groups.
-use Rattle.std.specs.Prelude.{ℕ, ◌+◌, ◌-◌, ◌<◌, ◌≤◌, ◌≡◌, Bool, true, false, List, ◌++◌, leb, eqb, length, replicate}
+use Rattle.std.specs.Prelude.{ℕ, ◌+◌, ◌-◌, Bool, true, false, ◌&&◌, List, [], ◌∷◌, ◌++◌, leb, eqb, length, replicate}
 use Prim.Native.Char.{code}
-use Rattle.std.proofs.Math.Option.{Option, some}
-use Rattle.std.proofs.Math.Seq.{slice}
+use Rattle.std.specs.Prelude.{Option, Some}
 use Rattle.format.specs.Lists.{◌>>=◌, provided}
 use Rattle.format.specs.Octets.{split_on}
-use Rattle.format.specs.Address.{group_octets, last_groups, groups_of, side_of, single, double, at_double_colon}
+use Rattle.format.specs.Address.{group_octets, last_groups, groups_of, side_of}
 
--- r is the place of the first double colon in the text from i to e, or e if there is none
-pub record DoubledAt (t : List ℕ) (i e r : ℕ) : Type 0 where
-  pub after : i ≤ r
-  pub within : r < e → r + 2 ≤ e
-  pub found : r < e → at_double_colon (slice i e t) ≡ double (slice i r t) (slice (r + 2) e t)
-  pub absent : e ≤ r → at_double_colon (slice i e t) ≡ single
+-- two colons come first
+abbrev pub two_colons : List ℕ → Bool
+two_colons [] = false
+two_colons (x ∷ []) = false
+two_colons (x ∷ y ∷ xs) = eqb x (code ":") && eqb y (code ":")
 
 -- the octets of groups
 abbrev pub octets_in : Option (List ℕ) → Option (List ℕ)
-octets_in o = o >>= λ gs. some (group_octets gs)
+octets_in o = o >>= λ gs. Some (group_octets gs)
 
 -- the octets of the last group, or of a dotted address in its place
 unfoldable pub last_in : Bool → List ℕ → Option (List ℕ)
@@ -40,4 +38,4 @@ filled g o = o >>= λ ys. provided (leb (g + length ys) 14) (replicate (16 - (g 
 
 -- the sixteen octets of an address with a double colon
 abbrev pub both_sides : List ℕ → List ℕ → Option (List ℕ)
-both_sides s u = side_in false s >>= λ xs. filled (length xs) (side_in true u) >>= λ ys. some (xs ++ ys)
+both_sides s u = side_in false s >>= λ xs. filled (length xs) (side_in true u) >>= λ ys. Some (xs ++ ys)

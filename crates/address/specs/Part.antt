@@ -1,40 +1,25 @@
 -- The parts of an address.
-use Rattle.std.specs.Prelude.{ℕ, ◌-◌, Bool, false, not, cond, List, [], ◌∷◌, ltb, eqb, length}
+use Rattle.std.specs.Prelude.{ℕ, Bool, false, List, [], ◌∷◌, map, eqb, length}
 use Prim.Native.Char.{code}
-use Rattle.std.proofs.Math.Option.{Option, some}
-use Rattle.format.specs.Lists.{◌>>=◌, provided, each_of, flat}
+use Rattle.std.specs.Prelude.{Option, Some}
+use Rattle.format.specs.Lists.{◌>>=◌, provided, each_of, flat, parted}
 use Rattle.format.specs.Octets.{split_on}
-use Rattle.format.specs.Digits.{digits, number, digit_value}
+use Rattle.format.specs.Digits.{digits, number, digit_value, lower_digit}
+use Rattle.format.specs.Number.{decimal}
 use Rattle.format.specs.Hex.{hex_pair}
-use Rattle.format.specs.Address.{small_number, group_of}
-use Rattle.octets.specs.Octets.{front_end}
+use Rattle.format.specs.Address.{small_number, groups, group_text, group_of}
 use Rattle.address.specs.declared.part.PartForm.{PartForm}
 use Rattle.address.specs.declared.part.PartForm.TheVariants.{Pair, Small, Group}
 
--- the value of a hex digit, or 16 if the octet is none
-unfoldable pub hex_of : ℕ → ℕ
-hex_of b =
-    cond (ltb b 48) 16 (cond (ltb b 58) (b - 48)
-    (cond (ltb b 65) 16 (cond (ltb b 71) (b - 55)
-    (cond (ltb b 97) 16 (cond (ltb b 103) (b - 87) 16)))))
-
 -- the number that hex digits make
 abbrev pub hex_number : List ℕ → Option ℕ
-hex_number t = each_of (digit_value 16) t >>= λ ds. some (number 16 ds)
+hex_number t = each_of (digit_value 16) t >>= λ ds. Some (number 16 ds)
 
 -- a zero comes first, with another octet after it
 abbrev pub zero_first : List ℕ → Bool
 zero_first [] = false
 zero_first (x ∷ []) = false
 zero_first (x ∷ y ∷ xs) = eqb x (code "0")
-
--- an octet that is not c
-abbrev pub apart : ℕ → ℕ → Bool
-apart c x = not (eqb x c)
-
--- the end of the part that starts at i
-abbrev pub part_end : ℕ → List ℕ → ℕ → ℕ → ℕ
-part_end c t i e = front_end (apart c) t i e
 
 -- the mark between parts of a form
 abbrev pub mark_of : PartForm → ℕ
@@ -56,7 +41,7 @@ value_of Group t = group_of t
 
 -- a number in w octets
 abbrev pub octets_of : ℕ → Option ℕ → Option (List ℕ)
-octets_of w o = o >>= λ v. some (digits 256 w v)
+octets_of w o = o >>= λ v. Some (digits 256 w v)
 
 -- the octets of a part
 unfoldable pub piece_of : PartForm → List ℕ → Option (List ℕ)
@@ -73,3 +58,19 @@ parts_by c p w t = joined w (each_of p (split_on c t))
 -- exactly w parts of a form
 abbrev pub parts_of : PartForm → ℕ → List ℕ → Option (List ℕ)
 parts_of f w t = parts_by (mark_of f) (piece_of f) w t
+
+-- the numbers of parts, from their octets
+abbrev pub numbers_of : PartForm → List ℕ → List ℕ
+numbers_of Pair xs = xs
+numbers_of Small xs = xs
+numbers_of Group xs = groups xs
+
+-- the text of a part's number
+abbrev pub text_of : PartForm → ℕ → List ℕ
+text_of Pair v = map lower_digit (digits 16 2 v)
+text_of Small v = decimal v
+text_of Group v = group_text v
+
+-- the texts of parts, with marks between them
+abbrev pub texts_of : PartForm → List ℕ → List ℕ
+texts_of f xs = parted (mark_of f ∷ []) (map (text_of f) (numbers_of f xs))

@@ -1,36 +1,21 @@
 // Prints addresses: octets in decimal, and groups of two octets in hex.
-ghost use Rattle.std.specs.Prelude.{ℕ, ◌+◌, ◌-◌, ◌%◌, ◌^◌, ◌<◌, ◌≤◌, max, ◌≡◌, cond, List, ◌∷◌, leb, length};
-ghost use Rattle.std.proofs.Math.Seq.{slice};
+ghost use Rattle.std.specs.Prelude.{◌+◌, ◌^◌, ◌<◌, ◌≤◌, max, ◌≡◌, cond, leb, length};
+ghost use Rattle.format.specs.Digits.{number};
 ghost use Rattle.format.specs.Address;
-ghost use Rattle.format.specs.Address.{dotted_text, group_text, colons, zeros_at, aaaa_text};
+ghost use Rattle.format.specs.Address.{dotted_text, group_text, colons, aaaa_text};
 ghost use Rattle.buffer.specs.Writing.{Wrote};
+ghost use Rattle.address.specs.Part.{width_of, text_of, texts_of};
 ghost use Rattle.address.specs.Zeros.{Longest};
 
+use crate::part::PartForm;
 use buffer::put_octet;
 use digits::{hex_digit, put_decimal, put_hex_octet};
 use octets::integer::two;
 
-// Writes octets in decimal, with dots between them.
-pub fn dotted(out: &mut [u8], at: usize, p: &[u8], i: usize, e: usize) -> usize
-    requires { (at < 2 ^ 30) × (i ≤ e) × (e ≤ length p.now) × (length p.now ≤ 65535) }
-    ensures { Wrote out.old out.new at result (dotted_text (slice i e p.now)) }
-{
-    if e <= i {
-        return at;
-    }
-    let mut m = put_decimal(out, at, p[i] as u64);
-    let mut j = i + 1;
-    while j < e {
-        m = put_octet(out, m, b'.');
-        m = put_decimal(out, m, p[j] as u64);
-        j = j + 1;
-    }
-    m
-}
-
 // Writes a group in hex without leading zeros.
 fn group(out: &mut [u8], at: usize, v: u64) -> usize
-    requires { (at + 2 < 2 ^ 32) × (v < 65536) }
+    requires place { at + 2 < 2 ^ 32 }
+    requires group { v < 65536 }
     ensures { Wrote out.old out.new at result (group_text v) }
 {
     if v < 16 {
@@ -47,81 +32,114 @@ fn group(out: &mut [u8], at: usize, v: u64) -> usize
     put_hex_octet(out, m, (v % 256) as u8)
 }
 
-// Writes groups in hex, with colons between them.
-pub fn groups(out: &mut [u8], at: usize, p: &[u8], i: usize, e: usize) -> usize
-    requires { (at < 2 ^ 31) × (i ≤ e) × (e ≤ length p.now) × (length p.now ≤ 65535) × ((e - i) % 2 ≡ 0) }
-    ensures { Wrote out.old out.new at result (colons (Address.groups (slice i e p.now))) }
-{
-    if e <= i {
-        return at;
+impl PartForm {
+    // The number of octets of a part.
+    fn width(self) -> usize
+        ensures { result ≡ width_of self }
+    {
+        match self {
+            PartForm::Pair | PartForm::Small => 1,
+            PartForm::Group => 2,
+        }
     }
-    let mut m = group(out, at, two(p, i));
-    let mut j = i + 2;
-    while j < e {
-        m = put_octet(out, m, b':');
-        m = group(out, m, two(p, j));
-        j = j + 2;
+
+    // Writes the text of the part whose octets are x.
+    fn put_text(self, out: &mut [u8], at: usize, x: &[u8]) -> usize
+        requires place { at + 2 < 2 ^ 32 }
+        requires octets { length x.now ≡ width_of self }
+        ensures { Wrote out.old out.new at result (text_of self (number 256 x.now)) }
+    {
+        match self {
+            PartForm::Pair => put_hex_octet(out, at, x[0]),
+            PartForm::Small => put_decimal(out, at, u64::from(x[0])),
+            PartForm::Group => group(out, at, two(x)),
+        }
     }
-    m
+
+    // Writes the texts of parts, with marks between them.
+    pub fn texts(self, out: &mut [u8], at: usize, p: &[u8]) -> usize
+        requires place { at < 2 ^ 31 }
+        requires octets { length p.now ≤ 65535 }
+        ensures { Wrote out.old out.new at result (texts_of self p.now) }
+    {
+        let w = self.width();
+        let Some((x, mut rest)) = p.split_at_checked(w) else {
+            return at;
+        };
+        let mut m = self.put_text(out, at, x);
+        while let Some((x, next)) = rest.split_at_checked(w) {
+            m = put_octet(out, m, self.mark());
+            m = self.put_text(out, m, x);
+            rest = next;
+        }
+        m
+    }
 }
 
-// A run of zero groups: the place of its first octet, and its number of groups.
+// Writes octets in decimal, with dots between them.
+pub fn dotted(out: &mut [u8], at: usize, p: &[u8]) -> usize
+    requires place { at < 2 ^ 30 }
+    requires octets { length p.now ≤ 65535 }
+    ensures { Wrote out.old out.new at result (dotted_text p.now) }
+{
+    PartForm::Small.texts(out, at, p)
+}
+
+// Writes groups in hex, with colons between them.
+pub fn groups(out: &mut [u8], at: usize, p: &[u8]) -> usize
+    requires place { at < 2 ^ 31 }
+    requires octets { length p.now ≤ 65535 }
+    ensures { Wrote out.old out.new at result (colons (Address.groups p.now)) }
+{
+    PartForm::Group.texts(out, at, p)
+}
+
+// A run of zero groups: the number of groups before it, and its own.
 #[derive(Clone, Copy)]
 struct ZeroRun {
     at: usize,
     count: usize,
 }
 
-// How many zero groups there are from the group g on, if there are z right after it.
-fn zeros(g: u64, z: usize) -> usize
-    requires { z < 2 ^ 32 }
-    ensures { ((gs : List ℕ) → z ≡ zeros_at gs → result ≡ zeros_at (g ∷ gs)) × (result ≤ z + 1) }
-{
-    if g < 1 {
-        return z + 1;
+impl ZeroRun {
+    // The longer of a run and an earlier run of z groups; the earlier one if they are equally long.
+    fn longer(self, at: usize, z: usize) -> ZeroRun
+        ensures place { result.at ≡ cond (leb self.count z) at self.at }
+        ensures count { result.count ≡ max z self.count }
+    {
+        if self.count <= z {
+            return ZeroRun { at, count: z };
+        }
+        self
     }
-    0
-}
-
-// The longer of a run and an earlier run of z groups at j; the earlier one if they are equally long.
-fn longer(run: ZeroRun, j: usize, z: usize) -> ZeroRun
-    ensures { (result.at ≡ cond (leb run.count z) j run.at) × (result.count ≡ max z run.count) }
-{
-    if run.count <= z {
-        return ZeroRun { at: j, count: z };
-    }
-    run
 }
 
 // The first of the longest runs of zero groups, searched from the last group backwards.
-fn longest(p: &[u8], i: usize, e: usize) -> ZeroRun
-    requires { (i ≤ e) × (e ≤ length p.now) × (length p.now ≤ 65535) × ((e - i) % 2 ≡ 0) }
-    ensures { Longest p.now i e result.at result.count }
+fn longest(p: &[u8]) -> ZeroRun
+    requires { length p.now ≡ 16 }
+    ensures { Longest (Address.groups p.now) result.at result.count }
 {
-    let mut run = ZeroRun { at: e, count: 0 };
+    let mut run = ZeroRun { at: 8, count: 0 };
     let mut z = 0;
-    let mut j = e;
-    while i < j {
-        j = j - 2;
-        z = zeros(two(p, j), z);
-        run = longer(run, j, z);
+    for k in (0..8).rev() {
+        z = if two(&p[2 * k..]) == 0 { z + 1 } else { 0 };
+        run = run.longer(k, z);
     }
     run
 }
 
 // Writes eight groups, with `::` for the first of the longest runs of at least two zero groups.
-pub fn aaaa(out: &mut [u8], at: usize, p: &[u8], i: usize, e: usize) -> usize
-    requires { (at < 2 ^ 30) × (e ≡ i + 16) × (e ≤ length p.now) × (length p.now ≤ 65535) }
-    ensures { Wrote out.old out.new at result (aaaa_text (Address.groups (slice i e p.now))) }
+pub fn aaaa(out: &mut [u8], at: usize, p: &[u8]) -> usize
+    requires place { at < 2 ^ 30 }
+    requires octets { length p.now ≡ 16 }
+    ensures { Wrote out.old out.new at result (aaaa_text (Address.groups p.now)) }
 {
-    let run = longest(p, i, e);
-    let from = run.at;
-    let count = run.count;
-    if count < 2 {
-        return groups(out, at, p, i, e);
+    let run = longest(p);
+    if run.count < 2 {
+        return groups(out, at, p);
     }
-    let a = groups(out, at, p, i, from);
+    let a = groups(out, at, &p[..2 * run.at]);
     let b = put_octet(out, a, b':');
     let c = put_octet(out, b, b':');
-    groups(out, c, p, from + 2 * count, e)
+    groups(out, c, &p[2 * (run.at + run.count)..])
 }

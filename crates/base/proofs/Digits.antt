@@ -6,8 +6,8 @@ use mathlib.Core.List.{List, [], ◌∷◌, ◌++◌, append_assoc, append-nil}
 use native.Mathlib.Omega.{arith}
 use native.Mathlib.Numerals.{add-one}
 use native.Mathlib.Nat.{lt_of_lt_of_le, pow-le-pow_right, pow-suc, one-le-pow, div-eq_of_lt-le}
-use lib.ListN.{length, get_or, take, replicate, length-append, length-replicate}
-use lib.Seq.{slice, take-length}
+use lib.ListN.{length, get_or, take, drop, replicate, length-append, length-replicate}
+use lib.Seq.{take-length}
 use lib.Dec.{eqb}
 use borrow.Author.Tests.{eq-eqb}
 use Rattle.format.specs.Octets.{Below}
@@ -15,19 +15,17 @@ use Rattle.format.specs.Digits.{digits, number_from, number}
 use Rattle.format.specs.Base.{bits, filled, to_digits}
 use Rattle.format.proofs.Digits.{digits_below, digits_length, number_digits, number_append}
 use Rattle.format.proofs.Base.{bits_below, bits_length, digits_many}
-use Rattle.octets.proofs.Slices.{next}
+use Rattle.format.proofs.Lists.{drop_next}
 use Rattle.digits.proofs.Bits.{flat_append}
 use Rattle.digits.proofs.Bits.{bits_after, regrouped}
 
 -- the next octet of a number that is read from bits
-pub next_octet : (p : List ℕ) (v i j e k : ℕ) → i + j < e → e ≤ length p → get_or p (i + j) 0 < 256 → number_from 2 v (bits 8 (slice (i + j) e p)) ≡ k
-    → number_from 2 (v * 256 + get_or p (i + j) 0) (bits 8 (slice (i + (j + 1)) e p)) ≡ k
-next_octet p v i j e k h l b q =
-    let x : ℕ = get_or p (i + j) 0 in
-    let a : i + j + 1 ≡ i + (j + 1) = omega arith in
-    ap (λ m. number_from 2 (v * 256 + x) (bits 8 (slice m e p))) (sym a)
-    ∙ ap (λ y. number_from 2 y (bits 8 (slice (i + j + 1) e p))) (sym (bits_after 8 v x b))
-    ∙ sym (ap (λ t. number_from 2 v (bits 8 t)) (next p (i + j) e h l) ∙ number_append 2 v (digits 2 8 x) (bits 8 (slice (i + j + 1) e p)))
+pub next_octet : (xs : List ℕ) (v i k : ℕ) → i < length xs → get_or xs i 0 < 256 → number_from 2 v (bits 8 (drop i xs)) ≡ k
+    → number_from 2 (v * 256 + get_or xs i 0) (bits 8 (drop (i + 1) xs)) ≡ k
+next_octet xs v i k h b q =
+    let x : ℕ = get_or xs i 0 in
+    ap (λ y. number_from 2 y (bits 8 (drop (i + 1) xs))) (sym (bits_after 8 v x b))
+    ∙ sym (ap (λ t. number_from 2 v (bits 8 t)) (drop_next xs i h) ∙ number_append 2 v (digits 2 8 x) (bits 8 (drop (i + 1) xs)))
     ∙ q
 
 -- the number of a few octets leaves room for another octet

@@ -4,13 +4,11 @@ use mathlib.Core.Path.{◌≡◌, refl, sym, ap, ◌∙◌}
 use mathlib.Core.List.{List, [], ◌∷◌, ◌++◌, map, append_assoc}
 use native.Mathlib.Omega.{arith}
 use lib.ListN.{length, get_or, take, drop, take-append-drop, length-take}
-use lib.Seq.{slice, take_all}
 use Rattle.format.specs.Digits.{digits, upper_digit}
-use Rattle.format.specs.Octets.{ascii, same_octets}
+use Rattle.format.specs.Octets.{same_octets}
 use Rattle.format.specs.Hex.{hex_text, counted_hex_text}
 use Rattle.format.proofs.Lists.{octets_same}
 use Rattle.format.proofs.Finite.{at_each}
-use Rattle.octets.proofs.Slices.{none, next as next_octet}
 use Rattle.buffer.proofs.Laws.{next}
 use Rattle.digits.proofs.Bits.{flat_append}
 use Rattle.base.specs.Hex.{from_table, table_text, hex_table, OldTwo}
@@ -36,10 +34,6 @@ module _ (t s : List ℕ) (c : ℕ) where
   pub table_count : c ≤ length s → length (table_text t (take c s)) ≡ 2 * c
   table_count h = omega (arith, table_length t (take c s), length-take c s)
 
-  -- all octets are among the first c
-  pub table_all : length s ≤ c → table_text t (take c s) ≡ table_text t s
-  table_all h = ap (table_text t) (take_all c s h)
-
   -- the first c octets, the first digit of the next one, and the rest
   pub table_parts : c < length s
       → (table_text t (take c s) ++ get_or t (get_or s c 0 / 16) 0 ∷ []) ++ (get_or t (get_or s c 0 % 16) 0 ∷ table_text t (drop (c + 1) s)) ≡ table_text t s
@@ -49,10 +43,7 @@ module _ (t s : List ℕ) (c : ℕ) where
       ∙ sym (flat_append (from_table t) (take c s) (drop c s))
       ∙ ap (table_text t) (take-append-drop c s)
 
--- the octets from i to e, counted
-module _ (s : List ℕ) (i e : ℕ) where
-  pub no_octets : e ≤ i → ascii "-" ≡ counted_hex_text (slice i e s)
-  no_octets h = sym (ap counted_hex_text (none s i e h))
-
-  pub some_octets : i < e → e ≤ length s → hex_text (slice i e s) ≡ counted_hex_text (slice i e s)
-  some_octets h l = rw (next_octet s i e h l) refl
+-- octets, counted
+pub some_octets : (s : List ℕ) → 0 < length s → hex_text s ≡ counted_hex_text s
+some_octets [] h = absurd (omega arith)
+some_octets (x ∷ s) h = refl

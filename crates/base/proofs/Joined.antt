@@ -3,7 +3,7 @@ use Prim.Native.Nat.{ℕ, ◌+◌, ◌≤◌, ◌<◌}
 use mathlib.Core.Path.{◌≡◌, refl, sym, ap, ◌∙◌}
 use mathlib.Core.Bool.{Bool, true, false, not, cond, ◌&&◌}
 use mathlib.Core.List.{List, [], ◌∷◌, ◌++◌, append_assoc}
-use mathlib.Core.Option.{Option, none, some}
+use Rattle.std.specs.Prelude.{Option, None, Some}
 use native.Mathlib.Omega.{arith}
 use lib.Dec.{eqb}
 use lib.ListN.{length}
@@ -18,7 +18,7 @@ use Rattle.buffer.specs.Writing.{after}
 
 -- the octets of tokens, if all are bare
 abbrev joined : List Token → Option (List ℕ)
-joined ts = each_of bare_of ts >>= λ l. some (flat l)
+joined ts = each_of bare_of ts >>= λ l. Some (flat l)
 
 -- the first token is bare or broken; quoted or broken
 data BareFirst : List Token → Type 0 where
@@ -80,19 +80,19 @@ quoted_scan q false (x ∷ s) = by (eqb x q) (text_octet x) (eqb x 92) (λ e. qu
 joined_into : (x : ℕ) (ts : List Token) → BareFirst ts → joined (into_first x ts) ≡ after (x ∷ []) (joined ts)
 joined_into x ts (bare_first t us) = by (each_of bare_of us)
   where
-    by : (o : Option (List (List ℕ))) → (cons_both (some (x ∷ t)) o >>= λ l. some (flat l)) ≡ after (x ∷ []) (cons_both (some t) o >>= λ l. some (flat l))
-    by none = refl
-    by (some l) = refl
+    by : (o : Option (List (List ℕ))) → (cons_both (Some (x ∷ t)) o >>= λ l. Some (flat l)) ≡ after (x ∷ []) (cons_both (Some t) o >>= λ l. Some (flat l))
+    by None = refl
+    by (Some l) = refl
 joined_into x ts (bare_broken us) = refl
 
 joined_end : (ts : List Token) → joined (bare [] ∷ ts) ≡ joined ts
 joined_end ts = by (each_of bare_of ts)
   where
-    by : (o : Option (List (List ℕ))) → (cons_both (some []) o >>= λ l. some (flat l)) ≡ (o >>= λ l. some (flat l))
-    by none = refl
-    by (some l) = refl
+    by : (o : Option (List (List ℕ))) → (cons_both (Some []) o >>= λ l. Some (flat l)) ≡ (o >>= λ l. Some (flat l))
+    by None = refl
+    by (Some l) = refl
 
-joined_other : (ts : List Token) → OtherFirst ts → joined ts ≡ none
+joined_other : (ts : List Token) → OtherFirst ts → joined ts ≡ None
 joined_other ts (quoted_first t us) = refl
 joined_other ts (other_broken us) = refl
 
@@ -106,25 +106,25 @@ abbrev pub joined_text : (List ℕ → Option (List ℕ)) → List ℕ → Got
 joined_text f [] = no_token
 joined_text f (x ∷ xs) = got_or (f (x ∷ xs) >>= not_empty) []
 
-module _ (f : List ℕ → Option (List ℕ)) (good : ℕ → Bool) (plain : (x : ℕ) → good x ≡ true → plainly x ≡ true) (bad : (p : List ℕ) (x : ℕ) (ys : List ℕ) → good x ≡ false → f (p ++ x ∷ ys) ≡ none) where
+module _ (f : List ℕ → Option (List ℕ)) (good : ℕ → Bool) (plain : (x : ℕ) → good x ≡ true → plainly x ≡ true) (bad : (p : List ℕ) (x : ℕ) (ys : List ℕ) → good x ≡ false → f (p ++ x ∷ ys) ≡ None) where
   abbrev read_from : List ℕ → List Token → Option (List ℕ)
   read_from p ts = joined ts >>= λ ys. f (p ++ ys)
 
-  bad_into : (p : List ℕ) (x : ℕ) (o : Option (List ℕ)) → good x ≡ false → (after (x ∷ []) o >>= λ ys. f (p ++ ys)) ≡ none
-  bad_into p x none h = refl
-  bad_into p x (some ys) h = bad p x ys h
+  bad_into : (p : List ℕ) (x : ℕ) (o : Option (List ℕ)) → good x ≡ false → (after (x ∷ []) o >>= λ ys. f (p ++ ys)) ≡ None
+  bad_into p x None h = refl
+  bad_into p x (Some ys) h = bad p x ys h
 
-  bad_bare : (p : List ℕ) (x : ℕ) (s : List ℕ) (c e : Bool) → good x ≡ false → read_from p (after_scan x (cond c (keep (in_bare e)) breaks) (λ t. scanned t s)) ≡ none
+  bad_bare : (p : List ℕ) (x : ℕ) (s : List ℕ) (c e : Bool) → good x ≡ false → read_from p (after_scan x (cond c (keep (in_bare e)) breaks) (λ t. scanned t s)) ≡ None
   bad_bare p x s true e h = ap (λ o. o >>= λ ys. f (p ++ ys)) (joined_into x (scanned (in_bare e) s) (bare_scan e s)) ∙ bad_into p x (joined (scanned (in_bare e) s)) h
   bad_bare p x s false e h = refl
 
-  bad_between : (p : List ℕ) (x : ℕ) (s : List ℕ) (q c e : Bool) → good x ≡ false → read_from p (after_scan x (cond q (skip (in_quotes x false)) (cond c (keep (in_bare e)) breaks)) (λ t. scanned t s)) ≡ none
+  bad_between : (p : List ℕ) (x : ℕ) (s : List ℕ) (q c e : Bool) → good x ≡ false → read_from p (after_scan x (cond q (skip (in_quotes x false)) (cond c (keep (in_bare e)) breaks)) (λ t. scanned t s)) ≡ None
   bad_between p x s true c e h = ap (λ o. o >>= λ ys. f (p ++ ys)) (joined_other (scanned (in_quotes x false) s) (quoted_scan x false s))
   bad_between p x s false c e h = bad_bare p x s c e h
 
   good_into : (p : List ℕ) (x : ℕ) (o : Option (List ℕ)) → (after (x ∷ []) o >>= λ ys. f (p ++ ys)) ≡ (o >>= λ ys. f ((p ++ x ∷ []) ++ ys))
-  good_into p x none = refl
-  good_into p x (some ys) = ap f (sym (append_assoc p (x ∷ []) ys))
+  good_into p x None = refl
+  good_into p x (Some ys) = ap f (sym (append_assoc p (x ∷ []) ys))
 
   good_bare : (p : List ℕ) (x : ℕ) (s : List ℕ) → read_from (p ++ x ∷ []) (scanned (in_bare false) s) ≡ f ((p ++ x ∷ []) ++ without blank s) → read_from p (into_first x (scanned (in_bare false) s)) ≡ f (p ++ x ∷ without blank s)
   good_bare p x s ih =
@@ -170,13 +170,13 @@ same_null (x ∷ s) = by (blank x) (quote_mark x) (text_octet x && not (guarded 
     by false false true d h = bare_some (into_first x (scanned (in_bare d) s)) (bare_into x (scanned (in_bare d) s) (bare_scan d s))
     by false false false d h = refl
 
-module _ (f : List ℕ → Option (List ℕ)) (good : ℕ → Bool) (plain : (x : ℕ) → good x ≡ true → plainly x ≡ true) (bad : (p : List ℕ) (x : ℕ) (ys : List ℕ) → good x ≡ false → f (p ++ x ∷ ys) ≡ none) where
+module _ (f : List ℕ → Option (List ℕ)) (good : ℕ → Bool) (plain : (x : ℕ) → good x ≡ true → plainly x ≡ true) (bad : (p : List ℕ) (x : ℕ) (ys : List ℕ) → good x ≡ false → f (p ++ x ∷ ys) ≡ None) where
   pub joined_is : (s : List ℕ) → joined_bares f (tokens s) ≡ joined_text f (without blank s)
   joined_is s = by (tokens s) (without blank s) (same_null s) (reads f good plain bad false s [])
     where
-      of : (o : Option (List (List ℕ))) → (o >>= λ l. f (flat l) >>= not_empty) ≡ ((o >>= λ l. some (flat l)) >>= f >>= not_empty)
-      of none = refl
-      of (some l) = refl
+      of : (o : Option (List (List ℕ))) → (o >>= λ l. f (flat l) >>= not_empty) ≡ ((o >>= λ l. Some (flat l)) >>= f >>= not_empty)
+      of None = refl
+      of (Some l) = refl
 
       by : (ts : List Token) (xs : List ℕ) → null ts ≡ null xs → (joined ts >>= f) ≡ f xs → joined_bares f ts ≡ joined_text f xs
       by [] [] n e = refl
@@ -185,11 +185,11 @@ module _ (f : List ℕ → Option (List ℕ)) (good : ℕ → Bool) (plain : (x 
       by (t ∷ ts) (x ∷ xs) n e = ap (λ o. got_or o []) (of (each_of bare_of (t ∷ ts)) ∙ ap (λ o. o >>= not_empty) e)
 
 -- the reader's answer for a text: a fault, or octets
-pub text_fault : (f : List ℕ → Option (List ℕ)) (xs : List ℕ) → f [] ≡ some [] → f xs ≡ none → joined_text f xs ≡ bad_token
+pub text_fault : (f : List ℕ → Option (List ℕ)) (xs : List ℕ) → f [] ≡ Some [] → f xs ≡ None → joined_text f xs ≡ bad_token
 text_fault f [] z e = cc
 text_fault f (x ∷ xs) z e = rw e
 
-pub text_got : (f : List ℕ → Option (List ℕ)) (xs ys : List ℕ) → f [] ≡ some [] → f xs ≡ some ys → 0 < length ys → joined_text f xs ≡ got ys []
+pub text_got : (f : List ℕ → Option (List ℕ)) (xs ys : List ℕ) → f [] ≡ Some [] → f xs ≡ Some ys → 0 < length ys → joined_text f xs ≡ got ys []
 text_got f xs [] z e h = absurd (omega arith)
 text_got f [] (y ∷ ys) z e h = cc
 text_got f (x ∷ xs) (y ∷ ys) z e h = rw e

@@ -3,26 +3,26 @@ use Prim.Native.Nat.{ℕ, zero, suc, min, ◌+◌, ◌*◌, ◌-◌, ◌/◌, �
 use mathlib.Core.Path.{◌≡◌, refl, sym, ap, ◌∙◌}
 use mathlib.Core.List.{List, [], ◌∷◌, ◌++◌, map, map-append, append-nil}
 use native.Mathlib.Omega.{arith}
-use native.Mathlib.Nat.{mul-suc, mul_comm, mul_assoc, div-lt_iff_lt-mul, div-eq_of_lt-le, div-le_self, one-le-pow, sub-zero, add-zero, zero-add}
+use native.Mathlib.Nat.{mul-suc, mul_comm, mul_assoc, div-lt_iff_lt-mul, div-eq_of_lt-le, div-le_self, add-zero, zero-add}
+use native.Mathlib.Numerals.{add-one}
 use native.Mathlib.Decide.{dec_lt}
 use borrow.Author.Rules.{rules}
-use lib.ListN.{length, get_or, take, drop, replicate, length-append, length-map}
-use lib.Seq.{slice, sets, take-take, length-slice}
+use lib.ListN.{length, get_or, take, drop, replicate, length-append, length-map, length-take, length-replicate, take-append-drop}
+use lib.Seq.{sets, take-take, take-add, take_all, length-sets, drop-cons}
+use Rattle.std.specs.Simd.{first_chunks}
+use Rattle.format.specs.Lists.{flat}
 use Rattle.format.specs.Octets.{Below}
-use Rattle.format.specs.Digits.{digits, number, upper_digit}
+use Rattle.format.specs.Digits.{digits, number}
 use Rattle.format.specs.Base.{bits, to_digits, base64_char, base64_text}
 use Rattle.format.proofs.Digits.{digits_length}
 use Rattle.format.proofs.Base.{digits_of}
-use Rattle.octets.proofs.Slices.{none, lent}
-use Rattle.octets.proofs.Blocks.{slice_append}
 use Rattle.buffer.specs.Writing.{Wrote}
 use Rattle.buffer.proofs.Laws.{sets_cons, wrote_text, wrote_append, wrote_length, wrote_out}
 use Rattle.base.specs.Alphabet.{chars, Grouped}
-use Rattle.base.proofs.Digits.{no_digits, whole_digits, digits_append, digit_count, short_digits}
+use Rattle.base.proofs.Digits.{whole_digits, digits_append, digit_count, short_digits}
 
-pub times : (g d : ℕ) → 0 < d → g * d ≡ g * (d - 1) + g
-times g zero h = absurd (omega arith)
-times g (suc d) h = let e : suc d - 1 ≡ d = omega arith in rw (e, mul-suc g d)
+pub one_more : (k i : ℕ) → k * (i + 1) ≡ k * i + k
+one_more k i = rw (add-one i, mul-suc k i)
 
 -- octets stored into zeros, and the zeros after them
 take_zeros : (g q : ℕ) → g ≤ q → take {A = ℕ} g (replicate q 0) ≡ replicate g 0
@@ -43,75 +43,82 @@ take_map f zero ds = refl
 take_map f (suc k) [] = refl
 take_map f (suc k) (d ∷ ds) = ap (λ t. f d ∷ t) (take_map f k ds)
 
-module _ (w g : ℕ) (t p : List ℕ) (grouped : Grouped w g t) where
+-- pieces of g octets, and all of them in a row
+pieces_flat : (g k c : ℕ) (p : List ℕ) → c ≤ k → flat (take c (first_chunks g k p)) ≡ take (g * c) p
+pieces_flat g k zero p h = let e : g * 0 ≡ 0 = omega arith in rw e
+pieces_flat g zero (suc c) p h = absurd (omega arith)
+pieces_flat g (suc k) (suc c) p h =
+    let e : g * suc c ≡ g + g * c = omega (arith, mul-suc g c) in
+    ap (λ xs. take g p ++ xs) (pieces_flat g k c (drop g p) (omega arith)) ∙ sym (take-add g (g * c) p) ∙ ap (λ n. take n p) (sym e)
+
+pub pieces_front : (g n c : ℕ) (p : List ℕ) (ps : List (List ℕ)) → ps ≡ first_chunks g n p → c ≤ n → flat (take c ps) ≡ take (g * c) p
+pieces_front g n c p ps e h = rw e (pieces_flat g n c p h)
+
+pub next_piece : (ps : List (List ℕ)) (i : ℕ) (x : List ℕ) → i < length ps → x ≡ get_or ps i x → flat (drop i ps) ≡ x ++ flat (drop (i + 1) ps)
+next_piece ps i x h e = rw (add-one i, drop-cons ps i x h, ← e)
+
+-- octets stored into a buffer of zeros
+filled_up : (xs : List ℕ) (g : ℕ) → length xs ≤ g → sets (replicate g 0) 0 xs ≡ xs ++ replicate (g - length xs) 0
+filled_up xs g h =
+    sym (take_all g (sets (replicate g 0) 0 xs) (omega (arith, length-sets (replicate {A = ℕ} g 0) 0 xs, length-replicate {A = ℕ} g 0))) ∙ before_zeros_lem xs g g h (omega arith)
+
+module _ (w g n : ℕ) (t : List ℕ) (grouped : Grouped w g n) where
   -- the characters of a group
   abbrev group_text_lem : List ℕ → List ℕ
-  group_text_lem xs = chars t (digits (length t) (8 * g / w) (number 2 (bits 8 xs)))
-
-  pub some_chars : 0 < length t
-  some_chars = omega (arith, grouped.size, one-le-pow w 2 (omega arith))
+  group_text_lem xs = chars t (digits n (8 * g / w) (number 2 (bits 8 xs)))
 
   group_length : (xs : List ℕ) → length (group_text_lem xs) ≡ 8 * g / w
-  group_length xs = length-map (digits (length t) (8 * g / w) (number 2 (bits 8 xs))) (λ d. get_or t d 0) ∙ digits_length (length t) (8 * g / w) (number 2 (bits 8 xs))
+  group_length xs = length-map (digits n (8 * g / w) (number 2 (bits 8 xs))) (λ d. get_or t d 0) ∙ digits_length n (8 * g / w) (number 2 (bits 8 xs))
 
   -- a group is stored
-  pub stored : (o o' : List ℕ) (n v : ℕ) (xs : List ℕ) → v ≡ number 2 (bits 8 xs) → o' ≡ sets o n (chars t (digits (length t) (8 * g / w) v)) → Wrote o o' n (n + 8 * g / w) (group_text_lem xs)
-  stored o o' n v xs e p = record { octets = rw e at p; count = ap (λ l. n + l) (sym (group_length xs)) }
+  pub stored : (o o' : List ℕ) (at v : ℕ) (xs : List ℕ) → v ≡ number 2 (bits 8 xs) → o' ≡ sets o at (chars t (digits n (8 * g / w) v)) → Wrote o o' at (at + 8 * g / w) (group_text_lem xs)
+  stored o o' at v xs e p = record { octets = rw e at p; count = ap (λ l. at + l) (sym (group_length xs)) }
 
-  text_length : (f : ℕ → ℕ) (i e : ℕ) → e ≤ length p → length (map f (to_digits w (slice i e p))) ≡ (8 * (e - i) + w - 1) / w
-  text_length f i e l =
-      length-map (to_digits w (slice i e p)) f ∙ digit_count w grouped.some_bits (slice i e p) ∙ ap (λ x. (8 * x + w - 1) / w) (length-slice i e p l)
+  text_length : (f : ℕ → ℕ) (p : List ℕ) → length (map f (to_digits w p)) ≡ (8 * length p + w - 1) / w
+  text_length f p = length-map (to_digits w p) f ∙ digit_count w grouped.some_bits p
 
   -- where a text ends, whatever its characters are
-  pub near : {o o' : List ℕ} {n m : ℕ} (f : ℕ → ℕ) (i e : ℕ) → e ≤ length p → length p ≤ 65535 → Wrote o o' n m (map f (to_digits w (slice i e p))) → m ≤ n + 2 ^ 20
-  near f i e l h v = omega (arith, v.count, text_length f i e l, div-le_self (8 * (e - i) + w - 1) w, grouped.few_bits)
+  pub near : {o o' : List ℕ} {at m : ℕ} (f : ℕ → ℕ) (p : List ℕ) → length p ≤ 65535 → Wrote o o' at m (map f (to_digits w p)) → m ≤ at + 2 ^ 20
+  near f p h v = omega (arith, v.count, text_length f p, div-le_self (8 * length p + w - 1) w, grouped.few_bits)
 
   whole_groups : (c : ℕ) → w * (8 * g / w * c) ≡ 8 * (g * c)
   whole_groups c = sym (mul_assoc w (8 * g / w) c) ∙ ap (λ x. x * c) grouped.whole ∙ mul_assoc 8 g c
 
   -- the same for c groups; and the buffer keeps its length
-  pub placed : {o o' : List ℕ} {n m : ℕ} (f : ℕ → ℕ) (i c : ℕ) → i + g * c ≤ length p → Wrote o o' n m (map f (to_digits w (slice i (i + g * c) p))) → (m ≡ n + 8 * g / w * c) × (length o' ≡ length o)
-  placed {n = n} f i c l v =
+  pub placed : {o o' : List ℕ} {at m : ℕ} (f : ℕ → ℕ) (p : List ℕ) (c : ℕ) → length p ≡ g * c → Wrote o o' at m (map f (to_digits w p)) → (m ≡ at + 8 * g / w * c) × (length o' ≡ length o)
+  placed {at = at} f p c l v =
       let k : ℕ = 8 * g / w * c in
       let q : k * w ≡ 8 * (g * c) = mul_comm k w ∙ whole_groups c in
-      let d : i + g * c - i ≡ g * c = omega arith in
       let e : (8 * (g * c) + w - 1) / w ≡ k = div-eq_of_lt-le {k = k} w {m = 8 * (g * c) + w - 1} (omega (arith, grouped.some_bits)) (omega (arith, grouped.some_bits)) in
-      (v.count ∙ ap (λ x. n + x) (text_length f i (i + g * c) l ∙ ap (λ x. (8 * x + w - 1) / w) d ∙ e), wrote_length v)
+      (v.count ∙ ap (λ x. at + x) (text_length f p ∙ ap (λ x. (8 * x + w - 1) / w) l ∙ e), wrote_length v)
 
-  -- a part that makes whole digits, and the rest
-  two_texts : (k i j e : ℕ) → i ≤ j → j ≤ e → e ≤ length p → w * k ≡ 8 * (j - i)
-      → chars t (to_digits w (slice i e p)) ≡ chars t (to_digits w (slice i j p)) ++ chars t (to_digits w (slice j e p))
-  two_texts k i j e a b l q =
-      ap (λ xs. chars t (to_digits w xs)) (slice_append p i j e a b l)
-      ∙ ap (chars t) (digits_append w grouped.some_bits k (slice i j p) (slice j e p) (omega (arith, length-slice i j p (omega arith))))
-      ∙ map-append (λ d. get_or t d 0) (to_digits w (slice i j p)) (to_digits w (slice j e p))
+  -- octets that make whole digits, and the rest
+  two_texts : (k : ℕ) (xs ys : List ℕ) → w * k ≡ 8 * length xs → chars t (to_digits w (xs ++ ys)) ≡ chars t (to_digits w xs) ++ chars t (to_digits w ys)
+  two_texts k xs ys q =
+      ap (chars t) (digits_append w grouped.some_bits k xs ys q) ∙ map-append (λ d. get_or t d 0) (to_digits w xs) (to_digits w ys)
 
-  group_whole : (i : ℕ) → i + g ≤ length p → chars t (to_digits w (slice i (i + g) p)) ≡ group_text_lem (slice i (i + g) p)
-  group_whole i l =
-      let xs : List ℕ = slice i (i + g) p in
-      rw (whole_digits w grouped.some_bits (8 * g / w) xs (omega (arith, grouped.whole, length-slice i (i + g) p l)), grouped.size)
+  texts_after : (c : ℕ) (xs ys : List ℕ) → length xs ≡ g * c → chars t (to_digits w (xs ++ ys)) ≡ chars t (to_digits w xs) ++ chars t (to_digits w ys)
+  texts_after c xs ys l = two_texts (8 * g / w * c) xs ys (omega (arith, whole_groups c))
 
-  pub next_group : (i e : ℕ) → i + g ≤ e → e ≤ length p
-      → chars t (to_digits w (slice i e p)) ≡ group_text_lem (slice i (i + g) p) ++ chars t (to_digits w (slice (i + g) e p))
-  next_group i e h l =
-      two_texts (8 * g / w) i (i + g) e (omega arith) h l (omega (arith, grouped.whole))
-      ∙ ap (λ s. s ++ chars t (to_digits w (slice (i + g) e p))) (group_whole i (omega arith))
+  group_whole : (xs : List ℕ) → length xs ≡ g → chars t (to_digits w xs) ≡ group_text_lem xs
+  group_whole xs l = rw (whole_digits w grouped.some_bits (8 * g / w) xs (omega (arith, grouped.whole)), grouped.size)
 
-  pub no_group : (i e : ℕ) → e ≤ i → chars t (to_digits w (slice i e p)) ≡ []
-  no_group i e h = ap (λ xs. chars t (to_digits w xs)) (none p i e h) ∙ ap (chars t) (no_digits w grouped.some_bits)
+  pub next_group : (xs ys : List ℕ) → length xs ≡ g → chars t (to_digits w (xs ++ ys)) ≡ group_text_lem xs ++ chars t (to_digits w ys)
+  next_group xs ys l =
+      two_texts (8 * g / w) xs ys (omega (arith, grouped.whole)) ∙ ap (λ s. s ++ chars t (to_digits w ys)) (group_whole xs l)
 
-  pub digits_fit : (r : ℕ) → r ≤ g → (8 * r + w - 1) / w ≤ 8 * g / w
+  digits_fit : (r : ℕ) → r ≤ g → (8 * r + w - 1) / w ≤ 8 * g / w
   digits_fit r h =
       let m : (8 * r + w - 1) / w < 8 * g / w + 1 = (div-lt_iff_lt-mul grouped.some_bits).1 (omega (arith, grouped.whole, grouped.some_bits)) in
       omega arith
 
   -- the first characters of a group that is filled up with zeros are those of its octets
-  short_group : (v k : ℕ) (xs : List ℕ) → length xs ≤ g → v ≡ number 2 (bits 8 (take g (sets (replicate 5 0) 0 xs))) → k ≡ (8 * length xs + w - 1) / w
-      → take k (sets (replicate 8 0) 0 (chars t (digits (length t) (8 * g / w) v))) ≡ chars t (to_digits w xs)
+  short_group : (v k : ℕ) (xs : List ℕ) → length xs ≤ g → v ≡ number 2 (bits 8 (sets (replicate g 0) 0 xs)) → k ≡ (8 * length xs + w - 1) / w
+      → take k (sets (replicate 8 0) 0 (chars t (digits n (8 * g / w) v))) ≡ chars t (to_digits w xs)
   short_group v k xs h e q =
       let K : ℕ = 8 * g / w in
-      let ds : List ℕ = digits (length t) K v in
-      let l : length (chars t ds) ≡ K = length-map ds (λ d. get_or t d 0) ∙ digits_length (length t) K v in
+      let ds : List ℕ = digits n K v in
+      let l : length (chars t ds) ≡ K = length-map ds (λ d. get_or t d 0) ∙ digits_length n K v in
       let few : k ≤ K = omega (arith, digits_fit (length xs) h) in
       let z : K - length (chars t ds) ≡ 0 = omega arith in
       sym (take-take k K (sets (replicate 8 0) 0 (chars t ds)) few)
@@ -119,38 +126,38 @@ module _ (w g : ℕ) (t p : List ℕ) (grouped : Grouped w g t) where
       ∙ take_map (λ d. get_or t d 0) k ds
       ∙ ap (chars t) digits_right
     where
-      digits_right : take k (digits (length t) (8 * g / w) v) ≡ to_digits w xs
+      digits_right : take k (digits n (8 * g / w) v) ≡ to_digits w xs
       digits_right =
-          let b : v ≡ number 2 (bits 8 (xs ++ replicate (g - length xs) 0)) = e ∙ ap (λ ys. number 2 (bits 8 ys)) (before_zeros_lem xs g 5 h grouped.few_octets) in
+          let b : v ≡ number 2 (bits 8 (xs ++ replicate (g - length xs) 0)) = e ∙ ap (λ ys. number 2 (bits 8 ys)) (filled_up xs g h) in
           rw (b, q, grouped.size) (short_digits w grouped.some_bits (8 * g / w) (g - length xs) xs grouped.few_bits (omega (arith, grouped.whole)))
 
-  pub group_wrote : {o o' : List ℕ} {n m : ℕ} (i e v k : ℕ) (q x : List ℕ) → i ≤ e → e ≤ i + g → e ≤ length p → q ≡ sets (replicate 5 0) 0 (take (e - i) (drop i p))
-      → v ≡ number 2 (bits 8 (slice 0 (0 + g) q)) → x ≡ sets (replicate 8 0) 0 (chars t (digits (length t) (8 * g / w) v)) → k ≡ (8 * (e - i) + w - 1) / w
-      → Wrote o o' n m (take k x) → Wrote o o' n m (chars t (to_digits w (slice i e p)))
-  group_wrote i e v k q x a b l eq ev ex ek u =
-      let z : 0 + g ≡ g = omega arith in
-      let r : length (slice i e p) ≡ e - i = length-slice i e p l in
-      let d : v ≡ number 2 (bits 8 (take g (sets (replicate 5 0) 0 (slice i e p)))) = rw (eq, lent p i e a, z) at ev in
-      wrote_text _ _ (ap (take k) ex ∙ short_group v k (slice i e p) (omega arith) d (ek ∙ ap (λ y. (8 * y + w - 1) / w) (sym r))) u
+  pub group_wrote : {o o' : List ℕ} {at m : ℕ} (p : List ℕ) (v k : ℕ) (q x : List ℕ) → length p ≤ g → q ≡ sets (replicate g 0) 0 p
+      → v ≡ number 2 (bits 8 q) → x ≡ sets (replicate 8 0) 0 (chars t (digits n (8 * g / w) v)) → k ≡ (8 * length p + w - 1) / w
+      → Wrote o o' at m (take k x) → Wrote o o' at m (chars t (to_digits w p))
+  group_wrote p v k q x l eq ev ex ek u =
+      let d : v ≡ number 2 (bits 8 (sets (replicate g 0) 0 p)) = rw eq at ev in
+      wrote_text _ _ (ap (take k) ex ∙ short_group v k p l d ek) u
 
   -- Octets that are at most one group, or of which only the first group has room.
-  pub rest_wrote : {o o' : List ℕ} {n m : ℕ} (i e h r : ℕ) → h ≡ min e (i + g) → i ≤ e → e ≤ length p → (i + g < e → length o ≤ n + 8 * g / w)
-      → r ≡ n + (8 * (e - i) + w - 1) / w → Wrote o o' n m (chars t (to_digits w (slice i h p))) → Wrote o o' n r (chars t (to_digits w (slice i e p)))
-  rest_wrote {o} {o'} {n} {m} i e h r a b l out q v = by (dec_lt (i + g) e)
+  pub rest_wrote : {o o' : List ℕ} {at m : ℕ} (p : List ℕ) (h r : ℕ) → h ≡ min (length p) g → (g < length p → length o ≤ at + 8 * g / w)
+      → r ≡ at + (8 * length p + w - 1) / w → Wrote o o' at m (chars t (to_digits w (take h p))) → Wrote o o' at r (chars t (to_digits w p))
+  rest_wrote {o} {o'} {at} {m} p h r b out q v = by (dec_lt g (length p))
     where
-      by : Dec (i + g < e) → Wrote o o' n r (chars t (to_digits w (slice i e p)))
+      by : Dec (g < length p) → Wrote o o' at r (chars t (to_digits w p))
       by (no f) =
-          let x : h ≡ e = omega arith in
-          let u : Wrote o o' n m (chars t (to_digits w (slice i e p))) = rw x at v in
-          record { octets = u.octets; count = q ∙ ap (λ x. n + x) (sym (text_length (λ d. get_or t d 0) i e l)) }
+          let u : Wrote o o' at m (chars t (to_digits w p)) = rw (take_all h p (omega arith)) at v in
+          record { octets = u.octets; count = q ∙ ap (λ x. at + x) (sym (text_length (λ d. get_or t d 0) p)) }
       by (yes f) =
-          let x : h ≡ i + g = omega arith in
-          let u : Wrote o o' n m (group_text_lem (slice i (i + g) p)) = rw (x, group_whole i (omega arith)) at v in
-          let s : List ℕ = chars t (to_digits w (slice (i + g) e p)) in
-          let d = next_group i e (omega arith) l in
-          let k : length (group_text_lem (slice i (i + g) p)) ≡ 8 * g / w = group_length (slice i (i + g) p) in
+          let x : h ≡ g = omega arith in
+          let xs : List ℕ = take g p in
+          let ys : List ℕ = drop g p in
+          let l : length xs ≡ g = omega (arith, length-take g p) in
+          let u : Wrote o o' at m (group_text_lem xs) = rw (x, group_whole (take g p) l) at v in
+          let s : List ℕ = chars t (to_digits w ys) in
+          let d : chars t (to_digits w p) ≡ group_text_lem xs ++ s = ap (λ zs. chars t (to_digits w zs)) (sym (take-append-drop g p)) ∙ next_group xs ys l in
+          let k : length (group_text_lem xs) ≡ 8 * g / w = group_length xs in
           wrote_text _ _ (sym d)
-          (wrote_out r s u (omega (arith, u.count, out f)) (omega (arith, u.count, ap length d, length-append (group_text_lem (slice i (i + g) p)) s, text_length (λ d. get_or t d 0) i e l)))
+          (wrote_out r s u (omega (arith, u.count, out f)) (omega (arith, u.count, ap length d, length-append (group_text_lem xs) s, text_length (λ d. get_or t d 0) p)))
 
 -- the characters of the digits from k on
 abbrev alphabet_from : (ℕ → ℕ) → ℕ → ℕ → List ℕ
@@ -171,19 +178,20 @@ chars_are char b [] k = refl
 chars_are char b (d ∷ ds) k = rw (char_at char 0 b d k.0, zero-add d, chars_are char b ds k.1)
 
 -- the whole groups and the rest are written
-pub all_wrote : {o o₁ o₂ : List ℕ} {n m r : ℕ} (w g : ℕ) (char : ℕ → ℕ) (p : List ℕ) → Grouped w g (alphabet char (2 ^ w)) → (i e c : ℕ) → i + g * c ≤ e → e ≤ length p
-    → Wrote o o₁ n m (chars (alphabet char (2 ^ w)) (to_digits w (slice i (i + g * c) p))) → Wrote o₁ o₂ m r (chars (alphabet char (2 ^ w)) (to_digits w (slice (i + g * c) e p)))
-    → Wrote o o₂ n r (map char (to_digits w (slice i e p)))
-all_wrote w g char p grouped i e c h l u v =
-    let t : List ℕ = alphabet char (2 ^ w) in
-    let k : ℕ = 8 * g / w * c in
-    let q : w * k ≡ 8 * (i + g * c - i) = omega (arith, whole_groups w g t p grouped c) in
-    wrote_text _ _ (sym (two_texts w g t p grouped k i (i + g * c) e (omega arith) h l q) ∙ chars_are char (2 ^ w) (to_digits w (slice i e p)) (digits_of w (slice i e p))) (wrote_append u v)
+pub all_wrote : {o o₁ o₂ : List ℕ} {at m r : ℕ} (w g n : ℕ) (char : ℕ → ℕ) (p : List ℕ) → Grouped w g n → n ≡ 2 ^ w → (c : ℕ) → g * c ≤ length p
+    → Wrote o o₁ at m (chars (alphabet char n) (to_digits w (take (g * c) p))) → Wrote o₁ o₂ m r (chars (alphabet char n) (to_digits w (drop (g * c) p)))
+    → Wrote o o₂ at r (map char (to_digits w p))
+all_wrote w g n char p grouped e c h u v =
+    let t : List ℕ = alphabet char n in
+    let d : Below n (to_digits w p) = rw e (digits_of w p) in
+    wrote_text _ _
+    (sym (texts_after w g n t grouped c (take (g * c) p) (drop (g * c) p) (omega (arith, length-take (g * c) p))) ∙ ap (λ xs. chars t (to_digits w xs)) (take-append-drop (g * c) p) ∙ chars_are char n (to_digits w p) d)
+    (wrote_append u v)
 
-pub grouped32 : Grouped 5 5 (alphabet upper_digit 32)
+pub grouped32 : Grouped 5 5 32
 grouped32 = search rules
 
-pub grouped64 : Grouped 6 3 (alphabet base64_char 64)
+pub grouped64 : Grouped 6 3 64
 grouped64 = search rules
 
 -- padding after the digits
@@ -197,10 +205,10 @@ pads (suc (suc (suc (suc k)))) h = absurd (omega arith)
 pads_as : (j k : ℕ) → j ≡ k → k ≤ 3 → take {A = ℕ} j (61 ∷ 61 ∷ 61 ∷ []) ≡ replicate k 61
 pads_as j k e h = rw e (pads k h)
 
-pub padded : {o o₁ o₂ : List ℕ} {n m r : ℕ} (xs : List ℕ) → Wrote o o₁ n m (map base64_char (to_digits 6 xs)) → Wrote o₁ o₂ m r (take ((4 - (m - n) % 4) % 4 - 0) (61 ∷ 61 ∷ 61 ∷ []))
+pub padded : {o o₁ o₂ : List ℕ} {n m r : ℕ} (xs : List ℕ) → Wrote o o₁ n m (map base64_char (to_digits 6 xs)) → Wrote o₁ o₂ m r (take ((4 - (m - n) % 4) % 4) (61 ∷ 61 ∷ 61 ∷ []))
     → Wrote o o₂ n r (base64_text xs)
 padded {n = n} {m = m} xs v w =
     let l : m - n ≡ length (to_digits 6 xs) = omega (arith, v.count, length-map (to_digits 6 xs) base64_char) in
     let k : ℕ = (4 - length (to_digits 6 xs) % 4) % 4 in
-    let z : (4 - (m - n) % 4) % 4 - 0 ≡ k = rw l (sub-zero k) in
-    wrote_append v (wrote_text _ _ (pads_as ((4 - (m - n) % 4) % 4 - 0) k z (omega arith)) w)
+    let z : (4 - (m - n) % 4) % 4 ≡ k = rw l in
+    wrote_append v (wrote_text _ _ (pads_as ((4 - (m - n) % 4) % 4) k z (omega arith)) w)

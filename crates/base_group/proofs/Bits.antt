@@ -3,10 +3,9 @@ use Prim.Native.Nat.{ℕ, zero, suc, ◌+◌, ◌*◌, ◌-◌, ◌/◌, ◌%◌
 use mathlib.Core.Path.{◌≡◌, refl, sym, ap, subst, ◌∙◌}
 use mathlib.Core.Bool.{◌&&◌}
 use mathlib.Core.List.{List, [], ◌∷◌, ◌++◌, append-nil}
-use mathlib.Core.Option.{Option, none, some}
+use Rattle.std.specs.Prelude.{Option, None, Some}
 use native.Mathlib.Omega.{arith}
-use native.Mathlib.Numerals.{add-one}
-use native.Mathlib.Nat.{pow-suc, pow-zero, one-le-pow, mul-add-div_right, mul-add-mod_self_right, div-eq_of_lt, mod-eq_of_lt, mod-lt, add-zero, sub-zero, pow-le-pow_right, mul-le-mul_right}
+use native.Mathlib.Nat.{pow-suc, pow-zero, one-le-pow, mul-add-div_right, mul-add-mod_self_right, div-eq_of_lt, mod-eq_of_lt, mod-lt, add-zero, sub-zero}
 use lib.Dec.{ltb, eqb}
 use lib.ListN.{length, take, drop, length-take, length-drop, take-append-drop}
 use Rattle.format.specs.Lists.{provided, cons_both}
@@ -20,7 +19,6 @@ use Rattle.digits.proofs.Bits.{flat_append}
 use Rattle.digits.proofs.Bits.{bits_number, power, regrouped}
 use borrow.Author.Tests.{lt-ltb, le-ltb, ne_eqb}
 use Rattle.buffer.specs.Writing.{Wrote, Values, after}
-use Rattle.buffer.specs.declared.Value.TheVariants.{Upto}
 use Rattle.buffer.proofs.Values.{after_none}
 
 pub number_last : (b : ℕ) (ds : List ℕ) (d : ℕ) → number b (ds ++ d ∷ []) ≡ number b ds * b + d
@@ -62,11 +60,11 @@ octets_and_bits o z bs b e =
     rw (v, t.0, t.1, bp, bz) (sym (take-append-drop (8 * o) bs))
 
 -- the octets of bits, and the bits left over
-cons_after : (x : ℕ) (xs : List ℕ) (o : Option (List ℕ)) → cons_both (some x) (after xs o) ≡ after (x ∷ xs) o
-cons_after x xs none = refl
-cons_after x xs (some ys) = refl
+cons_after : (x : ℕ) (xs : List ℕ) (o : Option (List ℕ)) → cons_both (Some x) (after xs o) ≡ after (x ∷ xs) o
+cons_after x xs None = refl
+cons_after x xs (Some ys) = refl
 
-octet_whole : (w v : ℕ) (bs r : List ℕ) → 1 ≤ length bs → whole_octets w (length bs) v (bs ++ r) ≡ cons_both (some (number_from 2 v bs)) (whole_octets w 8 0 r)
+octet_whole : (w v : ℕ) (bs r : List ℕ) → 1 ≤ length bs → whole_octets w (length bs) v (bs ++ r) ≡ cons_both (Some (number_from 2 v bs)) (whole_octets w 8 0 r)
 octet_whole w v [] r h = absurd (omega arith)
 octet_whole w v (b ∷ []) r h = refl
 octet_whole w v (b ∷ c ∷ bs) r h = octet_whole w (v * 2 + b) (c ∷ bs) r (omega arith)
@@ -75,8 +73,8 @@ octets_whole : (w : ℕ) (xs r : List ℕ) → Octets xs → whole_octets w 8 0 
 octets_whole w [] r h = sym (after_none (whole_octets w 8 0 r))
 octets_whole w (x ∷ xs) r h =
     octet_whole w 0 (digits 2 8 x) (bits 8 xs ++ r) (omega arith)
-    ∙ ap (λ y. cons_both (some y) (whole_octets w 8 0 (bits 8 xs ++ r))) (number_digits 2 8 x (omega arith) h.0)
-    ∙ ap (cons_both (some x)) (octets_whole w xs r h.1)
+    ∙ ap (λ y. cons_both (Some y) (whole_octets w 8 0 (bits 8 xs ++ r))) (number_digits 2 8 x (omega arith) h.0)
+    ∙ ap (cons_both (Some x)) (octets_whole w xs r h.1)
     ∙ cons_after x xs (whole_octets w 8 0 r)
 
 left_over : (w m v : ℕ) (bs : List ℕ) → length bs < m → whole_octets w m v bs ≡ provided (ltb (8 - (m - length bs)) w && eqb (number_from 2 v bs) 0) []
@@ -109,33 +107,17 @@ group_octets_lem w g ds r h e =
     let d : bits w ds ≡ bits 8 (digits 256 g v) = sym (regrouped 8 g (bits w ds) (bits_below w ds) (bits_length w ds ∙ e)) ∙ ap (λ x. bits 8 (digits 256 g x)) n in
     ap (whole_octets w 8 0) (flat_append (digits 2 w) ds r ∙ ap (λ x. x ++ bits w r) d) ∙ octets_whole w (digits 256 g v) (bits w r) (digits_below 256 g v (omega arith))
 
--- the next power of 2
-pub power_on : (p k : ℕ) → p ≡ 2 ^ k → p * 2 ≡ 2 ^ (k + 1)
-power_on p k e = rw (add-one k, pow-suc 2 k, e)
-
-pub power_small : (p k : ℕ) → p ≡ 2 ^ k → k < 8 → p ≤ 128
-power_small p k e h = let l : k ≤ 7 = omega arith in rw e (pow-le-pow_right {n = 2} (omega arith) l)
-
-pub power_end : (p k z : ℕ) → p ≡ 2 ^ k → k ≤ z → z ≤ k → p ≡ 2 ^ z
-power_end p k z e h l = let q : k ≡ z = omega arith in e ∙ ap (λ x. 2 ^ x) q
-
 -- the octets of the last digits, given their number
-pub few_bits : (w q : ℕ) → w ≤ 6 → q ≤ 8 → w * q ≤ 48
-few_bits w q h l = let m : w * q ≤ 6 * q = mul-le-mul_right q h in omega arith
-
 module _ (w q v : ℕ) (s : v < 2 ^ (w * q)) where
   whole : whole_octets w 8 0 (digits 2 (w * q) v) ≡ after (digits 256 (w * q / 8) (v / 2 ^ (w * q % 8))) (provided (ltb (w * q % 8) w && eqb (v % 2 ^ (w * q % 8)) 0) [])
   whole = number_octets w (w * q) v (w * q / 8) (w * q % 8) (omega arith) (omega arith) s
 
-  pub many_left : w ≤ w * q % 8 → whole_octets w 8 0 (digits 2 (w * q) v) ≡ none
+  pub many_left : w ≤ w * q % 8 → whole_octets w 8 0 (digits 2 (w * q) v) ≡ None
   many_left h = whole ∙ rw (le-ltb (w * q % 8) w h)
 
   module _ (p : ℕ) (e : p ≡ 2 ^ (w * q % 8)) (h : w * q % 8 < w) where
-    pub bits_left : (v % p ≡ 0 → ⊥) → whole_octets w 8 0 (digits 2 (w * q) v) ≡ none
+    pub bits_left : (v % p ≡ 0 → ⊥) → whole_octets w 8 0 (digits 2 (w * q) v) ≡ None
     bits_left n = whole ∙ rw (← e, lt-ltb (w * q % 8) w h, ne_eqb (v % p) 0 n)
 
-    pub none_left : (o o' : List ℕ) (n r : ℕ) → v % p ≡ 0 → Wrote o o' n r (digits 256 (w * q / 8) (v / p)) → Values o o' n (Upto r) (whole_octets w 8 0 (digits 2 (w * q) v))
+    pub none_left : (o o' : List ℕ) (n r : ℕ) → v % p ≡ 0 → Wrote o o' n r (digits 256 (w * q / 8) (v / p)) → Values o o' n (Some r) (whole_octets w 8 0 (digits 2 (w * q) v))
     none_left o o' n r z c = (digits 256 (w * q / 8) (v / p), whole ∙ rw (← e, lt-ltb (w * q % 8) w h, z, append-nil (digits 256 (w * q / 8) (v / p))), c)
-
-  pub power_some : (p : ℕ) → p ≡ 2 ^ (w * q % 8) → 0 < p
-  power_some p e = rw e (one-le-pow (w * q % 8) 2 (omega arith))

@@ -1,307 +1,176 @@
 -- Digits taken from a text by an alphabet, and their octets, group by group.
-use Prim.Native.Nat.{ℕ, suc, ◌+◌, ◌*◌, ◌-◌, ◌^◌, ◌≤◌, ◌<◌}
-use mathlib.Core.Path.{◌≡◌, refl, sym, ap, subst, ◌∙◌}
-use mathlib.Core.Bool.{Bool, true, false, cond}
-use mathlib.Core.List.{List, [], ◌∷◌, ◌++◌, append_assoc, append-nil}
-use mathlib.Core.Option.{Option, none, some}
-use native.Mathlib.Omega.{arith}
+use Rattle.std.proofs.Common.{ℕ, suc, ◌+◌, ◌*◌, ◌/◌, ◌^◌, ◌≤◌, ◌<◌, ◌≡◌, refl, sym, ap, subst, ◌∙◌, Bool, true, false, List, [], ◌∷◌, ◌++◌, append_assoc, Option, None, Some, arith, length, drop, get_or, length-append, length-drop}
+use mathlib.Core.List.{append-nil}
 use native.Mathlib.Nat.{lt_of_lt_of_le, pow-le-pow_right, pow-le-pow_left, le_trans, mul-suc, mul-le-mul_left}
-use lib.ListN.{length, take, drop, get_or, length-append}
-use lib.Seq.{slice, take-take}
+use lib.Seq.{drop-drop}
 use borrow.Author.Tests.{lt-ltb, le-ltb, ne_eqb}
-use Rattle.format.specs.Lists.{◌>>=◌, cons_both, each_of, spanning, span}
-use Rattle.format.specs.Octets.{Below}
+use Rattle.format.specs.Lists.{◌>>=◌, cons_both, each_of}
 use Rattle.format.specs.Digits.{digits, number}
 use Rattle.format.specs.Base.{whole_octets, from_digits}
-use Rattle.format.proofs.Lists.{below_append}
+use Rattle.format.proofs.Lists.{below_append, drop_next, drop_none}
 use Rattle.format.proofs.Digits.{digits_length, number_bound}
 use Rattle.buffer.specs.Writing.{Wrote, Values, after}
-use Rattle.buffer.specs.declared.Value.{Value}
-use Rattle.buffer.specs.declared.Value.TheVariants.{Fault, Upto}
 use Rattle.buffer.proofs.Laws.{wrote_none, wrote_append}
 use Rattle.buffer.proofs.Values.{after_none, after_after}
-use Rattle.octets.proofs.Slices.{next, none as no-octet, lent, span_front, front_within, front_rest, stopped}
-use Rattle.octets.proofs.Blocks.{slice_append}
-use Rattle.base_group.specs.Group.{char_value, left_out, kept_from, without, digits_by, octets_by, Grouping, Stops, Taken, Begun}
+use Rattle.base_group.specs.Group.{char_value, left_out, without, octets_by, Grouping, Stops, Taken, Groups}
 use Rattle.base_group.proofs.Bits.{number_last, digits_bits, digits_bound, group_octets_lem}
 
 -- a number of a few digits has room for another
-few_digits : (base q v : ℕ) → base ≤ 64 → q < 8 → v < base ^ q → v < 2 ^ 42
-few_digits base q v h k l =
-    let a : base ^ q ≤ 64 ^ q = pow-le-pow_left h q in
-    let b : 64 ^ q ≤ 64 ^ 7 = let j : q ≤ 7 = omega arith in pow-le-pow_right (omega arith) j in
-    lt_of_lt_of_le l (le_trans a b)
+few_digits : (w q v : ℕ) → w ≤ 6 → q < 8 → v < (2 ^ w) ^ q → v < 2 ^ 42
+few_digits w q v h k l =
+    let b : 2 ^ w ≤ 2 ^ 6 = pow-le-pow_right {n = 2} (omega arith) h in
+    let a : (2 ^ w) ^ q ≤ (2 ^ 6) ^ q = pow-le-pow_left b q in
+    let c : (2 ^ 6) ^ q ≤ (2 ^ 6) ^ 7 = let j : q ≤ 7 = omega arith in pow-le-pow_right {n = 2 ^ 6} (omega arith) j in
+    lt_of_lt_of_le l (le_trans a c)
 
 module _ (f : ℕ → Bool) where
-  pub without_append : (xs ys : List ℕ) → without f (xs ++ ys) ≡ without f xs ++ without f ys
-  without_append [] ys = refl
-  without_append (x ∷ xs) ys = by (f x) (without_append xs ys)
-    where
-      by : (b : Bool) → without f (xs ++ ys) ≡ without f xs ++ without f ys → cond b (without f (xs ++ ys)) (x ∷ without f (xs ++ ys)) ≡ cond b (without f xs) (x ∷ without f xs) ++ without f ys
-      by true ih = ih
-      by false ih = ap (λ zs. x ∷ zs) ih
+  pub without_on : (t : List ℕ) (n : ℕ) → n < length t → f (get_or t n 0) ≡ true → without f (drop n t) ≡ without f (drop (n + 1) t)
+  without_on t n h p = rw (drop_next t n h, p)
 
-  without_front : (xs : List ℕ) → without f (span f xs).front ≡ []
-  without_front [] = refl
-  without_front (x ∷ xs) = by (f x) refl (without_front xs)
-    where
-      by : (b : Bool) → f x ≡ b → without f (span f xs).front ≡ [] → without f (spanning b x xs (span f xs)).front ≡ []
-      by true e ih = rw e ih
-      by false e ih = refl
+  pub without_next : (t : List ℕ) (n : ℕ) → n < length t → f (get_or t n 0) ≡ false → without f (drop n t) ≡ get_or t n 0 ∷ without f (drop (n + 1) t)
+  without_next t n h p = rw (drop_next t n h, p)
 
-  module _ (t : List ℕ) (i e j : ℕ) (h : i ≤ e) (l : e ≤ length t) (p : j ≡ i + length (span f (slice i e t)).front) where
-    pub run_within : (i ≤ j) × (j ≤ e)
-    run_within = (omega arith, omega (arith, front_within f t i e h l))
-
-    run_is : (span f (slice i e t)).front ≡ slice i j t
-    run_is =
-        let n : length (span f (slice i e t)).front ≡ j - i = omega arith in
-        sym (span_front f (slice i e t)) ∙ ap (λ k. take k (slice i e t)) n ∙ ap (take (j - i)) (sym (lent t i e h)) ∙ take-take (j - i) (e - i) (drop i t) (omega (arith, run_within.1)) ∙ lent t i j run_within.0
-
-    run_out : without f (slice i j t) ≡ []
-    run_out = ap (without f) (sym run_is) ∙ without_front (slice i e t)
-
-    pub run_stops : j < e → f (get_or t j 0) ≡ false
-    run_stops k = stopped f (slice i e t) (get_or t j 0) (slice (j + 1) e t) (sym (front_rest f t i e) ∙ ap (λ m. slice m e t) (sym p) ∙ next t j e k l)
-
-    -- the octets that are left out before the first other one may be skipped
-    pub run_skipped : without f (slice i e t) ≡ without f (slice j e t)
-    run_skipped =
-        ap (without f) (slice_append t i j e run_within.0 run_within.1 l) ∙ without_append (slice i j t) (slice j e t)
-        ∙ ap (λ xs. xs ++ without f (slice j e t)) run_out
-
-  pub without_next : (t : List ℕ) (j e : ℕ) → j < e → e ≤ length t → f (get_or t j 0) ≡ false → without f (slice j e t) ≡ get_or t j 0 ∷ without f (slice (j + 1) e t)
-  without_next t j e h l p = rw (next t j e h l, p)
-
-each_append : (f : ℕ → Option ℕ) (xs ys ds es : List ℕ) → each_of f xs ≡ some ds → each_of f ys ≡ some es → each_of f (xs ++ ys) ≡ some (ds ++ es)
+each_append : (f : ℕ → Option ℕ) (xs ys ds es : List ℕ) → each_of f xs ≡ Some ds → each_of f ys ≡ Some es → each_of f (xs ++ ys) ≡ Some (ds ++ es)
 each_append f [] ys ds es p q = let e : ds ≡ [] = cc in rw e q
 each_append f (x ∷ xs) ys ds es p q = by (f x) (each_of f xs) refl refl (λ zs b. each_append f xs ys zs es b q) p
   where
-    by : (o : Option ℕ) (s : Option (List ℕ)) → f x ≡ o → each_of f xs ≡ s → ((zs : List ℕ) → each_of f xs ≡ some zs → each_of f (xs ++ ys) ≡ some (zs ++ es)) → cons_both o s ≡ some ds → cons_both (f x) (each_of f (xs ++ ys)) ≡ some (ds ++ es)
-    by none s a b ih c = cc
-    by (some d) none a b ih c = cc
-    by (some d) (some zs) a b ih c = let z : ds ≡ d ∷ zs = cc in rw (a, ih zs b, z)
+    by : (o : Option ℕ) (s : Option (List ℕ)) → f x ≡ o → each_of f xs ≡ s → ((zs : List ℕ) → each_of f xs ≡ Some zs → each_of f (xs ++ ys) ≡ Some (zs ++ es)) → cons_both o s ≡ Some ds → cons_both (f x) (each_of f (xs ++ ys)) ≡ Some (ds ++ es)
+    by None s a b ih c = cc
+    by (Some d) None a b ih c = cc
+    by (Some d) (Some zs) a b ih c = let z : ds ≡ d ∷ zs = cc in rw (a, ih zs b, z)
 
-pub each_none : (f : ℕ → Option ℕ) (xs : List ℕ) (y : ℕ) (ys : List ℕ) → f y ≡ none → each_of f (xs ++ y ∷ ys) ≡ none
+pub each_none : (f : ℕ → Option ℕ) (xs : List ℕ) (y : ℕ) (ys : List ℕ) → f y ≡ None → each_of f (xs ++ y ∷ ys) ≡ None
 each_none f [] y ys p = rw p
 each_none f (x ∷ xs) y ys p = rw (each_none f xs y ys p) (by (f x))
   where
-    by : (o : Option ℕ) → cons_both o none ≡ none
-    by none = refl
-    by (some d) = refl
+    by : (o : Option ℕ) → cons_both o None ≡ None
+    by None = refl
+    by (Some d) = refl
 
--- q digits, which make v, are read from i up to j, where no octet is left out
-pub record Taking (a : List ℕ) (skip base : ℕ) (t : List ℕ) (e i q v j : ℕ) : Type 0 where
-  pub ds : List ℕ
-  pub from : i + q ≤ j
-  pub within : j ≤ e
-  pub below : Below base ds
-  pub long : length ds ≡ q
-  pub is : number base ds ≡ v
-  pub read : digits_by a skip base (slice i j t) ≡ some ds
-  pub kept : j < e → left_out a skip (get_or t j 0) ≡ false
-
--- the digits of one part, and then of another
+-- digits, octet by octet
 module _ (a : List ℕ) (skip base : ℕ) (t : List ℕ) where
-  digits_append : (i j k : ℕ) (ds es : List ℕ) → i ≤ j → j ≤ k → k ≤ length t → digits_by a skip base (slice i j t) ≡ some ds → digits_by a skip base (slice j k t) ≡ some es
-      → digits_by a skip base (slice i k t) ≡ some (ds ++ es)
-  digits_append i j k ds es h m l p q =
-      ap (λ s. each_of (char_value a base) (without (left_out a skip) s)) (slice_append t i j k h m l)
-      ∙ ap (each_of (char_value a base)) (without_append (left_out a skip) (slice i j t) (slice j k t))
-      ∙ each_append (char_value a base) (without (left_out a skip) (slice i j t)) (without (left_out a skip) (slice j k t)) ds es p q
+  pub taken_none : Taken a skip base t 0 0 0
+  taken_none = record { chars = []; ds = []; within = omega arith; from = omega arith; below = tt; long = refl; is = refl; parts = refl; read = refl }
 
-  digits_fault : (i j k : ℕ) → i ≤ j → j < k → k ≤ length t → Stops a skip base (get_or t j 0) → digits_by a skip base (slice i k t) ≡ none
-  digits_fault i j k h m l s =
-      ap (λ s. each_of (char_value a base) (without (left_out a skip) s)) (slice_append t i j k h (omega arith) l ∙ ap (λ s. slice i j t ++ s) (next t j k m l))
-      ∙ ap (each_of (char_value a base)) (without_append (left_out a skip) (slice i j t) (get_or t j 0 ∷ slice (j + 1) k t) ∙ ap (λ b. without (left_out a skip) (slice i j t) ++ cond b (without (left_out a skip) (slice (j + 1) k t)) (get_or t j 0 ∷ without (left_out a skip) (slice (j + 1) k t))) s.kept)
-      ∙ each_none (char_value a base) (without (left_out a skip) (slice i j t)) (get_or t j 0) (without (left_out a skip) (slice (j + 1) k t)) (rw (le-ltb (get_or a (get_or t j 0) 0) base s.high))
-
-  module _ (e : ℕ) (l : e ≤ length t) where
-    no_digits : (i j : ℕ) → i ≤ e → j ≡ kept_from a skip t i e → digits_by a skip base (slice i j t) ≡ some []
-    no_digits i j h p = rw (run_out (left_out a skip) t i e j h l p)
-
-    pub taking_none : (i j : ℕ) → i ≤ e → j ≡ kept_from a skip t i e → Taking a skip base t e i 0 0 j
-    taking_none i j h p = record {
-      ds = [];
-      from = omega arith;
-      within = (run_within (left_out a skip) t i e j h l p).1;
-      below = tt;
-      long = refl;
-      is = refl;
-      read = no_digits i j h p;
-      kept = run_stops (left_out a skip) t i e j h l p;
+  module _ (n q v : ℕ) (s : Taken a skip base t n q v) (h : n < length t) where
+    pub taken_left : left_out a skip (get_or t n 0) ≡ true → Taken a skip base t (n + 1) q v
+    taken_left p = record {
+      chars = s.chars;
+      ds = s.ds;
+      within = omega arith;
+      from = omega (arith, s.from);
+      below = s.below;
+      long = s.long;
+      is = s.is;
+      parts = s.parts ∙ ap (λ xs. s.chars ++ xs) (without_on (left_out a skip) t n h p);
+      read = s.read;
     }
 
-    taking_small : (i q v j : ℕ) → Taking a skip base t e i q v j → base ≤ 64 → q < 8 → v < 2 ^ 42
-    taking_small i q v j s h m = few_digits base q v h m (subst (λ x. x < base ^ q) s.is (subst (λ x. number base s.ds < base ^ x) s.long (number_bound base s.ds s.below)))
-
-    pub taking_room : (i q v j : ℕ) → Taking a skip base t e i q v j → base ≤ 64 → q < 8 → v * base < 2 ^ 48
-    taking_room i q v j s h m = let r : v * base ≤ v * 64 = mul-le-mul_left v h in omega (arith, taking_small i q v j s h m)
-
-    taking_one : (i q v j k : ℕ) → Taking a skip base t e i q v j → j < e → get_or a (get_or t j 0) 0 < base → k ≡ kept_from a skip t (j + 1) e → Taking a skip base t e i (q + 1) (v * base + get_or a (get_or t j 0) 0) k
-    taking_one i q v j k s h b p =
-        let x : ℕ = get_or a (get_or t j 0) 0 in
-        let w = run_within (left_out a skip) t (j + 1) e k (omega arith) l p in
-        let one : digits_by a skip base (slice j (j + 1) t) ≡ some (x ∷ []) = rw (next t j (j + 1) (omega arith) (omega arith), no-octet t (j + 1) (j + 1) (omega arith), s.kept h, lt-ltb x base b) in
+    taken_digit : (x : ℕ) → left_out a skip (get_or t n 0) ≡ false → x ≡ get_or a (get_or t n 0) 0 → x < base → Taken a skip base t (n + 1) (q + 1) (v * base + x)
+    taken_digit x p e b =
+        let y : ℕ = get_or t n 0 in
+        let one : each_of (char_value a base) (y ∷ []) ≡ Some (x ∷ []) = rw (← e, lt-ltb x base b) in
         record {
+          chars = s.chars ++ y ∷ [];
           ds = s.ds ++ x ∷ [];
-          from = omega (arith, w.0, s.from);
-          within = w.1;
+          within = omega arith;
+          from = omega (arith, s.from);
           below = below_append base s.ds (x ∷ []) s.below (b, tt);
           long = length-append s.ds (x ∷ []) ∙ ap (λ m. m + 1) s.long;
           is = number_last base s.ds x ∙ ap (λ m. m * base + x) s.is;
-          read = digits_append i j k s.ds (x ∷ []) (omega (arith, s.from)) (omega (arith, w.0)) (omega (arith, w.1)) s.read
-              (digits_append j (j + 1) k (x ∷ []) [] (omega arith) w.0 (omega (arith, w.1)) one (no_digits (j + 1) k (omega arith) p));
-          kept = run_stops (left_out a skip) t (j + 1) e k (omega arith) l p;
+          parts = s.parts ∙ ap (λ xs. s.chars ++ xs) (without_next (left_out a skip) t n h p) ∙ sym (append_assoc s.chars (y ∷ []) (without (left_out a skip) (drop (n + 1) t)));
+          read = each_append (char_value a base) s.chars (y ∷ []) s.ds (x ∷ []) s.read one;
         }
 
-    pub taking_next : (i q v j k x : ℕ) → Taking a skip base t e i q v j → j < e → x ≡ get_or a (get_or t j 0) 0 → x < base → k ≡ kept_from a skip t (j + 1) e → Taking a skip base t e i (q + 1) (v * base + x) k
-    taking_next i q v j k x s h y b p = subst (λ z. Taking a skip base t e i (q + 1) (v * base + z) k) (sym y) (taking_one i q v j k s h (subst (λ z. z < base) y b) p)
+-- the next digit, given the base as the code has it
+pub taken_next : (a : List ℕ) (skip base b : ℕ) (t : List ℕ) (n q v x : ℕ) → Taken a skip base t n q v → n < length t → left_out a skip (get_or t n 0) ≡ false → x ≡ get_or a (get_or t n 0) 0 → b ≡ base → x < b
+    → Taken a skip base t (n + 1) (q + 1) (v * b + x)
+taken_next a skip base b t n q v x s h p e z l =
+    subst (λ y. Taken a skip base t (n + 1) (q + 1) (v * y + x)) (sym z) (taken_digit a skip base t n q v s h x p e (omega arith))
 
-    pub taken : (i k q v j : ℕ) → Taking a skip base t e i q v j → q ≤ k → (j < e → q < k → base ≤ get_or a (get_or t j 0) 0) → Taken a skip base t i e k j q v
-    taken i k q v j s h b = record {
-      ds = s.ds;
-      from = s.from;
-      within = s.within;
-      below = s.below;
-      long = s.long;
-      few = h;
-      is = s.is;
-      read = s.read;
-      stops = λ m n. record { kept = s.kept m; high = b m n };
-    }
+pub digit_kept : (a : List ℕ) (skip base x y : ℕ) → x ≡ get_or a y 0 → x < base → base ≤ skip → left_out a skip y ≡ false
+digit_kept a skip base x y e h k = ne_eqb (get_or a y 0) skip (λ z. omega arith)
 
--- digits with nothing between them
-module _ (a : List ℕ) (skip base : ℕ) (t : List ℕ) where
-  pub quick_none : (i : ℕ) → Taking a skip base t (i + 0) i 0 0 (i + 0)
-  quick_none i =
-      let z : i + 0 ≡ i = omega arith in
-      subst (λ m. Taking a skip base t m i 0 0 m) (sym z) (record {
-        ds = [];
-        from = omega arith;
-        within = omega arith;
-        below = tt;
-        long = refl;
-        is = refl;
-        read = rw (no-octet t i i (omega arith));
-        kept = λ m. absurd (omega arith);
-      })
+pub taken_room : (a : List ℕ) (skip w b : ℕ) (t : List ℕ) (n q v : ℕ) → Taken a skip (2 ^ w) t n q v → b ≡ 2 ^ w → w ≤ 6 → q < 8 → v * b + b < 2 ^ 49
+taken_room a skip w b t n q v s e h m =
+    let k : b ≤ 2 ^ 6 = rw e (pow-le-pow_right {n = 2} (omega arith) h) in
+    let small : v < (2 ^ w) ^ q = subst (λ x. x < (2 ^ w) ^ q) s.is (subst (λ x. number (2 ^ w) s.ds < (2 ^ w) ^ x) s.long (number_bound (2 ^ w) s.ds s.below)) in
+    let r : v * b ≤ v * 2 ^ 6 = mul-le-mul_left v k in
+    omega (arith, few_digits w q v h m small)
 
-  quick_one : (i q v : ℕ) → Taking a skip base t (i + q) i q v (i + q) → i + q < length t → get_or a (get_or t (i + q) 0) 0 < base → base ≤ skip
-      → Taking a skip base t (i + (q + 1)) i (q + 1) (v * base + get_or a (get_or t (i + q) 0) 0) (i + (q + 1))
-  quick_one i q v s h b k =
-      let j : ℕ = i + q in
-      let x : ℕ = get_or a (get_or t j 0) 0 in
-      let z : i + (q + 1) ≡ j + 1 = omega arith in
-      let one : digits_by a skip base (slice j (j + 1) t) ≡ some (x ∷ []) = rw (next t j (j + 1) (omega arith) (omega arith), no-octet t (j + 1) (j + 1) (omega arith), ne_eqb x skip (λ y. omega arith), lt-ltb x base b) in
-      subst (λ m. Taking a skip base t m i (q + 1) (v * base + x) m) (sym z) (record {
-        ds = s.ds ++ x ∷ [];
-        from = omega arith;
-        within = omega arith;
-        below = below_append base s.ds (x ∷ []) s.below (b, tt);
-        long = length-append s.ds (x ∷ []) ∙ ap (λ m. m + 1) s.long;
-        is = number_last base s.ds x ∙ ap (λ m. m * base + x) s.is;
-        read = digits_append a skip base t i j (j + 1) s.ds (x ∷ []) (omega arith) (omega arith) (omega arith) s.read one;
-        kept = λ m. absurd (omega arith);
-      })
-
-  pub quick_next : (i q v x : ℕ) → Taking a skip base t (i + q) i q v (i + q) → i + q < length t → x ≡ get_or a (get_or t (i + q) 0) 0 → x < base → base ≤ skip
-      → Taking a skip base t (i + (q + 1)) i (q + 1) (v * base + x) (i + (q + 1))
-  quick_next i q v x s h y b k = subst (λ z. Taking a skip base t (i + (q + 1)) i (q + 1) (v * base + z) (i + (q + 1))) (sym y) (quick_one i q v s h (subst (λ z. z < base) y b) k)
-
-  pub quick_taken : (i k q v e : ℕ) → Taking a skip base t (i + q) i q v (i + q) → q ≤ k → k ≤ q → i + k ≤ e → Taken a skip base t i e k (i + k) k v
-  quick_taken i k q v e s h m l =
-      let z : q ≡ k = omega arith in
-      subst (λ n. Taken a skip base t i e k (i + n) n v) z (record {
-        ds = s.ds;
-        from = omega arith;
-        within = omega arith;
-        below = s.below;
-        long = s.long;
-        few = h;
-        is = s.is;
-        read = s.read;
-        stops = λ m n. absurd (omega arith);
-      })
-
-module _ (o₀ : List ℕ) (n : ℕ) (a : List ℕ) (skip w base k g : ℕ) (u : Grouping w base k g) (t : List ℕ) (i e : ℕ) (h : i ≤ e) (l : e ≤ length t) where
-  pub begun_none : (j q v : ℕ) → Taken a skip base t i e k j q v → Begun o₀ o₀ n a skip w base t i e k j n q v
-  begun_none j q v s = record {
+-- whole groups, one after another
+module _ (o₀ : List ℕ) (at : ℕ) (a : List ℕ) (skip w k : ℕ) (t : List ℕ) where
+  pub groups_none : Groups o₀ o₀ at a skip w k t 0 at
+  groups_none = record {
     xs = [];
-    all = s.ds;
-    ds = s.ds;
+    chars = [];
+    all = [];
     many = 0;
-    wrote = wrote_none o₀ n;
-    from = omega (arith, s.from);
-    within = s.within;
-    bound = omega (arith, s.from);
-    below = s.below;
-    long = s.long;
-    few = s.few;
-    is = s.is;
-    read = s.read;
-    counts = omega (arith, s.long);
-    same = λ r. sym (after_none (from_digits w (s.ds ++ r)));
-    stops = s.stops;
+    wrote = wrote_none o₀ at;
+    within = omega arith;
+    bound = omega arith;
+    parts = refl;
+    read = refl;
+    counts = omega arith;
+    same = λ r. sym (after_none (from_digits w r));
   }
 
-  pub begun_group : (o o' : List ℕ) (j m q v r j' q' v' : ℕ) → Begun o₀ o n a skip w base t i e k j m q v → k ≤ q → Wrote o o' m r (digits 256 g v) → Taken a skip base t j e k j' q' v'
-      → Begun o₀ o' n a skip w base t i e k j' r q' v'
-  begun_group o o' j m q v r j' q' v' b f p s =
-      let c : length b.ds ≡ k = omega (arith, b.long, b.few) in
-      let y : List ℕ = digits 256 g v in
-      let d : Below (2 ^ w) b.ds = subst (λ x. Below x b.ds) u.based b.below in
-      let z : number (2 ^ w) b.ds ≡ v = ap (λ x. number x b.ds) (sym u.based) ∙ b.is in
-      let whole : w * length b.ds ≡ 8 * g = ap (λ x. w * x) c ∙ u.whole in
-      record {
-        xs = b.xs ++ y;
-        all = b.all ++ s.ds;
-        ds = s.ds;
-        many = suc b.many;
-        wrote = wrote_append b.wrote p;
-        from = omega (arith, b.from, s.from);
-        within = s.within;
-        bound = omega (arith, b.bound, s.from, p.count, digits_length 256 g v, u.less);
-        below = s.below;
-        long = s.long;
-        few = s.few;
-        is = s.is;
-        read = digits_append a skip base t i j j' b.all s.ds b.from (omega (arith, s.from)) (omega (arith, s.within)) b.read s.read;
-        counts = length-append b.all s.ds ∙ omega (arith, b.counts, s.long, mul-suc k b.many, b.few);
-        same = λ r.
-            ap (from_digits w) (append_assoc b.all s.ds r) ∙ b.same (s.ds ++ r)
-            ∙ ap (after b.xs) (group_octets_lem w g b.ds (s.ds ++ r) d whole ∙ ap (λ x. after (digits 256 g x) (from_digits w (s.ds ++ r))) z)
-            ∙ after_after b.xs y (from_digits w (s.ds ++ r));
-        stops = s.stops;
-      }
+  module _ (o : List ℕ) (n end : ℕ) (b : Groups o₀ o at a skip w k t n end) (m q v : ℕ) (s : Taken a skip (2 ^ w) (drop n t) m q v) where
+    pub all_parts : without (left_out a skip) t ≡ (b.chars ++ s.chars) ++ without (left_out a skip) (drop (n + m) t)
+    all_parts =
+        b.parts ∙ ap (λ xs. b.chars ++ xs) (s.parts ∙ ap (λ xs. s.chars ++ without (left_out a skip) xs) (drop-drop m n t))
+        ∙ sym (append_assoc b.chars s.chars (without (left_out a skip) (drop (n + m) t)))
 
-  module _ (o : List ℕ) (j m q v : ℕ) (b : Begun o₀ o n a skip w base t i e k j m q v) where
-    pub begun_small : v < 2 ^ (w * q)
-    begun_small =
-        let d : Below (2 ^ w) b.ds = subst (λ x. Below x b.ds) u.based b.below in
-        let z : number (2 ^ w) b.ds ≡ v = ap (λ x. number x b.ds) (sym u.based) ∙ b.is in
-        subst (λ x. x < 2 ^ (w * q)) z (subst (λ x. number (2 ^ w) b.ds < 2 ^ (w * x)) b.long (digits_bound w b.ds d))
+    pub all_read : each_of (char_value a (2 ^ w)) (b.chars ++ s.chars) ≡ Some (b.all ++ s.ds)
+    all_read = each_append (char_value a (2 ^ w)) b.chars s.chars b.all s.ds b.read s.read
 
-    -- all digits are read; or an octet that is no digit stands before the end
-    begun_digits : from_digits w b.all ≡ after b.xs (whole_octets w 8 0 (digits 2 (w * q) v))
-    begun_digits =
-        let d : Below (2 ^ w) b.ds = subst (λ x. Below x b.ds) u.based b.below in
-        let z : number (2 ^ w) b.ds ≡ v = ap (λ x. number x b.ds) (sym u.based) ∙ b.is in
-        ap (from_digits w) (sym (append-nil b.all)) ∙ b.same []
-        ∙ ap (λ x. after b.xs (from_digits w x)) (append-nil b.ds)
-        ∙ ap (λ x. after b.xs (whole_octets w 8 0 x)) (digits_bits w b.ds d ∙ ap (λ x. digits 2 (w * x) (number (2 ^ w) b.ds)) b.long ∙ ap (digits 2 (w * q)) z)
+    pub all_within : n + m ≤ length t
+    all_within = omega (arith, b.within, s.within, length-drop n t)
 
-    pub begun_all : (o' : List ℕ) (r : Value) → Values o o' m r (whole_octets w 8 0 (digits 2 (w * q) v)) → Values o₀ o' n r (from_digits w b.all)
-    begun_all o' Fault p = begun_digits ∙ ap (after b.xs) p
-    begun_all o' (Upto r) (ys, p, c) = (b.xs ++ ys, begun_digits ∙ ap (after b.xs) p, wrote_append b.wrote c)
+    pub groups_more : (o' : List ℕ) (r : ℕ) → Grouping w k → k ≤ q → q ≤ k → Wrote o o' end r (digits 256 (w * k / 8) v) → Groups o₀ o' at a skip w k t (n + m) r
+    groups_more o' r u h l p =
+        let y : List ℕ = digits 256 (w * k / 8) v in
+        let c : length s.ds ≡ k = omega (arith, s.long) in
+        let whole : w * length s.ds ≡ 8 * (w * k / 8) = ap (λ x. w * x) c ∙ u.whole in
+        record {
+          xs = b.xs ++ y;
+          chars = b.chars ++ s.chars;
+          all = b.all ++ s.ds;
+          many = suc b.many;
+          wrote = wrote_append b.wrote p;
+          within = all_within;
+          bound = omega (arith, b.bound, s.from, p.count, digits_length 256 (w * k / 8) v, u.less);
+          parts = all_parts;
+          read = all_read;
+          counts = length-append b.all s.ds ∙ omega (arith, b.counts, c, mul-suc k b.many);
+          same = λ r.
+              ap (from_digits w) (append_assoc b.all s.ds r) ∙ b.same (s.ds ++ r)
+              ∙ ap (after b.xs) (group_octets_lem w (w * k / 8) s.ds r s.below whole ∙ ap (λ x. after (digits 256 (w * k / 8) x) (from_digits w r)) s.is)
+              ∙ after_after b.xs y (from_digits w r);
+        }
 
-    pub begun_octets : e ≤ j → (o' : List ℕ) (r : Value) → Values o o' m r (whole_octets w 8 0 (digits 2 (w * q) v)) → Values o₀ o' n r (octets_by a skip w base (slice i e t))
-    begun_octets f o' r p =
-        let z : j ≡ e = omega (arith, b.within) in
-        subst (λ x. Values o₀ o' n r x) (sym (ap (λ x. digits_by a skip base (slice i x t) >>= from_digits w) (sym z) ∙ ap (λ x. x >>= from_digits w) b.read)) (begun_all o' r p)
+    -- the last digits, and all octets
+    pub last_small : v < 2 ^ (w * q)
+    last_small = subst (λ x. x < 2 ^ (w * q)) s.is (subst (λ x. number (2 ^ w) s.ds < 2 ^ (w * x)) s.long (digits_bound w s.ds s.below))
 
-    pub begun_fault : j < e → q < k → octets_by a skip w base (slice i e t) ≡ none
-    begun_fault f c = ap (λ x. x >>= from_digits w) (digits_fault a skip base t i j e b.from f l (b.stops f c))
+    octets_are : from_digits w (b.all ++ s.ds) ≡ after b.xs (whole_octets w 8 0 (digits 2 (w * q) v))
+    octets_are =
+        b.same s.ds
+        ∙ ap (λ x. after b.xs (whole_octets w 8 0 x)) (digits_bits w s.ds s.below ∙ ap (λ x. digits 2 (w * x) (number (2 ^ w) s.ds)) s.long ∙ ap (digits 2 (w * q)) s.is)
 
-pub base_small : (w base k g : ℕ) → Grouping w base k g → base ≤ 64
-base_small w base k g u = rw u.based (let h : w ≤ 6 = u.few_bits in pow-le-pow_right {n = 2} (omega arith) h)
+    pub front_all : (o' : List ℕ) (r : Option ℕ) → Values o o' end r (whole_octets w 8 0 (digits 2 (w * q) v)) → Values o₀ o' at r (from_digits w (b.all ++ s.ds))
+    front_all o' None p = octets_are ∙ ap (after b.xs) p
+    front_all o' (Some r) (ys, p, c) = (b.xs ++ ys, octets_are ∙ ap (after b.xs) p, wrote_append b.wrote c)
+
+    -- all digits are read; or an octet that is no digit follows them
+    pub front_octets : length t ≤ n + m → (o' : List ℕ) (r : Option ℕ) → Values o o' end r (whole_octets w 8 0 (digits 2 (w * q) v)) → Values o₀ o' at r (octets_by a skip w t)
+    front_octets h o' r p =
+        let e : without (left_out a skip) t ≡ b.chars ++ s.chars = all_parts ∙ ap (λ xs. (b.chars ++ s.chars) ++ without (left_out a skip) xs) (drop_none t (n + m) h) ∙ append-nil (b.chars ++ s.chars) in
+        subst (λ x. Values o₀ o' at r x) (sym (ap (λ xs. each_of (char_value a (2 ^ w)) xs >>= from_digits w) e ∙ ap (λ x. x >>= from_digits w) all_read)) (front_all o' r p)
+
+    pub front_fault : n + m < length t → Stops a skip (2 ^ w) (get_or t (n + m) 0) → octets_by a skip w t ≡ None
+    front_fault h x =
+        let y : ℕ = get_or t (n + m) 0 in
+        let e : without (left_out a skip) t ≡ (b.chars ++ s.chars) ++ y ∷ without (left_out a skip) (drop (n + m + 1) t) = all_parts ∙ ap (λ xs. (b.chars ++ s.chars) ++ xs) (without_next (left_out a skip) t (n + m) h x.kept) in
+        ap (λ xs. each_of (char_value a (2 ^ w)) xs >>= from_digits w) e
+        ∙ ap (λ x. x >>= from_digits w) (each_none (char_value a (2 ^ w)) (b.chars ++ s.chars) y (without (left_out a skip) (drop (n + m + 1) t)) (rw (le-ltb (get_or a y 0) (2 ^ w) x.high)))

@@ -2,12 +2,10 @@
 use Prim.Native.Nat.{ℕ, ◌+◌, ◌-◌, ◌%◌, ◌<◌}
 use mathlib.Core.Path.{◌≡◌, refl, sym, ap, subst, ◌∙◌}
 use mathlib.Core.Bool.{Bool, true, false, not, cond}
-use mathlib.Core.List.{List, [], ◌∷◌}
-use mathlib.Core.Option.{Option, none, some}
+use mathlib.Core.List.{List, [], ◌∷◌, ◌++◌}
+use Rattle.std.specs.Prelude.{Option, None, Some}
 use native.Mathlib.Omega.{arith}
 use lib.Dec.{ltb}
-use lib.ListN.{get_or, take}
-use lib.Seq.{slice}
 use borrow.Author.Tests.{ltb-true}
 use Rattle.format.specs.Lists.{◌>>=◌, provided, cons_both, each_of}
 use Rattle.format.specs.Octets.{Octets, blank, digit, letter, lowered}
@@ -16,23 +14,37 @@ use Rattle.format.specs.Text.{counted}
 use Rattle.format.specs.Base.{from_digits}
 use Rattle.format.specs.Hex.{hex_pair, from_hex}
 use Rattle.format.specs.Base.{read_base32}
-use Rattle.format.proofs.Lists.{below_each, below_take, below_drop, not_true}
+use Rattle.format.proofs.Lists.{not_true}
 use Rattle.format.proofs.Finite.{at_each, all_same}
 use Rattle.buffer.specs.Writing.{after}
 use Rattle.base_group.specs.Group.{char_value, left_out, without, octets_by, letters, counted_by}
 use Rattle.base_group.proofs.Bits.{group_octets_lem}
 
--- a part of octets is a list of octets
-pub octets_part : (t : List ℕ) (i e : ℕ) → ((k : ℕ) → get_or t k 0 < 256) → Octets (slice i e t)
-octets_part t i e h = below_drop 256 i (take e t) (below_take 256 e t (below_each 256 t h))
+-- octets without some of them are octets, and so is a front of octets
+pub without_octets : (f : ℕ → Bool) (s : List ℕ) → Octets s → Octets (without f s)
+without_octets f [] o = tt
+without_octets f (x ∷ s) o = by (f x) (without_octets f s o.1)
+  where
+    by : (b : Bool) → Octets (without f s) → Octets (cond b (without f s) (x ∷ without f s))
+    by true h = h
+    by false h = (o.0, h)
+
+pub octets_front : (xs ys : List ℕ) → Octets (xs ++ ys) → Octets xs
+octets_front [] ys o = tt
+octets_front (x ∷ xs) ys o = (o.0, octets_front xs ys o.1)
+
+-- two readers that agree on octets
+pub each_same : (f g : ℕ → Option ℕ) → ((x : ℕ) → x < 256 → f x ≡ g x) → (s : List ℕ) → Octets s → each_of f s ≡ each_of g s
+each_same f g h [] o = refl
+each_same f g h (x ∷ s) o = rw (h x o.0, each_same f g h s o.1)
 
 abbrev pub there : Option ℕ → Bool
-there none = false
-there (some x) = true
+there None = false
+there (Some x) = true
 
-pub no_digit : (o : Option ℕ) → there o ≡ false → o ≡ none
-no_digit none h = refl
-no_digit (some x) h = cc
+pub no_digit : (o : Option ℕ) → there o ≡ false → o ≡ None
+no_digit None h = refl
+no_digit (Some x) h = cc
 
 abbrev pub same_bool : Bool → Bool → Bool
 same_bool true b = b
@@ -76,39 +88,39 @@ each_by f g h [] o = refl
 each_by f g h (x ∷ s) o = rw (all_kept x o.0, h x o.0, each_by f g h s o.1)
 
 -- pairs of hex digits as octets
-digit_small : (x d : ℕ) → digit_value 16 x ≡ some d → d < 16
+digit_small : (x d : ℕ) → digit_value 16 x ≡ Some d → d < 16
 digit_small x d e = by (digit x) (letter x) (x - 48) (lowered x - 97 + 10) e
   where
-    small : (y : ℕ) → provided (ltb y 16) y ≡ some d → d < 16
+    small : (y : ℕ) → provided (ltb y 16) y ≡ Some d → d < 16
     small y q = of (ltb y 16) refl q
       where
-        of : (b : Bool) → ltb y 16 ≡ b → provided b y ≡ some d → d < 16
+        of : (b : Bool) → ltb y 16 ≡ b → provided b y ≡ Some d → d < 16
         of true p q = let z : y ≡ d = cc in subst (λ k. k < 16) z (ltb-true y 16 p)
         of false p q = let z : ◌≡◌ {A = ℕ} 0 1 = cc in absurd (omega arith)
 
-    by : (a b : Bool) (y z : ℕ) → cond a (provided (ltb y 16) y) (cond b (provided (ltb z 16) z) none) ≡ some d → d < 16
+    by : (a b : Bool) (y z : ℕ) → cond a (provided (ltb y 16) y) (cond b (provided (ltb z 16) z) None) ≡ Some d → d < 16
     by true b y z q = small y q
     by false true y z q = small z q
     by false false y z q = let z : ◌≡◌ {A = ℕ} 0 1 = cc in absurd (omega arith)
 
-pair : (p q : Option ℕ) (o : Option (List ℕ)) → ((x y : ℕ) (ds : List ℕ) → p ≡ some x → q ≡ some y → from_digits 4 (x ∷ y ∷ ds) ≡ after (number 16 (x ∷ y ∷ []) ∷ []) (from_digits 4 ds))
-    → cons_both (cons_both p (cons_both q (some [])) >>= λ ds. some (number 16 ds)) (o >>= from_digits 4) ≡ (cons_both p (cons_both q o) >>= from_digits 4)
-pair none q o h = refl
-pair (some x) none o h = refl
-pair (some x) (some y) none h = refl
-pair (some x) (some y) (some ds) h = sym (h x y ds refl refl ∙ one (from_digits 4 ds))
+pair : (p q : Option ℕ) (o : Option (List ℕ)) → ((x y : ℕ) (ds : List ℕ) → p ≡ Some x → q ≡ Some y → from_digits 4 (x ∷ y ∷ ds) ≡ after (number 16 (x ∷ y ∷ []) ∷ []) (from_digits 4 ds))
+    → cons_both (cons_both p (cons_both q (Some [])) >>= λ ds. Some (number 16 ds)) (o >>= from_digits 4) ≡ (cons_both p (cons_both q o) >>= from_digits 4)
+pair None q o h = refl
+pair (Some x) None o h = refl
+pair (Some x) (Some y) None h = refl
+pair (Some x) (Some y) (Some ds) h = sym (h x y ds refl refl ∙ one (from_digits 4 ds))
   where
-    one : (o : Option (List ℕ)) → after (number 16 (x ∷ y ∷ []) ∷ []) o ≡ cons_both (some (number 16 (x ∷ y ∷ []))) o
-    one none = refl
-    one (some zs) = refl
+    one : (o : Option (List ℕ)) → after (number 16 (x ∷ y ∷ []) ∷ []) o ≡ cons_both (Some (number 16 (x ∷ y ∷ []))) o
+    one None = refl
+    one (Some zs) = refl
 
 pub hex_digits : (s : List ℕ) → from_hex s ≡ (each_of (digit_value 16) s >>= from_digits 4)
 hex_digits [] = refl
 hex_digits (a ∷ []) = by (digit_value 16 a) (λ d e. digit_small a d e)
   where
-    by : (o : Option ℕ) → ((d : ℕ) → digit_value 16 a ≡ some d → d < 16) → none ≡ (cons_both o (some []) >>= from_digits 4)
-    by none h = refl
-    by (some d) h = refl
+    by : (o : Option ℕ) → ((d : ℕ) → digit_value 16 a ≡ Some d → d < 16) → None ≡ (cons_both o (Some []) >>= from_digits 4)
+    by None h = refl
+    by (Some d) h = refl
 hex_digits (a ∷ b ∷ s) =
     ap (cons_both (hex_pair (a ∷ b ∷ []))) (hex_digits s)
     ∙ pair (digit_value 16 a) (digit_value 16 b) (each_of (digit_value 16) s) (λ x y ds p q. two x y ds (digit_small a x p) (digit_small b y q))
@@ -119,15 +131,15 @@ hex_digits (a ∷ b ∷ s) =
         group_octets_lem 4 1 (x ∷ y ∷ []) ds (h, (l, tt)) (omega arith) ∙ ap (λ k. after (k ∷ []) (from_digits 4 ds)) z
 
 -- the same if nothing is left out
-pub octets_hex : (s : List ℕ) → Octets s → octets_by letters 100 4 16 s ≡ from_hex s
+pub octets_hex : (s : List ℕ) → Octets s → octets_by letters 100 4 s ≡ from_hex s
 octets_hex s o = ap (λ x. x >>= from_digits 4) (each_by (char_value letters 16) (digit_value 16) letters16 s o) ∙ sym (hex_digits s)
 
-pub counted_hex : (s : List ℕ) → Octets s → counted_by 4 16 s ≡ (from_hex s >>= counted 1)
+pub counted_hex : (s : List ℕ) → Octets s → counted_by 4 s ≡ (from_hex s >>= counted 1)
 counted_hex s o = ap (λ x. x >>= counted 1) (octets_hex s o)
 
 pub bind_bind : {A B C : Type 0} (o : Option A) (f : A → Option B) (g : B → Option C) → (o >>= f >>= g) ≡ (o >>= λ x. f x >>= g)
-bind_bind none f g = refl
-bind_bind (some x) f g = refl
+bind_bind None f g = refl
+bind_bind (Some x) f g = refl
 
-pub counted_base32 : (s : List ℕ) → Octets s → counted_by 5 32 s ≡ read_base32 s
+pub counted_base32 : (s : List ℕ) → Octets s → counted_by 5 s ≡ read_base32 s
 counted_base32 s o = ap (λ x. x >>= from_digits 5 >>= counted 1) (each_by (char_value letters 32) (digit_value 32) letters32 s o) ∙ bind_bind (each_of (digit_value 32) s) (from_digits 5) (counted 1)

@@ -1,334 +1,231 @@
-// Reads digits of w bits into octets, k digits into g octets. An alphabet gives the number of each character; a character with
-// the number `skip` is left out.
+// Reads digits of W bits into octets, K digits at a time, which are whole octets. An alphabet gives the number of each octet.
 #![tactic(auto)]
 
-ghost use Rattle.std.specs.Prelude.{ℕ, ◌+◌, ◌*◌, ◌^◌, ◌<◌, ◌≤◌, ◌≡◌, length, get_or};
-ghost use Rattle.std.proofs.Math.Seq.{slice};
+ghost use Rattle.std.specs.Prelude.{ℕ, ◌+◌, ◌*◌, ◌/◌, ◌^◌, ◌<◌, ◌≤◌, ◌≡◌, length, get_or, drop, Some};
 ghost use Rattle.format.specs.Digits.{digits};
 ghost use Rattle.format.specs.Base.{whole_octets};
-ghost use Rattle.buffer.specs.Writing.{Wrote, Values};
-ghost use Rattle.base_group.specs.Group.{kept_from, Grouping, Taken, Begun, octets_by, letters, counted_by};
+ghost use Rattle.buffer.specs.Writing.{Values};
+ghost use Rattle.base_group.specs.Group.{left_out, Grouping, Taken, Stops, Groups, octets_by, letters, counted_by};
 
-use buffer::{Value, put};
+use buffer::put;
 use digits::put_octets;
 
-// Digits that were read up to `at`: how many there are, and the number that they make.
+// The number of each octet. An octet whose number is `skip` is left out; others are digits if their number is small enough.
 #[derive(Clone, Copy)]
-pub struct Digits {
-    pub at: usize,
-    pub count: usize,
-    pub number: usize,
+pub struct Alphabet<'a> {
+    pub numbers: &'a [u8; 256],
+    pub skip: u64,
 }
 
-// Whole groups were read, and their octets stored up to `end`; then fewer digits than a group were read, up to `at`.
-#[derive(Clone, Copy)]
-pub struct Front {
-    pub at: usize,
-    pub end: usize,
-    pub count: usize,
-    pub number: usize,
-}
+impl Alphabet<'_> {
+    // The number of an octet.
+    fn number_of(self, b: u8) -> u64
+        ensures { result ≡ get_or self.entry.numbers.now b 0 }
+    {
+        u64::from(self.numbers[usize::from(b)])
+    }
 
-// The number that the alphabet gives an octet.
-fn number_of(alphabet: &[u8], b: u8) -> usize
-    requires { 256 ≤ length alphabet.now }
-    ensures { result ≡ get_or alphabet.now b 0 }
-{
-    alphabet[b as usize] as usize
-}
-
-// The first place from i on whose octet is not left out, or e.
-pub fn kept_from(t: &[u8], i: usize, e: usize, alphabet: &[u8], skip: usize) -> usize
-    requires { (i ≤ e) × (e ≤ length t.now) × (256 ≤ length alphabet.now) }
-    ensures { result ≡ kept_from alphabet.now skip t.now i e }
-{
-    let mut j = i;
-    while j < e {
-        if number_of(alphabet, t[j]) != skip {
-            return j;
-        }
-        j = j + 1;
+    // Whether an octet is left out.
+    pub fn leaves_out(self, b: u8) -> bool
+        ensures { result ≡ left_out self.entry.numbers.now self.entry.skip b }
+    {
+        self.number_of(b) == self.skip
     }
-    j
-}
-
-// The k digits from i on, if k digits stand there with nothing between them; else a count of 0.
-fn next_digits(t: &[u8], i: usize, alphabet: &[u8], base: usize, k: usize) -> Digits
-    requires { (i + k ≤ length t.now) × (base ≤ 64) × (k ≤ 8) × (256 ≤ length alphabet.now) }
-    ensures { 0 < result.count → (skip : ℕ) → base ≤ skip → (e : ℕ) → i + k ≤ e → Taken alphabet.now skip base t.now i e k result.at result.count result.number }
-{
-    let mut v = 0;
-    let mut q = 0;
-    while q < k {
-        let x = number_of(alphabet, t[i + q]);
-        if base <= x {
-            return Digits {
-                at: i,
-                count: 0,
-                number: 0,
-            };
-        }
-        v = v * base + x;
-        q = q + 1;
-    }
-    Digits {
-        at: i + k,
-        count: k,
-        number: v,
-    }
-}
-
-// The same for the usual groups: with constants for base and k the loop is unrolled. A count of 0 for all others.
-fn quick_digits(t: &[u8], i: usize, e: usize, alphabet: &[u8], base: usize, k: usize) -> Digits
-    requires { (i ≤ e) × (e ≤ length t.now) × (256 ≤ length alphabet.now) }
-    ensures { 0 < result.count → (skip : ℕ) → base ≤ skip → Taken alphabet.now skip base t.now i e k result.at result.count result.number }
-{
-    if 4 <= e - i {
-        if base == 64 {
-            if k == 4 {
-                return next_digits(t, i, alphabet, 64, 4);
-            }
-        }
-    }
-    if 8 <= e - i {
-        if k == 8 {
-            if base == 16 {
-                return next_digits(t, i, alphabet, 16, 8);
-            }
-            if base == 32 {
-                return next_digits(t, i, alphabet, 32, 8);
-            }
-        }
-    }
-    Digits {
-        at: i,
-        count: 0,
-        number: 0,
-    }
-}
-
-// The next digits, at most k, with what is left out between them.
-fn some_digits(
-    t: &[u8],
-    i: usize,
-    e: usize,
-    alphabet: &[u8],
-    skip: usize,
-    base: usize,
-    k: usize,
-) -> Digits
-    requires { (i ≤ e) × (e ≤ length t.now) × (base ≤ 64) × (k ≤ 8) × (256 ≤ length alphabet.now) }
-    ensures { Taken alphabet.now skip base t.now i e k result.at result.count result.number }
-{
-    let mut v = 0;
-    let mut q = 0;
-    let mut j = kept_from(t, i, e, alphabet, skip);
-    while q < k {
-        if e <= j {
-            return Digits {
-                at: j,
-                count: q,
-                number: v,
-            };
-        }
-        let x = number_of(alphabet, t[j]);
-        if base <= x {
-            return Digits {
-                at: j,
-                count: q,
-                number: v,
-            };
-        }
-        v = v * base + x;
-        q = q + 1;
-        j = kept_from(t, j + 1, e, alphabet, skip);
-    }
-    Digits {
-        at: j,
-        count: q,
-        number: v,
-    }
-}
-
-// The next digits, at most k; the quick way is tried first.
-fn take_digits(
-    t: &[u8],
-    i: usize,
-    e: usize,
-    alphabet: &[u8],
-    skip: usize,
-    base: usize,
-    k: usize,
-) -> Digits
-    requires { (i ≤ e) × (e ≤ length t.now) × (base ≤ 64) × (k ≤ 8) × (256 ≤ length alphabet.now) }
-    ensures { Taken alphabet.now skip base t.now i e k result.at result.count result.number }
-{
-    if base <= skip {
-        let d = quick_digits(t, i, e, alphabet, base, k);
-        let q = d.count;
-        if 0 < q {
-            return d;
-        }
-    }
-    some_digits(t, i, e, alphabet, skip, base, k)
-}
-
-// Writes a number in g octets: with a constant for g the loop is unrolled.
-fn put_group(out: &mut [u8], at: usize, g: usize, v: usize) -> usize
-    requires { (at < 2 ^ 32) × (g ≤ 8) }
-    ensures { Wrote out.old out.new at result (digits 256 g v) }
-{
-    if g == 3 {
-        return put_octets(out, at, 3, v as u64);
-    }
-    if g == 4 {
-        return put_octets(out, at, 4, v as u64);
-    }
-    put_octets(out, at, g, v as u64)
 }
 
 // 2 to the power z.
-fn power(z: usize) -> usize
+fn power(z: usize) -> u64
     requires { z < 8 }
     ensures { result ≡ 2 ^ z }
 {
-    let mut p = 1;
-    let mut k = 0;
-    while k < z {
-        p = p * 2;
-        k = k + 1;
-    }
-    p
+    1 << z
 }
 
-// Writes the octets of the last q digits, which make v. The left-over bits must be zero and fewer than w.
-pub fn finish(out: &mut [u8], at: usize, w: usize, q: usize, v: usize) -> Value
-    requires { (at < 2 ^ 32) × (0 < w) × (w ≤ 6) × (q ≤ 8) × (v < 2 ^ (w * q)) }
-    ensures { Values out.old out.new at result (whole_octets w 8 0 (digits 2 (w * q) v)) }
+// Digits that were read: how many octets hold them, how many they are, and the number that they make.
+#[derive(Clone, Copy)]
+pub struct Digits {
+    pub taken: usize,
+    pub count: usize,
+    pub number: u64,
+}
+
+// The number that the first K octets make, if they are all digits.
+fn next_digits<const W: usize, const K: usize>(t: &[u8], alphabet: Alphabet) -> Option<u64>
+    requires long { K ≤ length t.now }
+    requires few_bits { W ≤ 6 }
+    requires few_digits { K ≤ 8 }
+    requires none_left_out { 2 ^ W ≤ alphabet.skip }
+    ensures { (v : ℕ) → result ≡ Some v → Taken alphabet.entry.numbers.now alphabet.entry.skip (2 ^ W) t.now K K v }
 {
-    let z = w * q % 8;
-    if w <= z {
-        return Value::Fault;
+    let base = power(W);
+    let mut v = 0;
+    for j in 0..K {
+        let x = alphabet.number_of(t[j]);
+        if base <= x {
+            return None;
+        }
+        v = v * base + x;
+    }
+    Some(v)
+}
+
+// The first digits, at most K, with what is left out between them and after them.
+fn some_digits<const W: usize, const K: usize>(t: &[u8], alphabet: Alphabet) -> Digits
+    requires few_bits { W ≤ 6 }
+    requires few_digits { K ≤ 8 }
+    ensures taken { Taken alphabet.entry.numbers.now alphabet.entry.skip (2 ^ W) t.now result.taken result.count result.number }
+    ensures few { result.count ≤ K }
+    ensures stops { result.taken < length t.now → result.count < K → Stops alphabet.entry.numbers.now alphabet.entry.skip (2 ^ W) (get_or t.now result.taken 0) }
+{
+    let base = power(W);
+    let mut count = 0;
+    let mut number = 0;
+    for (taken, b) in t.iter().enumerate() {
+        let x = alphabet.number_of(*b);
+        if x != alphabet.skip {
+            if count == K || base <= x {
+                return Digits {
+                    taken,
+                    count,
+                    number,
+                };
+            }
+            number = number * base + x;
+            count += 1;
+        }
+    }
+    Digits {
+        taken: t.len(),
+        count,
+        number,
+    }
+}
+
+// The first digits, at most K; the quick way is tried first.
+fn take_digits<const W: usize, const K: usize>(t: &[u8], alphabet: Alphabet) -> Digits
+    requires few_bits { W ≤ 6 }
+    requires few_digits { K ≤ 8 }
+    ensures taken { Taken alphabet.entry.numbers.now alphabet.entry.skip (2 ^ W) t.now result.taken result.count result.number }
+    ensures few { result.count ≤ K }
+    ensures stops { result.taken < length t.now → result.count < K → Stops alphabet.entry.numbers.now alphabet.entry.skip (2 ^ W) (get_or t.now result.taken 0) }
+{
+    if K <= t.len() && power(W) <= alphabet.skip {
+        if let Some(number) = next_digits::<W, K>(t, alphabet) {
+            return Digits {
+                taken: K,
+                count: K,
+                number,
+            };
+        }
+    }
+    some_digits::<W, K>(t, alphabet)
+}
+
+// Whole groups of digits in the first `from` octets, whose octets are stored up to `end`; and the digits after them, too few
+// for a group.
+#[derive(Clone, Copy)]
+pub struct Front {
+    pub end: usize,
+    pub from: usize,
+    pub last: Digits,
+}
+
+// Reads all whole groups of digits, and the digits after them. With constants for W and K the inner loops are unrolled.
+pub fn groups<const W: usize, const K: usize>(
+    out: &mut [u8],
+    at: usize,
+    t: &[u8],
+    alphabet: Alphabet,
+) -> Front
+    requires room { at ≤ 2 ^ 30 }
+    requires short { length t.now ≤ 2 ^ 24 }
+    requires grouping { Grouping W K }
+    ensures whole { Groups out.old out.new at alphabet.entry.numbers.now alphabet.entry.skip W K t.now result.from result.end }
+    ensures last { Taken alphabet.entry.numbers.now alphabet.entry.skip (2 ^ W) (drop result.from t.now) result.last.taken result.last.count result.last.number }
+    ensures few { result.last.count < K }
+    ensures stops { result.from + result.last.taken < length t.now → Stops alphabet.entry.numbers.now alphabet.entry.skip (2 ^ W) (get_or t.now (result.from + result.last.taken) 0) }
+{
+    let mut end = at;
+    let mut from = 0;
+    loop {
+        let last = take_digits::<W, K>(&t[from..], alphabet);
+        if last.count < K {
+            return Front { end, from, last };
+        }
+        end = put_octets(out, end, W * K / 8, last.number);
+        from += last.taken;
+    }
+}
+
+// Writes the octets of the last digits, which have W bits. The left-over bits must be zero and fewer than W.
+pub fn finish<const W: usize>(out: &mut [u8], at: usize, last: Digits) -> Option<usize>
+    requires room { at < 2 ^ 32 }
+    requires some_bits { 0 < W }
+    requires few_bits { W ≤ 6 }
+    requires few_digits { last.count ≤ 8 }
+    requires small { last.number < 2 ^ (W * last.count) }
+    ensures { Values out.old out.new at result (whole_octets W 8 0 (digits 2 (W * last.count) last.number)) }
+{
+    let z = W * last.count % 8;
+    if W <= z {
+        return None;
     }
     let p = power(z);
-    if v % p != 0 {
-        return Value::Fault;
+    if last.number % p != 0 {
+        return None;
     }
-    Value::Upto(put_octets(out, at, w * q / 8, (v / p) as u64))
+    Some(put_octets(out, at, W * last.count / 8, last.number / p))
 }
 
-// Reads all whole groups of digits from i on, and the digits after them.
-pub fn groups(
+// Reads digits; nothing else may stand there, but for what is left out.
+fn octets<const W: usize, const K: usize>(
     out: &mut [u8],
     at: usize,
     t: &[u8],
-    i: usize,
-    e: usize,
-    alphabet: &[u8],
-    skip: usize,
-    w: usize,
-    base: usize,
-    k: usize,
-    g: usize,
-) -> Front
-    requires { (at ≤ 2 ^ 30) × (i ≤ e) × (e ≤ length t.now) × (length t.now ≤ 2 ^ 24) × (256 ≤ length alphabet.now) × Grouping w base k g }
-    ensures { Begun out.old out.new at alphabet.now skip w base t.now i e k result.at result.end result.count result.number × (result.count < k) }
+    alphabet: Alphabet,
+) -> Option<usize>
+    requires room { at ≤ 2 ^ 30 }
+    requires short { length t.now ≤ 2 ^ 24 }
+    requires grouping { Grouping W K }
+    ensures { Values out.old out.new at result (octets_by alphabet.entry.numbers.now alphabet.entry.skip W t.now) }
 {
-    let mut m = at;
-    let d = take_digits(t, i, e, alphabet, skip, base, k);
-    let mut j = d.at;
-    let mut q = d.count;
-    let mut v = d.number;
-    while k <= q {
-        m = put_group(out, m, g, v);
-        let f = take_digits(t, j, e, alphabet, skip, base, k);
-        j = f.at;
-        q = f.count;
-        v = f.number;
+    let f = groups::<W, K>(out, at, t, alphabet);
+    if f.from + f.last.taken < t.len() {
+        return None;
     }
-    Front {
-        at: j,
-        end: m,
-        count: q,
-        number: v,
-    }
-}
-
-// Reads the digits from i to e; nothing else may stand there, but for what is left out.
-fn octets(
-    out: &mut [u8],
-    at: usize,
-    t: &[u8],
-    i: usize,
-    e: usize,
-    alphabet: &[u8],
-    skip: usize,
-    w: usize,
-    base: usize,
-    k: usize,
-    g: usize,
-) -> Value
-    requires { (at ≤ 2 ^ 30) × (i ≤ e) × (e ≤ length t.now) × (length t.now ≤ 2 ^ 24) × (256 ≤ length alphabet.now) × Grouping w base k g }
-    ensures { Values out.old out.new at result (octets_by alphabet.now skip w base (slice i e t.now)) }
-{
-    let d = groups(out, at, t, i, e, alphabet, skip, w, base, k, g);
-    let j = d.at;
-    if j < e {
-        return Value::Fault;
-    }
-    finish(out, d.end, w, d.count, d.number)
+    finish::<W>(out, f.end, f.last)
 }
 
 // The same with the digits 0 to 9 and then letters, in either case. 64 stands for a blank, 99 for an octet that is no digit.
-pub fn lettered(
+pub fn lettered<const W: usize, const K: usize>(
     out: &mut [u8],
     at: usize,
     t: &[u8],
-    i: usize,
-    e: usize,
-    skip: usize,
-    w: usize,
-    base: usize,
-    k: usize,
-    g: usize,
-) -> Value
-    requires { (at ≤ 2 ^ 30) × (i ≤ e) × (e ≤ length t.now) × (length t.now ≤ 2 ^ 24) × Grouping w base k g }
-    ensures { Values out.old out.new at result (octets_by letters skip w base (slice i e t.now)) }
+    skip: u64,
+) -> Option<usize>
+    requires room { at ≤ 2 ^ 30 }
+    requires short { length t.now ≤ 2 ^ 24 }
+    requires grouping { Grouping W K }
+    ensures { Values out.old out.new at result (octets_by letters skip W t.now) }
 {
-    let alphabet =
+    let numbers =
         b"\x63\x63\x63\x63\x63\x63\x63\x63\x63\x40\x63\x63\x63\x63\x63\x63\x63\x63\x63\x63\x63\x63\x63\x63\x63\x63\x63\x63\x63\x63\x63\x63\x40\x63\x63\x63\x63\x63\x63\x63\x63\x63\x63\x63\x63\x63\x63\x63\x00\x01\x02\x03\x04\x05\x06\x07\x08\x09\x63\x63\x63\x63\x63\x63\x63\x0a\x0b\x0c\x0d\x0e\x0f\x10\x11\x12\x13\x14\x15\x16\x17\x18\x19\x1a\x1b\x1c\x1d\x1e\x1f\x63\x63\x63\x63\x63\x63\x63\x63\x63\x63\x0a\x0b\x0c\x0d\x0e\x0f\x10\x11\x12\x13\x14\x15\x16\x17\x18\x19\x1a\x1b\x1c\x1d\x1e\x1f\x63\x63\x63\x63\x63\x63\x63\x63\x63\x63\x63\x63\x63\x63\x63\x63\x63\x63\x63\x63\x63\x63\x63\x63\x63\x63\x63\x63\x63\x63\x63\x63\x63\x63\x63\x63\x63\x63\x63\x63\x63\x63\x63\x63\x63\x63\x63\x63\x63\x63\x63\x63\x63\x63\x63\x63\x63\x63\x63\x63\x63\x63\x63\x63\x63\x63\x63\x63\x63\x63\x63\x63\x63\x63\x63\x63\x63\x63\x63\x63\x63\x63\x63\x63\x63\x63\x63\x63\x63\x63\x63\x63\x63\x63\x63\x63\x63\x63\x63\x63\x63\x63\x63\x63\x63\x63\x63\x63\x63\x63\x63\x63\x63\x63\x63\x63\x63\x63\x63\x63\x63\x63\x63\x63\x63\x63\x63\x63\x63\x63\x63\x63\x63\x63\x63\x63\x63";
-    octets(out, at, t, i, e, alphabet, skip, w, base, k, g)
+    octets::<W, K>(out, at, t, Alphabet { numbers, skip })
 }
 
 // Reads digits, and stores the octets after their count, which is stored last.
-pub fn counted(
-    out: &mut [u8],
-    at: usize,
-    t: &[u8],
-    i: usize,
-    e: usize,
-    w: usize,
-    base: usize,
-    k: usize,
-    g: usize,
-) -> Value
-    requires { (at < 2 ^ 30) × (i ≤ e) × (e ≤ length t.now) × (length t.now ≤ 1048576) × Grouping w base k g }
-    ensures { Values out.old out.new at result (counted_by w base (slice i e t.now)) }
+pub fn counted<const W: usize, const K: usize>(out: &mut [u8], at: usize, t: &[u8]) -> Option<usize>
+    requires room { at < 2 ^ 30 }
+    requires short { length t.now ≤ 1048576 }
+    requires grouping { Grouping W K }
+    ensures { Values out.old out.new at result (counted_by W t.now) }
 {
     // no octet has the number 100, so none is left out
-    let v = lettered(out, at + 1, t, i, e, 100, w, base, k, g);
-    match v {
-        Value::Fault => Value::Fault,
-        Value::Upto(m) => {
-            let count = m - (at + 1);
-            if count < 1 {
-                return Value::Fault;
-            }
-            if 255 < count {
-                return Value::Fault;
-            }
-            put(out, at, count as u8);
-            Value::Upto(m)
-        }
+    let m = lettered::<W, K>(out, at + 1, t, 100)?;
+    let count = u8::try_from(m - (at + 1)).ok()?;
+    if count == 0 {
+        return None;
     }
+    put(out, at, count);
+    Some(m)
 }

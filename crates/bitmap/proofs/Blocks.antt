@@ -1,12 +1,13 @@
--- Laws of blocks: of a part that is whole blocks, and of their types.
+-- Laws of blocks: of octets that are whole blocks, and of their types.
 use Prim.Native.Nat.{ℕ, zero, suc, ◌+◌, ◌-◌, ◌*◌, ◌≤◌, ◌<◌}
 use mathlib.Core.Path.{◌≡◌, refl, sym, ap, subst, ◌∙◌}
 use mathlib.Core.Bool.{Bool, true, false, not, cond}
 use mathlib.Core.List.{List, [], ◌∷◌, ◌++◌, append_assoc}
 use native.Mathlib.Omega.{arith}
-use lib.ListN.{length, drop, get_or, length-append}
+use lib.ListN.{length, take, drop, get_or, length-append, length-drop}
 use lib.Dec.{ltb, leb}
-use lib.Seq.{slice, length-slice}
+use lib.Seq.{drop-drop}
+use Rattle.format.proofs.Lists.{drop_next, drop_none}
 use borrow.Author.Tests.{leb-true}
 use Rattle.format.specs.Wire.{Move, fault, go, took, taken, window, block_count, block_octet}
 use Rattle.format.specs.Digits.{digits}
@@ -15,12 +16,10 @@ use Rattle.format.proofs.Digits.{digits_length}
 use Rattle.format.proofs.Wire.{at_end_lem}
 use Rattle.format.proofs.Text.{went_on}
 use Rattle.format.proofs.Bitmap.{set_short}
-use Rattle.octets.proofs.Slices.{next, none, rest}
-use Rattle.octets.proofs.Integers.{next_two}
 use Rattle.bitmap.specs.Types.{types_text}
 use Rattle.bitmap.proofs.Texts.{Short, types_length}
 
--- A part that is whole blocks: the first fits in it, and the rest is whole blocks.
+-- Octets that are whole blocks: the first fits in it, and the rest is whole blocks.
 abbrev pub Whole : List ℕ → Type 0
 Whole xs = (lo : ℕ) × (taken (window lo) xs ≡ took (length xs))
 
@@ -49,46 +48,46 @@ block_whole w xs (lo, e) = by xs (went_on (window lo) (block_count w) (not (ltb 
     by [] t = let z : ◌≡◌ {A = ℕ} 0 1 = cc (at_end_lem (block_count w) 0 t).0 in absurd (omega arith)
     by (c ∷ xs) t = (omega arith, t)
 
--- a part from i to e
-pub whole_first : (p : List ℕ) (i e : ℕ) → e ≤ length p → taken (window 0) (slice i e p) ≡ took (e - i) → Whole (slice i e p)
-whole_first p i e l h = (0, h ∙ ap took (sym (length-slice i e p l)))
+-- what is left of whole blocks, from i on
+pub whole_first : (p : List ℕ) → taken (window 0) p ≡ took (length p) → Whole p
+whole_first p h = (0, h)
 
-module _ (p : List ℕ) (i e : ℕ) (h : i < e) (l : e ≤ length p) (w : Whole (slice i e p)) where
-  whole_one : (1 ≤ length (slice (i + 1) e p)) × (taken (block_count (get_or p i 0)) (slice (i + 1) e p) ≡ took (length (slice (i + 1) e p)))
-  whole_one = block_whole (get_or p i 0) (slice (i + 1) e p) (subst Whole (next p i e h l) w)
+module _ (p : List ℕ) (i : ℕ) (h : i < length p) (w : Whole (drop i p)) where
+  whole_one : (1 ≤ length (drop (i + 1) p)) × (taken (block_count (get_or p i 0)) (drop (i + 1) p) ≡ took (length (drop (i + 1) p)))
+  whole_one = block_whole (get_or p i 0) (drop (i + 1) p) (subst Whole (drop_next p i h) w)
 
-  pub count_there : i + 1 < e
-  count_there = omega (arith, whole_one, length-slice (i + 1) e p l)
+  pub count_there : i + 1 < length p
+  count_there = omega (arith, whole_one, length-drop (i + 1) p)
 
-  pub block_there : (get_or p (i + 1) 0 ≤ 32) × (i + 2 + get_or p (i + 1) 0 ≤ e) × Whole (slice (i + 2 + get_or p (i + 1) 0) e p)
+  after_count : drop (i + 1) p ≡ get_or p (i + 1) 0 ∷ drop (i + 2) p
+  after_count = let q : i + 1 + 1 ≡ i + 2 = omega arith in drop_next p (i + 1) count_there ∙ ap (λ (k : ℕ). get_or p (i + 1) 0 ∷ drop k p) q
+
+  pub block_there : (get_or p (i + 1) 0 ≤ 32) × (i + 2 + get_or p (i + 1) 0 ≤ length p) × Whole (drop (i + 2 + get_or p (i + 1) 0) p)
   block_there =
-      let q : i + 1 + 1 ≡ i + 2 = omega arith in
-      let t : slice (i + 1) e p ≡ get_or p (i + 1) 0 ∷ slice (i + 2) e p = next p (i + 1) e count_there l ∙ ap (λ (k : ℕ). get_or p (i + 1) 0 ∷ slice k e p) q in
-      let (a, b, r) = count_whole (get_or p i 0) (get_or p (i + 1) 0) (slice (i + 2) e p) (subst (λ (xs : List ℕ). taken (block_count (get_or p i 0)) xs ≡ took (length xs)) t whole_one.1) in
-      (a, omega (arith, length-slice (i + 2) e p l, count_there), subst Whole (rest p (i + 2) (get_or p (i + 1) 0) e) r)
+      let c : ℕ = get_or p (i + 1) 0 in
+      let (a, b, r) = count_whole (get_or p i 0) c (drop (i + 2) p) (subst (λ (xs : List ℕ). taken (block_count (get_or p i 0)) xs ≡ took (length xs)) after_count whole_one.1) in
+      (a, omega (arith, length-drop (i + 2) p, count_there), subst Whole (drop-drop c (i + 2) p) r)
 
 -- the types of a block's octets, one by one
-pub octet_types : (p : List ℕ) (i e v : ℕ) → i < e → e ≤ length p
-    → types_from (at_octets v (e - i)) (slice i e p) ≡ set_bits v (digits 2 8 (get_or p i 0)) ++ types_from (at_octets (v + 8) (e - (i + 1))) (slice (i + 1) e p)
-octet_types p i e v h l = let q : e - i ≡ suc (e - (i + 1)) = omega arith in rw (q, next p i e h l)
+pub octet_types : (p : List ℕ) (i v : ℕ) → i < length p
+    → types_from (at_octets v (length p - i)) (drop i p) ≡ set_bits v (digits 2 8 (get_or p i 0)) ++ types_from (at_octets (v + 8) (length p - (i + 1))) (drop (i + 1) p)
+octet_types p i v h = let q : length p - i ≡ suc (length p - (i + 1)) = omega arith in rw (q, drop_next p i h)
 
-pub no_octets : (p : List ℕ) (i e v : ℕ) → e ≤ i → types_from (at_octets v (e - i)) (slice i e p) ≡ []
-no_octets p i e v h = rw (none p i e h)
+pub no_octets : (p : List ℕ) (i : ℕ) (s : BlockPlace) → length p ≤ i → types_from s (drop i p) ≡ []
+no_octets p i s h = rw (drop_none p i h)
 
 -- the types of a block, and then those of the blocks after it
-octets_then : (p : List ℕ) (c i e v : ℕ) → i + c ≤ e → e ≤ length p
-    → types_from (at_octets v c) (slice i e p) ≡ types_from (at_octets v c) (slice i (i + c) p) ++ types (slice (i + c) e p)
-octets_then p zero i e v h l = let q : i + 0 ≡ i = omega arith in rw (q, none p i i (omega arith))
-octets_then p (suc c) i e v h l =
-    let q : i + suc c ≡ i + 1 + c = omega arith in
-    rw (next p i e (omega arith) l, next p i (i + suc c) (omega arith) (omega arith), q, octets_then p c (i + 1) e (v + 8) (omega arith) l)
-    (sym (append_assoc (set_bits v (digits 2 8 (get_or p i 0))) (types_from (at_octets (v + 8) c) (slice (i + 1) (i + 1 + c) p)) (types (slice (i + 1 + c) e p))))
+octets_then : (c v : ℕ) (xs : List ℕ) → c ≤ length xs → types_from (at_octets v c) xs ≡ types_from (at_octets v c) (take c xs) ++ types (drop c xs)
+octets_then zero v xs h = refl
+octets_then (suc c) v [] h = absurd (omega arith)
+octets_then (suc c) v (x ∷ xs) h =
+    rw (octets_then c (v + 8) xs (omega arith)) (sym (append_assoc (set_bits v (digits 2 8 x)) (types_from (at_octets (v + 8) c) (take c xs)) (types (drop c xs))))
 
-pub block_types : (p : List ℕ) (i e c : ℕ) → c ≡ get_or p (i + 1) 0 → i + 2 + c ≤ e → e ≤ length p
-    → types (slice i e p) ≡ types_from (at_octets (get_or p i 0 * 256) (i + 2 + c - (i + 2))) (slice (i + 2) (i + 2 + c) p) ++ types (slice (i + 2 + c) e p)
-block_types p i e c a h l =
-    let q : i + 2 + c - (i + 2) ≡ c = omega arith in
-    rw (next_two p i e (omega arith) l, ← a, q) (octets_then p c (i + 2) e (get_or p i 0 * 256) h l)
+pub block_types : (p : List ℕ) (i c n : ℕ) → i + 1 < length p → c ≡ get_or p (i + 1) 0 → i + 2 + c ≤ length p → n ≡ c
+    → types (drop i p) ≡ types_from (at_octets (get_or p i 0 * 256) n) (take c (drop (i + 2) p)) ++ types (drop (i + 2 + c) p)
+block_types p i c n k a l e =
+    let q : i + 1 + 1 ≡ i + 2 = omega arith in
+    rw (drop_next p i (omega arith), drop_next p (i + 1) k, ← a, q, e, ← drop-drop c (i + 2) p) (octets_then c (get_or p i 0 * 256) (drop (i + 2) p) (omega (arith, length-drop (i + 2) p)))
 
 -- at most eight types for each octet
 types_short : (s : BlockPlace) (xs : List ℕ) → length (types_from s xs) ≤ 8 * length xs
@@ -98,5 +97,5 @@ types_short (at_count w) (c ∷ xs) = omega (arith, types_short (at_octets (w * 
 types_short (at_octet v m) (x ∷ xs) =
     omega (arith, types_short (at_octets (v + 8) m) xs, length-append (set_bits v (digits 2 8 x)) (types_from (at_octets (v + 8) m) xs), set_short v (digits 2 8 x), digits_length 2 8 x)
 
-pub block_length : (text : ℕ → List ℕ) → Short text → (b : Bool) (s : BlockPlace) (p : List ℕ) (i e : ℕ) → e ≤ length p → length (types_text text b (types_from s (slice i e p))) ≤ 512 * (e - i)
-block_length text short b s p i e l = omega (arith, types_length text short b (types_from s (slice i e p)), types_short s (slice i e p), length-slice i e p l)
+pub block_length : (text : ℕ → List ℕ) → Short text → (b : Bool) (s : BlockPlace) (p : List ℕ) → length (types_text text b (types_from s p)) ≤ 512 * length p
+block_length text short b s p = omega (arith, types_length text short b (types_from s p), types_short s p)

@@ -11,7 +11,6 @@ use borrow.Author.Tests.{lt-ltb}
 use Rattle.format.specs.Lists.{all_of, twice}
 use Rattle.format.specs.Octets.{ascii, same_octets}
 use Rattle.format.specs.Digits.{digits}
-use Rattle.format.specs.Number.{decimal}
 use Rattle.format.specs.Grammar.{is_name}
 use Rattle.format.specs.Catalogue.{TypeName, is_type_number, good_alone, clashes, type_text_in}
 use Rattle.format.specs.Demands.{sound_names}
@@ -24,7 +23,8 @@ use Rattle.format.proofs.Bitmap.{set_short}
 use Rattle.buffer.specs.Writing.{Wrote}
 use Rattle.buffer.proofs.Laws.{Left, left_all, left_piece, left_none}
 use Rattle.buffer.proofs.Parted.{first_later}
-use Rattle.catalogue.specs.Entries.{names_of, Listed}
+use Rattle.catalogue.specs.Known.{names_in}
+use Rattle.catalogue.specs.declared.Catalogue.{Catalogue}
 use Rattle.catalogue.proofs.Laws.{listed_sound}
 use Rattle.bitmap.specs.Types.{types_text}
 
@@ -52,8 +52,8 @@ all_short c h =
     let g = and_right (leb (length c) 512) (all_of good_alone c) (and_left (leb (length c) 512 && all_of good_alone c) (not (twice clashes c)) h) in
     record { some_octet = λ v. (text_sized c g v).0; at_most = λ v. (text_sized c g v).1 }
 
-pub listed_short : (names ws : List ℕ) → Listed names ws → Short (type_text_in (names_of names ws))
-listed_short names ws h = all_short (names_of names ws) (listed_sound names ws h)
+pub known_short : (c : Catalogue) → Short (type_text_in (names_in c))
+known_short c = all_short (names_in c) (listed_sound c.names.now c.types.now c.listed)
 
 module _ (text : ℕ → List ℕ) where
   -- no types have an empty text, and one type has a text

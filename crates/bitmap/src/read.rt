@@ -1,143 +1,107 @@
-// Reads bitmaps: the types in all tokens that are left, in any order, go into a picture, and from there into blocks.
-ghost use Rattle.std.specs.Prelude.{ℕ, ◌^◌, ◌<◌, ◌≤◌, ◌≡◌, [], length, drop};
-ghost use Rattle.std.proofs.Math.Option.{Option};
-ghost use Rattle.octets.specs.Octets.{number_of};
+// Reads bitmaps: the types in all tokens, in any order, go into a picture, and from there into blocks.
+ghost use Rattle.std.specs.Prelude.{ℕ, ◌^◌, ◌<◌, ◌≤◌, ◌≡◌, [], length};
 ghost use Rattle.buffer.specs.Writing.{Values};
 ghost use Rattle.bitmap_picture.specs.Windows.{Holds};
-ghost use Rattle.catalogue.specs.Entries.{Listed, names_of};
-ghost use Rattle.bitmap.specs.Reading.{types_read, bitmap_read, found_at, types_by, TypeWithin, PlainAt, Marks};
+ghost use Rattle.catalogue.specs.Known.{names_in};
+ghost use Rattle.bitmap.specs.Reading.{types_read, bitmap_read, types_by, TypeWithin, PlainFirst, Marks};
 
-use bitmap_picture::{mark, put_blocks};
-use buffer::Value;
-use octets::{Class, Number};
-use rrtype::read::Front;
+use bitmap_picture::Picture;
+use buffer::Lack;
+use catalogue::Catalogue;
+use octets::Class;
 use tokens::Next;
 
-// The next type: none is left; its number and where its token ends; or a fault, a token that is no type.
-#[derive(Clone, Copy)]
-enum NextType {
-    End,
-    Found(u64, usize),
-    Fault,
-}
-
-// The answer for a token that ends at e, given its number.
-fn found(q: Number, e: usize) -> NextType
-    ensures { (o : Option ℕ) → q ≡ number_of o → result ≡ found_at e o }
+// The type of the first token, and where its token ends.
+fn token_type(c: &Catalogue<'_>, t: &[u8]) -> Result<(u64, usize), Lack>
+    requires { length t.now ≤ 1048576 }
+    ensures types { types_by (names_in c.now) t.now result ≡ types_read (names_in c.now) t.now }
+    ensures within { TypeWithin t.now result }
 {
-    match q {
-        Number::Value(v) => NextType::Found(v, e),
-        Number::Fault => NextType::Fault,
+    match tokens::next_token(t, 0) {
+        None => Err(Lack::Missing),
+        Some(Next::Bare(a, e)) => match rrtype::read::number(c, &t[a..e]) {
+            None => Err(Lack::Fault),
+            Some(v) => Ok((v, e)),
+        },
+        Some(_) => Err(Lack::Fault),
     }
 }
 
-// The type of the next token from i on.
-fn token_type(types: &[u64], names: &[u8], t: &[u8], i: usize) -> NextType
-    requires { (i ≤ length t.now) × (length t.now ≤ 1048576) × Listed names.now types.now }
-    ensures { (types_by (names_of names.now types.now) t.now result ≡ types_read (names_of names.now types.now) (drop i t.now)) × TypeWithin t.now i result }
+// The type that `TYPE` and digits at the start make, before a blank or the end, and where it ends: then no token need be
+// scanned. It may deny a type that is there.
+fn last_type(t: &[u8]) -> Option<(u64, usize)>
+    ensures { PlainFirst t.now result }
 {
-    let k = tokens::next_token(t, i);
-    match k {
-        Next::End => NextType::End,
-        Next::Bare(a, e) => found(rrtype::read::number(types, names, t, a, e), e),
-        Next::Quoted(a, e) => NextType::Fault,
-        Next::Broken => NextType::Fault,
+    if t.len() < 4 {
+        return None;
     }
+    let e = 4 + octets::skip(&t[4..], Class::Digit);
+    if !tokens::parted_at(t, e) {
+        return None;
+    }
+    let v = rrtype::read::plain(&t[..e])?;
+    Some((v, e))
 }
 
-// The type at i, if `TYPE` and digits stand there before a blank or the end: then no token need be scanned. It may deny a type
-// that is there.
-fn last_type(t: &[u8], i: usize) -> NextType
-    requires { i ≤ length t.now }
-    ensures { PlainAt t.now i result }
+// The same. If there are nine octets, the type is read in one pass.
+fn plain_type(t: &[u8]) -> Option<(u64, usize)>
+    ensures { PlainFirst t.now result }
 {
-    if t.len() - i < 4 {
-        return NextType::Fault;
+    if t.len() < 9 {
+        return last_type(t);
     }
-    let e = octets::skip(t, i + 4, t.len(), Class::Digit);
-    if tokens::parted_at(t, e) {
-        return found(rrtype::read::plain(t, i, e), e);
+    let (v, e) = rrtype::read::plain_front(t)?;
+    if !tokens::parted_at(t, e) {
+        return None;
     }
-    NextType::Fault
+    Some((v, e))
 }
 
-// The same. If nine octets are left, the type is read in one pass.
-fn plain_type(t: &[u8], i: usize) -> NextType
-    requires { i ≤ length t.now }
-    ensures { PlainAt t.now i result }
+// The first type, and where its token ends; the quick way is tried first.
+fn next_type(c: &Catalogue<'_>, t: &[u8]) -> Result<(u64, usize), Lack>
+    requires { length t.now ≤ 1048576 }
+    ensures types { types_by (names_in c.now) t.now result ≡ types_read (names_in c.now) t.now }
+    ensures within { TypeWithin t.now result }
 {
-    if t.len() - i < 9 {
-        return last_type(t, i);
-    }
-    let f = rrtype::read::plain_front(t, i);
-    match f {
-        Front::Other => NextType::Fault,
-        Front::Found(v, e) => {
-            if tokens::parted_at(t, e) {
-                return NextType::Found(v, e);
-            }
-            NextType::Fault
-        }
+    let a = octets::skip(t, Class::Blank);
+    match plain_type(&t[a..]) {
+        None => token_type(c, t),
+        Some((v, e)) => Ok((v, a + e)),
     }
 }
 
-// The next type from i on; the quick way is tried first.
-fn next_type(types: &[u64], names: &[u8], t: &[u8], i: usize) -> NextType
-    requires { (i ≤ length t.now) × (length t.now ≤ 1048576) × Listed names.now types.now }
-    ensures { (types_by (names_of names.now types.now) t.now result ≡ types_read (names_of names.now types.now) (drop i t.now)) × TypeWithin t.now i result }
+// Fills an empty picture with the types of all tokens, if each is a type.
+fn fill(picture: &mut Picture, c: &Catalogue<'_>, t: &[u8]) -> bool
+    requires short { length t.now ≤ 1048576 }
+    requires empty { Holds picture.old.windows picture.old.top [] }
+    ensures { Marks picture.new result (types_read (names_in c.now) t.now) }
 {
-    let a = octets::skip(t, i, t.len(), Class::Blank);
-    let r = plain_type(t, a);
-    match r {
-        NextType::Found(v, e) => NextType::Found(v, e),
-        NextType::End => token_type(types, names, t, i),
-        NextType::Fault => token_type(types, names, t, i),
-    }
-}
-
-// How filling a picture ended: with a fault, a token that was no type; or with all types, and the picture's top.
-#[derive(Clone, Copy)]
-enum Filled {
-    Fault,
-    Top(usize),
-}
-
-// Fills an empty picture with the types of all tokens from i on.
-fn fill(m: &mut [[u8; 32]; 256], types: &[u64], names: &[u8], t: &[u8], i: usize) -> Filled
-    requires { (i ≤ length t.now) × (length t.now ≤ 1048576) × Holds m.old 0 [] × Listed names.now types.now }
-    ensures { Marks m.new result (types_read (names_of names.now types.now) (drop i t.now)) }
-{
-    let mut top = 0;
-    let mut j = i;
+    let mut j = 0;
     loop {
-        let k = next_type(types, names, t, j);
-        match k {
-            NextType::End => {
-                return Filled::Top(top);
+        match next_type(c, &t[j..]) {
+            Ok((v, e)) => {
+                picture.mark(v);
+                j += e;
             }
-            NextType::Found(v, e) => {
-                top = mark(m, top, v);
-                j = e;
+            Err(Lack::Missing) => {
+                return true;
             }
-            NextType::Fault => {
-                return Filled::Fault;
+            Err(Lack::Fault) => {
+                return false;
             }
         }
     }
 }
 
-// Reads the types of all tokens from i on into blocks.
-pub fn read(out: &mut [u8], at: usize, types: &[u64], names: &[u8], t: &[u8], i: usize) -> Value
-    requires { (at < 2 ^ 30) × (i ≤ length t.now) × (length t.now ≤ 1048576) × Listed names.now types.now }
-    ensures { Values out.old out.new at result (bitmap_read (names_of names.now types.now) (drop i t.now)) }
+// Reads the types of all tokens into blocks.
+pub fn read(out: &mut [u8], at: usize, c: &Catalogue<'_>, t: &[u8]) -> Option<usize>
+    requires room { at < 2 ^ 30 }
+    requires short { length t.now ≤ 1048576 }
+    ensures { Values out.old out.new at result (bitmap_read (names_in c.now) t.now) }
 {
-    let mut m = [[0u8; 32]; 256];
-    let f = fill(&mut m, types, names, t, i);
-    match f {
-        Filled::Fault => Value::Fault,
-        Filled::Top(top) => {
-            let e = put_blocks(out, at, &m, top);
-            Value::Upto(e)
-        }
+    let mut picture = Picture::empty();
+    if !fill(&mut picture, c, t) {
+        return None;
     }
+    Some(picture.put_blocks(out, at))
 }

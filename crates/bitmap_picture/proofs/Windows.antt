@@ -149,13 +149,14 @@ module _ (r : List ℕ) where
       let z : get_or r n 0 ≡ 0 = rw q at e in
       rw (q, take-suc r n 0 (omega arith), z) (sym (last_zero (take n r)))
 
-  pub kept : (n : ℕ) → 0 < n → n ≤ length r → (get_or r (n - 1) 0 ≡ 0 → ⊥) → n ≡ length (without_last_zeros (take n r))
+  pub kept : (n : ℕ) → 0 < n → n ≤ length r → (get_or r (n - 1) 0 ≡ 0 → ⊥) → n - 1 + 1 ≡ length (without_last_zeros (take n r))
   kept zero h l e = absurd (omega arith)
   kept (suc n) h l e =
       let q : suc n - 1 ≡ n = omega arith in
       let z : get_or r n 0 ≡ 0 → ⊥ = rw q at e in
+      let q₁ : suc n - 1 + 1 ≡ suc n = omega arith in
       let t : take (suc n) r ≡ take n r ++ get_or r n 0 ∷ [] = take-suc r n 0 (omega arith) in
-      sym (ap length (ap without_last_zeros t ∙ last_some (take n r) (get_or r n 0) z ∙ sym t) ∙ length-take-le (suc n) r l)
+      q₁ ∙ sym (ap length (ap without_last_zeros t ∙ last_some (take n r) (get_or r n 0) z ∙ sym t) ∙ length-take-le (suc n) r l)
 
 -- a window of zeros has no octets without its last zeros
 all_zeros : (r : List ℕ) → all_of zero_octet r ≡ true → without_last_zeros r ≡ []
@@ -180,28 +181,26 @@ front (x ∷ xs) = by x (without_last_zeros xs) (front xs)
 pub front_length : (xs : List ℕ) → length (without_last_zeros xs) ≤ length xs
 front_length xs = omega (arith, length-take (length (without_last_zeros xs)) xs, ap length (front xs))
 
--- the block of a window, or none
-module _ (w c : ℕ) (r : List ℕ) (e : c ≡ length (without_last_zeros r)) where
-  pub no_block : c ≡ 0 → [] ≡ block_of w (without_last_zeros r)
-  no_block z = by (without_last_zeros r) (sym e ∙ z)
-    where
-      by : (l : List ℕ) → length l ≡ 0 → [] ≡ block_of w l
-      by [] q = refl
-      by (x ∷ l) q = absurd (omega arith)
-
-  pub some_block : (c ≡ 0 → ⊥) → (w ∷ []) ++ ((c ∷ []) ++ take (c - 0) r) ≡ block_of w (without_last_zeros r)
-  some_block z = let q : c - 0 ≡ c = omega arith in rw (q, e, front r) (by (without_last_zeros r) (λ k. z (e ∙ k)))
-    where
-      by : (l : List ℕ) → (length l ≡ 0 → ⊥) → w ∷ length l ∷ l ≡ block_of w l
-      by [] q = absurd (q refl)
-      by (x ∷ l) q = refl
-
-pub block_length : (w : ℕ) (xs : List ℕ) → length (block_of w (without_last_zeros xs)) ≤ 2 + length xs
-block_length w xs = by (without_last_zeros xs) (front_length xs)
+-- a window with an octet that is not zero has a block
+not_zeros : (r : List ℕ) → all_of zero_octet r ≡ false → (without_last_zeros r ≡ [] → ⊥)
+not_zeros [] h e = cc
+not_zeros (zero ∷ xs) h e = by (without_last_zeros xs) (not_zeros xs h) e
   where
-    by : (l : List ℕ) → length l ≤ length xs → length (block_of w l) ≤ 2 + length xs
-    by [] h = omega arith
-    by (x ∷ l) h = omega arith
+    by : (l : List ℕ) → (l ≡ [] → ⊥) → before_zeros 0 l ≡ [] → ⊥
+    by [] q f = q refl
+    by (y ∷ l) q f = cc
+not_zeros (suc x ∷ xs) h e = by (without_last_zeros xs) e
+  where
+    by : (l : List ℕ) → before_zeros (suc x) l ≡ [] → ⊥
+    by [] f = cc
+    by (y ∷ l) f = cc
+
+pub some_block : (w c : ℕ) (r : List ℕ) → c ≡ length (without_last_zeros r) → all_of zero_octet r ≡ false → (w ∷ []) ++ ((c ∷ []) ++ take c r) ≡ block_of w (without_last_zeros r)
+some_block w c r e h = rw (e, front r) (by (without_last_zeros r) (not_zeros r h))
+  where
+    by : (l : List ℕ) → (l ≡ [] → ⊥) → w ∷ length l ∷ l ≡ block_of w l
+    by [] q = absurd (q refl)
+    by (x ∷ l) q = refl
 
 -- the blocks of a picture, window by window
 no_octets : (n c : ℕ) → without_last_zeros (octets_from [] n c) ≡ []

@@ -5,8 +5,9 @@ use mathlib.Core.Bool.{Bool, false, ◌&&◌}
 use mathlib.Core.List.{List, [], ◌∷◌, ◌++◌, map}
 use native.Mathlib.Omega.{arith}
 use lib.Dec.{leb}
-use lib.ListN.{length, drop, get_or, length-append}
-use lib.Seq.{slice, length-slice, drop_at}
+use lib.ListN.{length, take, drop, get_or, length-append, length-drop}
+use lib.Seq.{drop_at}
+use Rattle.std.proofs.lemmas.List.{drop-drop}
 use Rattle.format.specs.Lists.{flat_map, parted}
 use Rattle.format.specs.Octets.{ascii}
 use Rattle.format.specs.Wire.{label_length, label_octet, took, taken}
@@ -14,12 +15,12 @@ use Rattle.format.specs.Text.{pieces}
 use Rattle.format.specs.Name.{name_escape, or_root, name_text}
 use Rattle.format.proofs.Text.{escape_bound, escapes_bound, went_on, piece_taken}
 use Rattle.format.proofs.Name.{name_some}
-use Rattle.octets.proofs.Slices.{next, none, rest}
+use Rattle.format.proofs.Lists.{drop_next}
 use Rattle.octets.proofs.Pieces.{pieces_at, pieces_some}
 
 -- the text has at most four octets for each octet of a label
-pub label_length_lem : (p : List ℕ) (i e : ℕ) → e ≤ length p → length (flat_map name_escape (slice i e p)) ≤ 4 * (e - i)
-label_length_lem p i e l = omega (arith, escapes_bound name_escape (escape_bound 0x21 (ascii ".\\\"';()@$")) (slice i e p), length-slice i e p l)
+pub escaped_length : (xs : List ℕ) → length (flat_map name_escape xs) ≤ 4 * length xs
+escaped_length = escapes_bound name_escape (escape_bound 0x21 (ascii ".\\\"';()@$"))
 
 -- Octets that are the rest of a name: the closing zero, or a label and the rest of a name.
 abbrev pub Named : List ℕ → Type 0
@@ -40,10 +41,6 @@ label_or_end : (c : ℕ) (xs : List ℕ) → 1 ≤ length xs → Named (c ∷ xs
 label_or_end zero xs h w = let z = zero_ends xs w in absurd (omega arith)
 label_or_end (suc n) xs h w = first_label n xs w
 
-last_zero : (c : ℕ) → Named (c ∷ []) → c ≡ 0
-last_zero zero w = refl
-last_zero (suc n) w = let z = (first_label n [] w).0 in absurd (omega arith)
-
 -- the texts of labels, a dot after each
 abbrev pub dotted : List ℕ → List ℕ
 dotted xs = parted (ascii ".") (map (flat_map name_escape) (pieces xs))
@@ -56,49 +53,40 @@ or_root_lem : (t : List ℕ) → 1 ≤ length t → t ≡ or_root t
 or_root_lem [] h = absurd (omega arith)
 or_root_lem (x ∷ t) h = refl
 
-module _ (p : List ℕ) (i e : ℕ) (l : e ≤ length p) where
-  pub named_first : (b : Bool) → taken (label_length b 0) (slice i e p) ≡ took (e - i) → Named (slice i e p)
-  named_first b h = (b, 0, h ∙ ap took (sym (length-slice i e p l)))
-
-  -- a label, and the rest of the name after it
-  pub label_at : i + 1 < e → Named (slice i e p) → (i + 1 + get_or p i 0 < e) × Named (slice (i + 1 + get_or p i 0) e p)
+-- what is left of a name from j on: a label, and the rest of the name after it
+module _ (p : List ℕ) (j : ℕ) where
+  pub label_at : j + 1 < length p → Named (drop j p) → (j + 1 + get_or p j 0 < length p) × Named (drop (j + 1 + get_or p j 0) p)
   label_at h w =
-      let (a, v) = label_or_end (get_or p i 0) (slice (i + 1) e p) (omega (arith, length-slice (i + 1) e p l)) (subst Named (next p i e (omega arith) l) w) in
-      (omega (arith, length-slice (i + 1) e p l), subst Named (rest p (i + 1) (get_or p i 0) e) v)
+      let (a, v) = label_or_end (get_or p j 0) (drop (j + 1) p) (omega (arith, length-drop (j + 1) p)) (subst Named (drop_next p j (omega arith)) w) in
+      (omega (arith, length-drop (j + 1) p), subst Named (drop-drop (get_or p j 0) (j + 1) p) v)
 
-  pub dotted_next : i + 1 + get_or p i 0 < e → dotted (slice i e p) ≡ (flat_map name_escape (slice (i + 1) (i + 1 + get_or p i 0) p) ++ (46 ∷ [])) ++ dotted (slice (i + 1 + get_or p i 0) e p)
-  dotted_next h =
-      ap (λ ts. parted (ascii ".") (map (flat_map name_escape) ts)) (pieces_at p i e (get_or p i 0) refl (omega arith) l)
-      ∙ dot_after (slice (i + 1) (i + 1 + get_or p i 0) p) (pieces (slice (i + 1 + get_or p i 0) e p)) more
+  pub dotted_next : (k : ℕ) → k ≡ j + 1 + get_or p j 0 → k < length p → dotted (drop j p) ≡ (flat_map name_escape (take (k - (j + 1)) (drop (j + 1) p)) ++ (46 ∷ [])) ++ dotted (drop k p)
+  dotted_next k q h =
+      let n : k - (j + 1) ≡ get_or p j 0 = omega arith in
+      let e : j + 1 + (k - (j + 1)) ≡ k = omega arith in
+      ap (λ ts. parted (ascii ".") (map (flat_map name_escape) ts)) (pieces_at p j (k - (j + 1)) n (omega arith))
+      ∙ dot_after (take (k - (j + 1)) (drop (j + 1) p)) (pieces (drop (j + 1 + (k - (j + 1))) p)) (rw e more)
+      ∙ ap (λ i. (flat_map name_escape (take (k - (j + 1)) (drop (j + 1) p)) ++ (46 ∷ [])) ++ dotted (drop i p)) e
     where
-      more : 1 ≤ length (pieces (slice (i + 1 + get_or p i 0) e p))
-      more = subst (λ xs. 1 ≤ length (pieces xs)) (sym (next p (i + 1 + get_or p i 0) e h l)) (pieces_some (get_or p (i + 1 + get_or p i 0) 0) (slice (i + 1 + get_or p i 0 + 1) e p))
+      more : 1 ≤ length (pieces (drop k p))
+      more = subst (λ xs. 1 ≤ length (pieces xs)) (sym (drop_next p k h)) (pieces_some (get_or p k 0) (drop (k + 1) p))
 
-  -- the closing zero alone
-  zero_alone : i < e → e ≤ i + 1 → Named (slice i e p) → slice i e p ≡ 0 ∷ []
-  zero_alone a h w =
-      let g : slice i e p ≡ get_or p i 0 ∷ [] = next p i e a l ∙ ap (λ t. get_or p i 0 ∷ t) (none p (i + 1) e h) in
-      g ∙ ap (λ x. x ∷ []) (last_zero (get_or p i 0) (subst Named g w))
+-- after the last label there is nothing to print
+pub dotted_none : (xs : List ℕ) → length xs ≡ 1 → dotted xs ≡ []
+dotted_none [] h = absurd (omega arith)
+dotted_none (x ∷ []) h = refl
+dotted_none (x ∷ y ∷ xs) h = absurd (omega arith)
 
-  pub dotted_none : i < e → e ≤ i + 1 → Named (slice i e p) → dotted (slice i e p) ≡ []
-  dotted_none a h w = ap dotted (zero_alone a h w)
+-- the text of a name that has labels
+text_some : (xs : List ℕ) → 1 < length xs → Named xs → 1 ≤ length (dotted xs)
+text_some xs h w =
+    let k = 0 + 1 + get_or xs 0 0 in
+    let t = flat_map name_escape (take (k - (0 + 1)) (drop (0 + 1) xs)) in
+    omega (arith, ap length (dotted_next xs 0 k refl (label_at xs 0 h w).0), length-append (t ++ (46 ∷ [])) (dotted (drop k xs)), length-append t (46 ∷ []))
 
-  -- a name's text: of no octets, of the root, of labels
-  pub none_text : e ≤ i → [] ≡ name_text (slice i e p)
-  none_text h = sym (ap name_text (none p i e h))
-
-  pub root_text : i < e → e ≤ i + 1 → Named (slice i e p) → 46 ∷ [] ≡ name_text (slice i e p)
-  root_text a h w = sym (ap name_text (zero_alone a h w))
-
-  text_some : i + 1 < e → Named (slice i e p) → 1 ≤ length (dotted (slice i e p))
-  text_some h w =
-      let x = flat_map name_escape (slice (i + 1) (i + 1 + get_or p i 0) p) in
-      let y = dotted (slice (i + 1 + get_or p i 0) e p) in
-      omega (arith, ap length (dotted_next (label_at h w).0), length-append (x ++ (46 ∷ [])) y, length-append x (46 ∷ []))
-
-  pub labels_text : i + 1 < e → Named (slice i e p) → dotted (slice i e p) ≡ name_text (slice i e p)
-  labels_text h w = or_root_lem (dotted (slice i e p)) (text_some h w) ∙ by (slice i e p) (omega (arith, length-slice i e p l))
-    where
-      by : (xs : List ℕ) → 1 ≤ length xs → or_root (dotted xs) ≡ name_text xs
-      by [] z = absurd (omega arith)
-      by (x ∷ xs) z = refl
+pub labels_text : (xs : List ℕ) → 1 < length xs → Named xs → dotted xs ≡ name_text xs
+labels_text xs h w = or_root_lem (dotted xs) (text_some xs h w) ∙ by xs (omega arith)
+  where
+    by : (t : List ℕ) → 1 ≤ length t → or_root (dotted t) ≡ name_text t
+    by [] z = absurd (omega arith)
+    by (x ∷ t) z = refl

@@ -1,17 +1,14 @@
 -- Numbers that were read, and their octets.
 use Rattle.std.specs.Prelude.{ℕ, List}
-use Rattle.std.proofs.Math.Option.{Option, none, some}
-use Rattle.format.specs.Lists.{or_else}
+use Rattle.std.specs.Prelude.{Option, Some}
+use Rattle.format.specs.Lists.{◌>>=◌, or_else}
 use Rattle.format.specs.Field.{Symbol}
 use Rattle.format.specs.Digits.{digits}
 use Rattle.format.specs.Number.{decimal_of, below, symbol_value}
-use Rattle.octets.specs.declared.Number.{Number}
-use Rattle.octets.specs.declared.Number.TheVariants.{Value, Fault}
 
 -- w octets of a number
-abbrev pub octets_of : ℕ → Number → Option (List ℕ)
-octets_of w Fault = none
-octets_of w (Value v) = some (digits 256 w v)
+abbrev pub octets_of : ℕ → Option ℕ → Option (List ℕ)
+octets_of w o = o >>= λ v. Some (digits 256 w v)
 
 -- "a number in range or a symbol": the range ends before m
 abbrev pub integer_of : ℕ → List Symbol → List ℕ → Option ℕ

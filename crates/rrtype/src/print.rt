@@ -1,29 +1,20 @@
 // Prints RR types: the name that a catalogue has for a type, or `TYPE` and its number.
-ghost use Rattle.std.specs.Prelude.{◌+◌, ◌^◌, ◌<◌, ◌≤◌, ◌≡◌, length};
-ghost use Rattle.std.proofs.Math.Seq.{slice};
+ghost use Rattle.std.specs.Prelude.{◌^◌, ◌<◌, ◌≤◌, ◌≡◌, length};
 ghost use Rattle.format.specs.Digits;
 ghost use Rattle.format.specs.Catalogue.{type_text_in};
 ghost use Rattle.format.specs.Rrtype.{type_text};
 ghost use Rattle.buffer.specs.Writing.{Wrote};
-ghost use Rattle.catalogue.specs.Entries.{Listed, Within, names_of, spelled_at};
+ghost use Rattle.catalogue.specs.Known.{names_in};
 
 use buffer::put_all;
+use catalogue::Catalogue;
 use digits::put_decimal;
 use octets::integer::two;
 
-// Writes the name of an entry.
-fn entry_name(out: &mut [u8], at: usize, names: &[u8], w: u64) -> usize
-    requires { (at ≤ 2 ^ 31) × Within names.now w }
-    ensures { Wrote out.old out.new at result (spelled_at names.now w) }
-{
-    let a = catalogue::start(w);
-    let e = a + catalogue::size(w);
-    put_all(out, at, &names[a..e])
-}
-
 // Writes `TYPE` and the number v.
 fn plain(out: &mut [u8], at: usize, v: u64) -> usize
-    requires { (at ≤ 2 ^ 31) × (v < 65536) }
+    requires place { at ≤ 2 ^ 31 }
+    requires number { v < 65536 }
     ensures { Wrote out.old out.new at result (type_text v) }
 {
     let m = put_all(out, at, b"TYPE");
@@ -31,29 +22,22 @@ fn plain(out: &mut [u8], at: usize, v: u64) -> usize
 }
 
 // Writes the type with the number v.
-pub fn number(out: &mut [u8], at: usize, types: &[u64], names: &[u8], v: u64) -> usize
-    requires { (at ≤ 2 ^ 31) × Listed names.now types.now × (v < 65536) }
-    ensures { Wrote out.old out.new at result (type_text_in (names_of names.now types.now) v) }
+pub fn number(out: &mut [u8], at: usize, c: &Catalogue<'_>, v: u64) -> usize
+    requires place { at ≤ 2 ^ 31 }
+    requires number { v < 65536 }
+    ensures { Wrote out.old out.new at result (type_text_in (names_in c.now) v) }
 {
-    let k = catalogue::place_of(types, v);
-    if k < types.len() {
-        return entry_name(out, at, names, types[k]);
+    match c.name_of(v) {
+        Some(name) => put_all(out, at, name),
+        None => plain(out, at, v),
     }
-    plain(out, at, v)
 }
 
-// Writes the type in the two octets from i to e.
-pub fn field(
-    out: &mut [u8],
-    at: usize,
-    types: &[u64],
-    names: &[u8],
-    p: &[u8],
-    i: usize,
-    e: usize,
-) -> usize
-    requires { (at < 2 ^ 30) × Listed names.now types.now × (e ≡ i + 2) × (e ≤ length p.now) }
-    ensures { Wrote out.old out.new at result (type_text_in (names_of names.now types.now) (Digits.number 256 (slice i e p.now))) }
+// Writes the type in two octets.
+pub fn field(out: &mut [u8], at: usize, c: &Catalogue<'_>, p: &[u8]) -> usize
+    requires place { at < 2 ^ 30 }
+    requires two { length p.now ≡ 2 }
+    ensures { Wrote out.old out.new at result (type_text_in (names_in c.now) (Digits.number 256 p.now)) }
 {
-    number(out, at, types, names, two(p, i))
+    number(out, at, c, two(p))
 }

@@ -1,3 +1,4 @@
-pub mod Strings
+pub mod Runs
 pub mod Plain
 pub mod Texts
+pub mod Strings

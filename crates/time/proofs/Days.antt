@@ -37,7 +37,7 @@ day_in f k d e l h i =
     let g : days_before 0 + d ≡ days_before (k + 0) + e = rw b (omega arith) in
     rw a (passed k (suc (f - suc k)) 0 d e g ∙ rw (b, lt-ltb e (month_length k) i))
 
-pub day_is : (k d e : ℕ) → k < 1644 → days_before k + e ≡ d → e < month_length k → day_of d ≡ record { month = k; day = e }
+day_is : (k d e : ℕ) → k < 1644 → days_before k + e ≡ d → e < month_length k → day_of d ≡ record { month = k; day = e }
 day_is k d e l h i = day_in 1644 k d e l h i
 
 -- a day in range is before 2107
@@ -98,21 +98,16 @@ cycle_days (suc c) h =
 
 -- the months of a year, one after another: b says whether it is a leap year, and n is how many days month m has
 module _ (y m n : ℕ) (b : Bool) (l : b ≡ leap (1970 + y)) (e : n ≡ month_days b m) (h : m < 12) where
-  pub month_here : month_length (y * 12 + m) ≡ n
+  month_here : month_length (y * 12 + m) ≡ n
   month_here = month_at y m h ∙ rw (← l, e)
 
   pub month_next : days_before (y * 12 + (m + 1)) ≡ days_before (y * 12 + m) + n
   month_next = let q : y * 12 + (m + 1) ≡ suc (y * 12 + m) = omega arith in rw q (omega (arith, month_here))
 
-  pub month_more : (d : ℕ) → days_before (y * 12 + m) + n ≤ d → d < days_before (y * 12 + 12) → m + 1 < 12
-  month_more d f g = by (dec_lt (m + 1) 12)
-    where
-      by : Dec (m + 1 < 12) → m + 1 < 12
-      by (yes a) = a
-      by (no a) =
-          let q : y * 12 + (m + 1) ≡ y * 12 + 12 = omega arith in
-          let r : days_before (y * 12 + 12) ≡ days_before (y * 12 + m) + n = rw q at month_next in
-          absurd (omega arith)
+  -- the day that is r days after the first of that month
+  pub day_at : (d r : ℕ) → days_before (y * 12 + m) + r ≡ d → d ≤ 49710 → r < n → day_of d ≡ record { month = y * 12 + m; day = r }
+  day_at d r f g k =
+      day_is (y * 12 + m) d r (month_below (y * 12 + m) d (omega (arith, f)) g) f (omega (arith, month_here, k))
 
 -- a moment's text
 pub moment_of_lem : (x : Day) (a b s : ℕ) → a ≡ x.month → b ≡ x.day → moment_text (record { month = a; day = b }) s ≡ moment_text x s

@@ -1,32 +1,27 @@
 -- Laws of a moment's days and seconds, and of its digits.
 use Prim.Native.Nat.{ℕ, zero, suc, ◌+◌, ◌*◌, ◌-◌, ◌/◌, ◌%◌, ◌^◌, ◌≤◌, ◌<◌}
 use mathlib.Core.Path.{◌≡◌, refl, sym, ap, ◌∙◌}
-use mathlib.Core.Bool.{Bool, true, false, cond, ◌&&◌, and-false}
+use mathlib.Core.Bool.{Bool, true, false, cond}
 use native.Mathlib.Nat.{add-zero, pow-zero, pow-suc, mul-add-div_right, mul-add-mod_self_right, div-eq_of_lt, mod-eq_of_lt}
 use native.Mathlib.Omega.{arith}
 use mathlib.Core.List.{List, [], ◌∷◌, ◌++◌}
-use mathlib.Core.Option.{Option, none, some}
+use Rattle.std.specs.Prelude.{Option, None, Some}
 use lib.ListN.{length, take, drop, length-append, length-take, length-drop, take-append-drop}
-use lib.Seq.{slice, length-slice, take-take, drop-drop, take_at, drop_at}
-use lib.Dec.{eqb, ltb, leb}
-use borrow.Author.Tests.{lt-ltb, le-ltb, le-leb, eq-eqb, ne_eqb, eqb-true, leb-true, ltb-true}
+use lib.Seq.{take-take, drop-drop, take_at, drop_at}
+use lib.Dec.{eqb, ltb}
+use borrow.Author.Tests.{lt-ltb, le-ltb, le-leb, eqb-true, ltb-true}
 use Rattle.format.specs.Lists.{◌>>=◌, provided, cons_both, each_of}
-use Rattle.format.specs.Octets.{Below, in_range, digit, letter, lowered}
+use Rattle.format.specs.Octets.{Below, digit, letter, lowered}
 use Rattle.format.specs.Digits.{number_from, number, digit_value}
 use Rattle.format.specs.Number.{decimal_of}
-use Rattle.format.specs.Time.{leap, month_days, month_length, days_before, moment, digits_at, moment_of, read_time}
-use Rattle.format.proofs.Lists.{and_left, and_right, provided_some, below_append, below_take, below_drop}
+use Rattle.format.specs.Time.{leap, days_before, moment, digits_at, moment_of}
+use Rattle.format.proofs.Lists.{provided_some, below_append, below_take, below_drop}
 use Rattle.format.proofs.Digits.{number_bound, number_append}
 use Rattle.format.proofs.Finite.{at_each}
-use Rattle.octets.specs.Octets.{number_of}
-use Rattle.octets.specs.declared.Number.{Number}
-use Rattle.octets.specs.declared.Number.TheVariants.{Value, Fault}
-use Rattle.octets.proofs.Slices.{lent, rest}
-use Rattle.number.specs.Numbers.{octets_of}
-use Rattle.number.proofs.Numbers.{octets_of_lem}
+use Rattle.octets.proofs.Slices.{lent}
 use Rattle.time.specs.Years.{year_days, days_in}
-use Rattle.time.specs.Moments.{real_day, moment_read, seconds_read}
-use Rattle.time.proofs.Days.{in_year, year_next, month_at}
+use Rattle.time.specs.Moments.{moment_read}
+use Rattle.time.proofs.Days.{in_year, year_next}
 
 -- the days before a year: one fewer after 2100
 abbrev late : ℕ → ℕ
@@ -55,9 +50,6 @@ month_days_lem : (b : Bool) (m : ℕ) → m < 12 → days_in b m + fewer b m ≡
 month_days_lem true m h = eqb-true _ _ (at_each (λ m. eqb (days_in true m + fewer true m) (m * 30 + (m + 1 + m / 8) / 2)) 12 refl m h)
 month_days_lem false m h = eqb-true _ _ (at_each (λ m. eqb (days_in false m + fewer false m) (m * 30 + (m + 1 + m / 8) / 2)) 12 refl m h)
 
-pub month_first : (b : Bool) (m : ℕ) → m < 2 → m * 30 + (m + 1 + m / 8) / 2 ≡ days_in b m
-month_first b m h = omega (arith, rw (lt-ltb m 2 h) at (month_days_lem b m (omega arith)))
-
 pub month_later : (b : Bool) (m : ℕ) → 2 ≤ m → m < 12 → m * 30 + (m + 1 + m / 8) / 2 - cond b 1 2 ≡ days_in b m
 month_later b m h k = omega (arith, rw (le-ltb m 2 h) at (month_days_lem b m k))
 
@@ -66,78 +58,6 @@ pub days_before_lem : (year month a b : ℕ) → 1970 ≤ year → 1 ≤ month �
 days_before_lem year month a b h k l p q =
     let y : 1970 + (year - 1970) ≡ year = omega arith in
     rw (in_year (year - 1970) (month - 1) (omega arith), y, p, q)
-
--- a day of the calendar
-pub real_month : (year month : ℕ) → 1970 ≤ year → 1 ≤ month → month ≤ 12 → month_length ((year - 1970) * 12 + (month - 1)) ≡ month_days (leap year) (month - 1)
-real_month year month h k l =
-    let y : 1970 + (year - 1970) ≡ year = omega arith in
-    month_at (year - 1970) (month - 1) (omega arith) ∙ rw y
-
-month_31 : (b : Bool) (m : ℕ) → m < 12 → month_days b m ≤ 31
-month_31 true m h = leb-true _ _ (at_each (λ m. leb (month_days true m) 31) 12 refl m h)
-month_31 false m h = leb-true _ _ (at_each (λ m. leb (month_days false m) 31) 12 refl m h)
-
-pub record Real (year month day : ℕ) : Type 0 where
-  pub first : 1970 ≤ year
-  pub last : year ≤ 2106
-  pub january : 1 ≤ month
-  pub december : month ≤ 12
-  pub some_day : 1 ≤ day
-  pub in_month : day ≤ 31
-
-pub real : (year month day : ℕ) → real_day year month day ≡ true → Real year month day
-real year month day e = by (in_range 1970 2106 year && in_range 1 12 month) refl e
-  where
-    by : (b : Bool) → in_range 1970 2106 year && in_range 1 12 month ≡ b → cond b (in_range 1 (month_length ((year - 1970) * 12 + (month - 1))) day) false ≡ true → Real year month day
-    by true a d =
-        let y = and_left (in_range 1970 2106 year) (in_range 1 12 month) a in
-        let m = and_right (in_range 1970 2106 year) (in_range 1 12 month) a in
-        let k = (year - 1970) * 12 + (month - 1) in
-        let f = leb-true 1970 year (and_left (leb 1970 year) (leb year 2106) y) in
-        let g = leb-true 1 month (and_left (leb 1 month) (leb month 12) m) in
-        let h = leb-true month 12 (and_right (leb 1 month) (leb month 12) m) in
-        record {
-          first = f;
-          last = leb-true year 2106 (and_right (leb 1970 year) (leb year 2106) y);
-          january = g;
-          december = h;
-          some_day = leb-true 1 day (and_left (leb 1 day) (leb day (month_length k)) d);
-          in_month = omega (arith, leb-true day (month_length k) (and_right (leb 1 day) (leb day (month_length k)) d), real_month year month f g h, month_31 (leap year) (month - 1) (omega arith));
-        }
-    by false a d = let z : ◌≡◌ {A = ℕ} 0 1 = cc in absurd (omega arith)
-
--- a time of day
-pub timed_within : (hour minute second : ℕ) → leb hour 23 && leb minute 59 && leb second 59 ≡ true → (hour ≤ 23) × (minute ≤ 59) × (second ≤ 59)
-timed_within hour minute second e =
-    let f = and_left (leb hour 23 && leb minute 59) (leb second 59) e in
-    (leb-true hour 23 (and_left (leb hour 23) (leb minute 59) f), leb-true minute 59 (and_right (leb hour 23) (leb minute 59) f), leb-true second 59 (and_right (leb hour 23 && leb minute 59) (leb second 59) e))
-
--- a moment is a day and a time of day
-parted : (a b h m s : Bool) (o : Option ℕ) → cond a (cond (b && h && m && s) o none) none ≡ cond (cond a b false && (h && m && s)) o none
-parted true true h m s o = refl
-parted true false h m s o = refl
-parted false b h m s o = refl
-
-module _ (year month day hour minute second : ℕ) where
-  abbrev timed : Bool
-  timed = leb hour 23 && leb minute 59 && leb second 59
-
-  abbrev seconds_to : ℕ
-  seconds_to = (days_before ((year - 1970) * 12 + (month - 1)) + (day - 1)) * 86400 + hour * 3600 + minute * 60 + second
-
-  moment_parted : moment year month day hour minute second ≡ cond (real_day year month day && timed) (some seconds_to) none
-  moment_parted =
-      parted (in_range 1970 2106 year && in_range 1 12 month) (in_range 1 (month_length ((year - 1970) * 12 + (month - 1))) day) (leb hour 23) (leb minute 59) (leb second 59) (some seconds_to)
-
-  pub no_day : real_day year month day ≡ false → none ≡ moment year month day hour minute second
-  no_day e = sym (moment_parted ∙ rw e)
-
-  pub no_time : timed ≡ false → none ≡ moment year month day hour minute second
-  no_time e = sym (moment_parted ∙ rw (e, and-false (real_day year month day)))
-
-  pub real_moment : (d v : ℕ) → real_day year month day ≡ true → timed ≡ true → d ≡ days_before ((year - 1970) * 12 + (month - 1)) → v ≡ (d + (day - 1)) * 86400 + hour * 3600 + minute * 60 + second
-      → some v ≡ moment year month day hour minute second
-  real_moment d v e f p q = sym (moment_parted ∙ rw (e, f, q, p))
 
 -- the numbers of the first and of the last digits
 module _ (b : ℕ) where
@@ -205,44 +125,44 @@ module _ (ds : List ℕ) (h : Below 10 ds) (e : length ds ≡ 14) where
       same_moment a (day_digits 4 2 2 refl) b c (time_digits 2 2 2 refl) d
 
 -- digits that are read are as many as the octets, each below 10
-digit_small : (x d : ℕ) → digit_value 10 x ≡ some d → d < 10
+digit_small : (x d : ℕ) → digit_value 10 x ≡ Some d → d < 10
 digit_small x d e = by (digit x) (letter x) e
   where
-    in_base : (v : ℕ) → provided (ltb v 10) v ≡ some d → d < 10
+    in_base : (v : ℕ) → provided (ltb v 10) v ≡ Some d → d < 10
     in_base v k = let (f, g) = provided_some (ltb v 10) v d k in omega (arith, ltb-true v 10 f)
 
-    by : (a b : Bool) → cond a (provided (ltb (x - 48) 10) (x - 48)) (cond b (provided (ltb (lowered x - 97 + 10) 10) (lowered x - 97 + 10)) none) ≡ some d → d < 10
+    by : (a b : Bool) → cond a (provided (ltb (x - 48) 10) (x - 48)) (cond b (provided (ltb (lowered x - 97 + 10) 10) (lowered x - 97 + 10)) None) ≡ Some d → d < 10
     by true b k = in_base (x - 48) k
     by false true k = in_base (lowered x - 97 + 10) k
     by false false k = let z : ◌≡◌ {A = ℕ} 0 1 = cc in absurd (omega arith)
 
-digits_read : (xs ds : List ℕ) → each_of (digit_value 10) xs ≡ some ds → (length ds ≡ length xs) × Below 10 ds
+digits_read : (xs ds : List ℕ) → each_of (digit_value 10) xs ≡ Some ds → (length ds ≡ length xs) × Below 10 ds
 digits_read [] ds e = let q : [] ≡ ds = cc in rw (← q) (refl, tt)
 digits_read (x ∷ xs) ds e = by (digit_value 10 x) refl (each_of (digit_value 10) xs) refl e (digits_read xs)
   where
-    by : (o : Option ℕ) → digit_value 10 x ≡ o → (p : Option (List ℕ)) → each_of (digit_value 10) xs ≡ p → cons_both o p ≡ some ds
-        → ((es : List ℕ) → each_of (digit_value 10) xs ≡ some es → (length es ≡ length xs) × Below 10 es) → (length ds ≡ length (x ∷ xs)) × Below 10 ds
-    by none a p b k ih = let z : ◌≡◌ {A = ℕ} 0 1 = cc in absurd (omega arith)
-    by (some d) a none b k ih = let z : ◌≡◌ {A = ℕ} 0 1 = cc in absurd (omega arith)
-    by (some d) a (some es) b k ih = let q : d ∷ es ≡ ds = cc in let (l, m) = ih es b in rw (← q) (ap suc l, (digit_small x d a, m))
+    by : (o : Option ℕ) → digit_value 10 x ≡ o → (p : Option (List ℕ)) → each_of (digit_value 10) xs ≡ p → cons_both o p ≡ Some ds
+        → ((es : List ℕ) → each_of (digit_value 10) xs ≡ Some es → (length es ≡ length xs) × Below 10 es) → (length ds ≡ length (x ∷ xs)) × Below 10 ds
+    by None a p b k ih = let z : ◌≡◌ {A = ℕ} 0 1 = cc in absurd (omega arith)
+    by (Some d) a None b k ih = let z : ◌≡◌ {A = ℕ} 0 1 = cc in absurd (omega arith)
+    by (Some d) a (Some es) b k ih = let q : d ∷ es ≡ ds = cc in let (l, m) = ih es b in rw (← q) (ap suc l, (digit_small x d a, m))
 
 -- a partial function applied to each of two parts
-each_parts : (f : ℕ → Option ℕ) (xs ys : List ℕ) → each_of f (xs ++ ys) ≡ (each_of f xs >>= λ us. each_of f ys >>= λ vs. some (us ++ vs))
+each_parts : (f : ℕ → Option ℕ) (xs ys : List ℕ) → each_of f (xs ++ ys) ≡ (each_of f xs >>= λ us. each_of f ys >>= λ vs. Some (us ++ vs))
 each_parts f [] ys = by (each_of f ys)
   where
-    by : (o : Option (List ℕ)) → o ≡ (o >>= λ vs. some vs)
-    by none = refl
-    by (some vs) = refl
+    by : (o : Option (List ℕ)) → o ≡ (o >>= λ vs. Some vs)
+    by None = refl
+    by (Some vs) = refl
 each_parts f (x ∷ xs) ys = rw (each_parts f xs ys) (by (f x) (each_of f xs) (each_of f ys))
   where
-    by : (o : Option ℕ) (p q : Option (List ℕ)) → cons_both o (p >>= λ us. q >>= λ vs. some (us ++ vs)) ≡ (cons_both o p >>= λ us. q >>= λ vs. some (us ++ vs))
-    by none p q = refl
-    by (some y) none q = refl
-    by (some y) (some us) none = refl
-    by (some y) (some us) (some vs) = refl
+    by : (o : Option ℕ) (p q : Option (List ℕ)) → cons_both o (p >>= λ us. q >>= λ vs. Some (us ++ vs)) ≡ (cons_both o p >>= λ us. q >>= λ vs. Some (us ++ vs))
+    by None p q = refl
+    by (Some y) None q = refl
+    by (Some y) (Some us) None = refl
+    by (Some y) (Some us) (Some vs) = refl
 
 -- the moment of 14 digits, from the numbers of the first eight and of the others
-decimal_digits : (xs : List ℕ) → 1 ≤ length xs → length xs ≤ 10 → decimal_of xs ≡ (each_of (digit_value 10) xs >>= λ ds. some (number 10 ds))
+decimal_digits : (xs : List ℕ) → 1 ≤ length xs → length xs ≤ 10 → decimal_of xs ≡ (each_of (digit_value 10) xs >>= λ ds. Some (number 10 ds))
 decimal_digits xs h k = rw (le-leb 1 (length xs) h, le-leb (length xs) 10 k)
 
 abbrev moment_by : Option ℕ → Option ℕ → Option ℕ
@@ -254,57 +174,17 @@ both_parts xs ys h k =
     (by (each_of (digit_value 10) xs) refl (each_of (digit_value 10) ys) refl)
   where
     by : (o : Option (List ℕ)) → each_of (digit_value 10) xs ≡ o → (p : Option (List ℕ)) → each_of (digit_value 10) ys ≡ p
-        → ((o >>= λ us. p >>= λ vs. some (us ++ vs)) >>= moment_of) ≡ moment_by (o >>= λ ds. some (number 10 ds)) (p >>= λ ds. some (number 10 ds))
-    by none a p b = refl
-    by (some us) a none b = refl
-    by (some us) a (some vs) b =
+        → ((o >>= λ us. p >>= λ vs. Some (us ++ vs)) >>= moment_of) ≡ moment_by (o >>= λ ds. Some (number 10 ds)) (p >>= λ ds. Some (number 10 ds))
+    by None a p b = refl
+    by (Some us) a None b = refl
+    by (Some us) a (Some vs) b =
         let (l, f) = digits_read xs us a in
         let (m, g) = digits_read ys vs b in
         let q : length us ≡ 8 = l ∙ h in
         moment_digits_lem (us ++ vs) (below_append 10 us vs f g) (omega (arith, length-append us vs)) ∙ rw (take_at us vs 8 q, drop_at us vs 8 q)
 
-module _ (t : List ℕ) (i e : ℕ) (h : e ≡ i + 14) (l : e ≤ length t) where
-  two_parts : slice i e t ≡ slice i (i + 8) t ++ slice (i + 8) e t
-  two_parts =
-      let q : i + 8 - i ≡ 8 = omega arith in
-      sym (take-append-drop 8 (slice i e t))
-      ∙ ap (λ (xs : List ℕ). xs ++ drop 8 (slice i e t)) (within t i 8 e (omega arith) ∙ ap (λ (k : ℕ). take k (drop i t)) (sym q) ∙ lent t i (i + 8) (omega arith))
-      ∙ ap (λ (ys : List ℕ). slice i (i + 8) t ++ ys) (rest t i 8 e)
-
-  moment_read_lem : moment_read (slice i e t) ≡ moment_by (decimal_of (slice i (i + 8) t)) (decimal_of (slice (i + 8) e t))
-  moment_read_lem =
-      ap moment_read two_parts ∙
-      both_parts (slice i (i + 8) t) (slice (i + 8) e t) (omega (arith, length-slice i (i + 8) t (omega arith))) (omega (arith, length-slice (i + 8) e t l))
-
-  pub moment_fault : Fault ≡ number_of (decimal_of (slice i (i + 8) t)) → Fault ≡ number_of (moment_read (slice i e t))
-  moment_fault f = rw moment_read_lem (by (decimal_of (slice i (i + 8) t)) f)
-    where
-      by : (o : Option ℕ) → Fault ≡ number_of o → Fault ≡ number_of (moment_by o (decimal_of (slice (i + 8) e t)))
-      by none f = refl
-      by (some d) f = let z : ◌≡◌ {A = ℕ} 0 1 = cc in absurd (omega arith)
-
-  pub time_fault : Fault ≡ number_of (decimal_of (slice (i + 8) e t)) → Fault ≡ number_of (moment_read (slice i e t))
-  time_fault f = rw moment_read_lem (by (decimal_of (slice i (i + 8) t)) (decimal_of (slice (i + 8) e t)) f)
-    where
-      by : (o p : Option ℕ) → Fault ≡ number_of p → Fault ≡ number_of (moment_by o p)
-      by none p f = refl
-      by (some d) none f = refl
-      by (some d) (some s) f = let z : ◌≡◌ {A = ℕ} 0 1 = cc in absurd (omega arith)
-
-  pub moment_value : (d s : ℕ) → Value d ≡ number_of (decimal_of (slice i (i + 8) t)) → Value s ≡ number_of (decimal_of (slice (i + 8) e t)) → moment_from d s ≡ moment_read (slice i e t)
-  moment_value d s f g = rw moment_read_lem (by (decimal_of (slice i (i + 8) t)) (decimal_of (slice (i + 8) e t)) f g)
-    where
-      by : (o p : Option ℕ) → Value d ≡ number_of o → Value s ≡ number_of p → moment_from d s ≡ moment_by o p
-      by none p f g = let z : ◌≡◌ {A = ℕ} 0 1 = cc in absurd (omega arith)
-      by (some x) none f g = let z : ◌≡◌ {A = ℕ} 0 1 = cc in absurd (omega arith)
-      by (some x) (some y) f g = let q : x ≡ d = cc in let r : y ≡ s = cc in rw (q, r)
-
-  pub seconds_14 : moment_read (slice i e t) ≡ cond (eqb (length (slice i e t)) 14) (moment_read (slice i e t)) (decimal_of (slice i e t))
-  seconds_14 = rw (eq-eqb (length (slice i e t)) 14 (omega (arith, length-slice i e t l)))
-
-pub seconds_other : (t : List ℕ) (i e : ℕ) → e ≤ length t → (e - i ≡ 14 → ⊥) → decimal_of (slice i e t) ≡ cond (eqb (length (slice i e t)) 14) (moment_read (slice i e t)) (decimal_of (slice i e t))
-seconds_other t i e l h = rw (ne_eqb (length (slice i e t)) 14 (λ q. h (omega (arith, length-slice i e t l))))
-
--- the seconds in four octets
-pub time_octets : (t : List ℕ) (v : Number) → v ≡ number_of (seconds_read t) → octets_of 4 v ≡ read_time t
-time_octets t v q = rw q (octets_of_lem 4 (seconds_read t))
+-- those are the parts of the text
+pub moment_parts : (t : List ℕ) → length t ≡ 14 → moment_read t ≡ moment_by (decimal_of (take 8 t)) (decimal_of (drop 8 t))
+moment_parts t h =
+    ap moment_read (sym (take-append-drop 8 t))
+    ∙ both_parts (take 8 t) (drop 8 t) (omega (arith, length-take 8 t)) (omega (arith, length-drop 8 t))

@@ -1,6 +1,6 @@
 -- Moments that are read from text.
 use Rattle.std.specs.Prelude.{ℕ, ◌+◌, ◌*◌, ◌-◌, ◌^◌, Bool, false, cond, ◌&&◌, List, eqb, length}
-use Rattle.std.proofs.Math.Option.{Option}
+use Rattle.std.specs.Prelude.{Option}
 use Rattle.format.specs.Lists.{◌>>=◌, each_of}
 use Rattle.format.specs.Octets.{in_range}
 use Rattle.format.specs.Digits.{digit_value}

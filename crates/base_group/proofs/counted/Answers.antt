@@ -1,36 +1,27 @@
-use Rattle.buffer.proofs.Values.{count_is, too_short, too_long, counted_value}
-use Rattle.base_group.specs.Group.{octets_by, letters}
-use lib.Seq.{slice}
-use native.Mathlib.Omega.{arith}
+use Rattle.std.proofs.Common.{ℕ, ◌≡◌, sym, Result, Ok, Err, None, Some, arith}
+use Rattle.std.specs.Result.{OkIff, result_ok}
+use Rattle.buffer.proofs.Values.{too_short, too_long, counted_value}
 use Rattle.base_group.proofs.counted.Goals as goal
 
-pub overflow_sub-count : goal.overflow_sub-count
-overflow_sub-count c =
-    omega (
-      arith,
-      count_is 1 c.args.out.now c.lettered-v.new.out c.args.at c.in-Upto.m
-          (octets_by letters 100 c.args.w c.args.base (slice c.args.i c.args.e c.args.t.now))
-          (rw c.in-Upto.is at c.lettered-v.ensures),
-    )
+fits : {E : Type 0} (r : Result ℕ E) (P : Type 0) (v c : ℕ) → OkIff r P v → Some c ≡ result_ok r → P × (c ≡ v)
+fits (Ok x) P v c (p, e) q = (p, cc)
+fits (Err e) P v c h q = cc
 
-pub returns-then-count-lt1 : goal.returns-then-count-lt1
-returns-then-count-lt1 c =
-    too_short 1 c.args.out.now c.lettered-v.new.out c.args.at c.in-Upto.m
-    (octets_by letters 100 c.args.w c.args.base (slice c.args.i c.args.e c.args.t.now))
-    (rw c.in-Upto.is at c.lettered-v.ensures) c.if-count-lt1.true
+large : {E : Type 0} (r : Result ℕ E) (P : Type 0) (v : ℕ) → OkIff r P v → result_ok r ≡ None → P → ⊥
+large (Ok x) P v h q = cc
+large (Err e) P v h q = h
 
-pub returns-then-count-gt255 : goal.returns-then-count-gt255
-returns-then-count-gt255 c =
-    too_long 1 c.args.out.now c.lettered-v.new.out c.args.at c.in-Upto.m
-    (octets_by letters 100 c.args.w c.args.base (slice c.args.i c.args.e c.args.t.now))
-    (rw c.in-Upto.is at c.lettered-v.ensures) c.if-count-lt1.false c.if-count-gt255.true
+pub returns : goal.returns
+returns g c =
+    let f = fits c.try_from.result _ _ c.in_ok-count.count c.try_from.ensures c.in_ok-count.ensures.value in
+    counted_value 1 _ _ c.args.at c.in_ok-m.m _ c.in_ok-m.ensures _ (omega (arith, f)) (omega (arith, f)) (rw f.1 at c.put.ensures)
 
-pub returns-in-Fault : goal.returns-in-Fault
-returns-in-Fault c =
-    rw (rw c.in-Fault.is at c.lettered-v.ensures)
+pub returns-then-count-eq0 : goal.returns-then-count-eq0
+returns-then-count-eq0 g c =
+    let f = fits c.try_from.result _ _ c.in_ok-count.count c.try_from.ensures c.in_ok-count.ensures.value in
+    too_short 1 _ _ c.args.at c.in_ok-m.m _ c.in_ok-m.ensures (omega (arith, f))
 
-pub returns-else-count-gt255 : goal.returns-else-count-gt255
-returns-else-count-gt255 c =
-    counted_value 1 c.args.out.now c.lettered-v.new.out c.args.at c.in-Upto.m
-    (octets_by letters 100 c.args.w c.args.base (slice c.args.i c.args.e c.args.t.now))
-    (rw c.in-Upto.is at c.lettered-v.ensures) _ c.if-count-lt1.false c.if-count-gt255.false c.put.ensures
+pub returns-in_err-count : goal.returns-in_err-count
+returns-in_err-count g c =
+    let f = large c.try_from.result _ _ c.try_from.ensures (sym c.in_err-count.ensures.value) in
+    rw c.from_residual-in_err-count.ensures (too_long 1 _ _ c.args.at c.in_ok-m.m _ c.in_ok-m.ensures (omega (arith, f)) (omega (arith, f)))

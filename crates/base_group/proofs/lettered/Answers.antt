@@ -3,5 +3,4 @@ use Rattle.base_group.proofs.lettered.Goals as goal
 
 pub returns : goal.returns
 unfolding letters
-returns c =
-    c.octets.ensures
+returns g c = c.octets.ensures

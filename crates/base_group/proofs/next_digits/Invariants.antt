@@ -1,10 +1,7 @@
-use Rattle.base_group.proofs.GroupDigits.{Taking}
-use Prim.Native.Nat.{ℕ, ◌+◌, ◌-◌, ◌≤◌}
+use Rattle.std.proofs.Common.{◌^◌}
+use Rattle.base_group.specs.Group.{Taken}
 use Rattle.base_group.proofs.next_digits.Given as goal
 
--- The q octets from i on are digits, and make v.
-abbrev pub invariant-loop-q : goal.invariant-loop-q
-invariant-loop-q l = (l.q ≤ l.k) × ((skip : ℕ) → l.base ≤ skip → Taking l.alphabet skip l.base l.t (l.i + l.q) l.i l.q l.v (l.i + l.q))
-
-abbrev pub decreases-loop-q : goal.decreases-loop-q
-decreases-loop-q l = l.k - l.q
+-- The octets so far are digits, and make v.
+abbrev pub invariant-loop-j : goal.invariant-loop-j
+invariant-loop-j g l = Taken l.alphabet.numbers.now l.alphabet.skip (2 ^ g.row.W) l.t l.j l.j l.v

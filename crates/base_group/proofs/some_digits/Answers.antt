@@ -1,49 +1,31 @@
-use Rattle.base_group.proofs.GroupDigits.{taking_none, taking_room, taking_next, taken}
-use mathlib.Core.Path.{subst}
-use Prim.Native.Nat.{◌≤◌, ◌-◌}
-use native.Mathlib.Omega.{arith}
-use borrow.Author.Rules.{rules}
+use Rattle.std.proofs.Common.{sym, ◌∙◌, arith}
+use borrow.Author.Tests.{eq-eqb, ne_eqb}
+use Rattle.base_group.proofs.GroupDigits.{taken_none, taken_left, taken_next, taken_room}
+use Rattle.base_group.proofs.some_digits.Goals.{then-x-alphabet+else-count+else-base-x, else-x-alphabet}
 use Rattle.base_group.proofs.some_digits.Goals as goal
 
-pub loop-q-init : goal.loop-q-init
-loop-q-init c =
-    (search rules, taking_none _ _ c.args.base _ _ c.requires.1 _ _ c.requires.0 c.kept_from-j.ensures)
+pub loop-taken-init : goal.loop-taken-init
+loop-taken-init g c = record { digits = taken_none _ _ _ _; few = omega arith }
 
-pub returns-then-e-j : goal.returns-then-e-j
-returns-then-e-j c =
-    taken _ _ _ _ _ c.requires.1 _ _ _ _ _ c.loop-q.invariant.1 c.loop-q.invariant.0 (λ m n. omega arith)
+pub overflow_mul-number : goal.overflow_mul-number
+overflow_mul-number g c = record { fits = omega (arith, taken_room _ _ _ _ _ _ _ _ c.loop-taken.invariant.digits c.power-base.ensures (omega arith) (omega arith)) }
 
-pub bounds-t-j : goal.bounds-t-j
-bounds-t-j c = omega arith
+pub overflow_add-number : goal.overflow_add-number
+overflow_add-number g c = record { fits = omega (arith, taken_room _ _ _ _ _ _ _ _ c.loop-taken.invariant.digits c.power-base.ensures (omega arith) (omega arith)) }
 
-pub returns-then-base-x : goal.returns-then-base-x
-returns-then-base-x c =
-    taken _ _ _ _ _ c.requires.1 _ _ _ _ _ c.loop-q.invariant.1 c.loop-q.invariant.0
-    (λ m n. subst (λ z. c.args.base ≤ z) c.number_of-x.ensures c.if-base-x.true)
-
-pub overflow_mul-v : goal.overflow_mul-v
-overflow_mul-v c =
-    omega (
-      arith,
-      taking_room c.args.alphabet.now c.args.skip c.args.base c.args.t.now c.args.e c.requires.1 _ _ _ _
-          c.loop-q.invariant.1 c.requires.2 (omega arith),
-    )
-
-pub overflow_add-v : goal.overflow_add-v
-overflow_add-v c =
-    omega (
-      arith,
-      taking_room c.args.alphabet.now c.args.skip c.args.base c.args.t.now c.args.e c.requires.1 _ _ _ _
-          c.loop-q.invariant.1 c.requires.2 (omega arith),
-    )
-
-pub loop-q-preserved : goal.loop-q-preserved
-loop-q-preserved c = (
-  search rules,
-  taking_next _ _ _ _ _ c.requires.1 _ _ _ _ _ _ c.loop-q.invariant.1 c.if-e-j.false c.number_of-x.ensures c.if-base-x.false
-      c.kept_from-j-in-loop-q.ensures,
-)
-
-pub returns : goal.returns
-returns c =
-    taken _ _ _ _ _ c.requires.1 _ _ _ _ _ c.loop-q.invariant.1 c.loop-q.invariant.0 (λ m n. omega arith)
+pub loop-taken-preserved : goal.loop-taken-preserved
+loop-taken-preserved g c =
+    elim c.if-x-alphabet.branch [
+      | then-x-alphabet+else-count+else-base-x w ↦ record {
+        digits = rw (w.count-is, w.number-is)
+            (taken_next _ _ _ _ _ _ _ _ _ c.loop-taken.invariant.digits (omega arith)
+            (ne_eqb _ _ (λ z. w.if-x-alphabet.true (c.number_of-x.ensures ∙ z))) c.number_of-x.ensures c.power-base.ensures w.if-base-x.false);
+        few = omega arith;
+      }
+      | else-x-alphabet w ↦ record {
+        digits = rw (w.count-is, w.number-is)
+            (taken_left _ _ _ _ _ _ _ c.loop-taken.invariant.digits (omega arith)
+            (eq-eqb _ _ (sym c.number_of-x.ensures ∙ w.if-x-alphabet.false)));
+        few = omega arith;
+      }
+    ]

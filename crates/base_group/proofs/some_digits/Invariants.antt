@@ -1,10 +1,10 @@
-use Rattle.base_group.proofs.GroupDigits.{Taking}
-use Prim.Native.Nat.{◌≤◌, ◌-◌}
+use Rattle.std.proofs.Common.{◌^◌, ◌≤◌}
+use Rattle.base_group.specs.Group.{Taken}
 use Rattle.base_group.proofs.some_digits.Given as goal
 
--- From i to j there are q digits, which make v; the octet at j, if there is one, is not left out.
-abbrev pub invariant-loop-q : goal.invariant-loop-q
-invariant-loop-q l = (l.q ≤ l.k) × Taking l.alphabet l.skip l.base l.t l.e l.i l.q l.v l.j
-
-abbrev pub decreases-loop-q : goal.decreases-loop-q
-decreases-loop-q l = l.k - l.q
+-- The octets so far hold `count` digits, which make `number`.
+abbrev pub invariant-loop-taken : goal.invariant-loop-taken
+invariant-loop-taken g l = record {
+  digits : Taken l.alphabet.numbers.now l.alphabet.skip (2 ^ g.row.W) l.t l.taken l.count l.number;
+  few : l.count ≤ g.row.K;
+}

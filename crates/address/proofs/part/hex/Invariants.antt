@@ -1,12 +1,7 @@
-use Prim.Native.Nat.{◌-◌, ◌^◌, ◌≤◌, ◌<◌}
-use mathlib.Core.Path.{◌≡◌}
-use lib.Seq.{slice}
+use Rattle.std.proofs.Common.{◌≡◌, ◌<◌, ◌^◌, drop}
 use Rattle.address.proofs.Numbers.{hex_from}
 use Rattle.address.proofs.part.hex.Given as goal
 
--- The digits before j make v; going on with the octets from j to e gives the number of the whole part, or none.
-abbrev pub invariant-loop-j : goal.invariant-loop-j
-invariant-loop-j l = (l.i ≤ l.j) × (l.j ≤ l.e) × (l.v < 16 ^ (l.j - l.i)) × (hex_from l.v (slice l.j l.e l.t) ≡ hex_from 0 (slice l.i l.e l.t))
-
-abbrev pub decreases-loop-j : goal.decreases-loop-j
-decreases-loop-j l = l.e - l.j
+-- The value so far has a digit for each octet, and goes on to that of the whole.
+abbrev pub invariant-loop-b : goal.invariant-loop-b
+invariant-loop-b l = (l.v < 16 ^ l.b-index) × (hex_from l.v (drop l.b-index l.t) ≡ hex_from 0 l.t)

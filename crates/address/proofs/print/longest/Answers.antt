@@ -1,34 +1,36 @@
-use Prim.Native.Nat.{◌+◌, ◌*◌, ◌-◌, ◌≤◌}
-use mathlib.Core.Path.{◌≡◌, sym, ap, ◌∙◌}
-use lib.Seq.{slice}
-use Rattle.format.specs.Address.{groups, zeros_at}
-use Rattle.address.proofs.ZeroRuns.{even_before, no_zeros, run_none, first_group, run_next}
+use Prim.Native.Nat.{◌+◌, ◌-◌, ◌*◌, ◌≤◌}
+use mathlib.Core.Path.{◌≡◌, refl, ◌∙◌}
+use mathlib.Core.List.{◌∷◌}
 use native.Mathlib.Omega.{arith}
-use borrow.Author.Rules.{rules}
+use lib.ListN.{drop}
+use Rattle.format.specs.Address.{groups, zeros_at}
+use Rattle.octets.proofs.Slices.{lent_rest}
+use Rattle.address.proofs.ZeroRuns.{no_group, group_at, zero_before, other_before, run_none, run_next}
 use Rattle.address.proofs.print.longest.Goals as goal
+use Rattle.address.proofs.print.longest.Goals.{then-two-eq0, else-two-eq0}
 
-pub loop-j-init : goal.loop-j-init
-loop-j-init c =
-    (search rules, search rules, search rules, search rules, sym (no_zeros c.args.p.now c.args.e), run_none _ _)
+pub loop-k-init : goal.loop-k-init
+loop-k-init c = rw (no_group c.args.p.now c.requires) (omega arith, omega arith, refl, run_none)
 
-pub loop-j-preserved : goal.loop-j-preserved
-loop-j-preserved c =
-    let p = c.args.p.now in
-    let e = c.args.e in
-    let k = c.loop-j.j in
-    let n : k ≡ k - 2 + 2 = omega arith in
-    let v : k - 2 + 2 * c.zeros-z.result ≤ e = omega (arith, c.zeros-z.ensures.1) in
-    let w = c.zeros-z.ensures.0 (groups (slice k e p)) c.loop-j.invariant.4 in
-    let q = first_group p (k - 2) k c.two.result n c.two.ensures.0 e (search rules) (search rules) in (
-      search rules,
-      search rules,
-      even_before _ k c.loop-j-test.true c.loop-j.invariant.2,
-      v,
-      w ∙ sym (ap zeros_at q),
-      run_next p (k - 2) k c.two.result n c.two.ensures.0 e c.zeros-z.result _ _ (search rules) (search rules) w v
-          c.loop-j.invariant.5 _ _ c.longer-run.ensures.0 c.longer-run.ensures.1,
-    )
+pub loop-k-preserved : goal.loop-k-preserved
+loop-k-preserved c =
+    let k = c.loop-k.k in
+    let j = c.loop-k.k - 1 in
+    let gs = groups c.args.p.now in
+    let n : k ≡ j + 1 = omega arith in
+    let v = rw (lent_rest c.args.p.now (2 * j)) at c.two.ensures.value in
+    let e = rw (← v) at (group_at j k c.args.p.now n (omega arith)) in
+    let w : (c.if-two-eq0.z + j ≤ 8) × (c.if-two-eq0.z ≡ zeros_at (c.two.result ∷ drop k gs)) =
+    elim c.if-two-eq0.branch [
+      | then-two-eq0 w ↦ (omega arith, w.z-is ∙ zero_before c.two.result c.loop-k.z (drop k gs) w.if-two-eq0.true c.loop-k.invariant.2)
+      | else-two-eq0 w ↦ (omega arith, w.z-is ∙ other_before c.two.result (drop k gs) w.if-two-eq0.false)
+    ] in
+    let r = run_next c.two.result c.if-two-eq0.z (drop k gs) c.loop-k.run.count w.1 j k c.loop-k.run.at n c.loop-k.invariant.0 c.loop-k.invariant.3
+    _ _ c.longer-run.ensures.place c.longer-run.ensures.count in
+    rw e (r.0, w.0, w.1, r.1)
 
 pub returns : goal.returns
 returns c =
-    let q : c.loop-j.j ≡ c.args.i = omega arith in rw q at c.loop-j.invariant.5
+    let e : c.loop-k.k ≡ 0 = omega arith in
+    let m : c.loop-k.run.at - 0 ≡ c.loop-k.run.at = omega arith in
+    rw (e, m) at c.loop-k.invariant.3

@@ -1,17 +1,20 @@
+use Rattle.std.proofs.Common.{◌≡◌, ◌*◌, ◌/◌, ◌-◌, take, drop, [], length, refl, arith, length-take, length-drop}
+use Rattle.std.proofs.lemmas.List.{take_rest}
 use Rattle.format.specs.Digits.{upper_digit}
-use Rattle.base.proofs.Texts.{grouped32, placed, all_wrote}
-use native.Mathlib.Omega.{arith}
-use borrow.Author.Rules.{rules}
+use Rattle.base.proofs.Texts.{grouped32, pieces_front, placed, all_wrote}
 use Rattle.base.proofs.print.base32.Goals as goal
 
 pub rest-requires : goal.rest-requires
 rest-requires c =
-    let a = c.args in
-    let q = placed 5 5 _ a.p.now grouped32 _ a.i c.fitting-c.result (omega arith) c.groups-m.ensures in
-    (search rules, omega arith, omega arith, search rules, search rules, λ f. omega arith)
+    let e = pieces_front 5 (length c.args.p.now / 5) c.fitting-c.result c.args.p.now _ c.as_chunks.ensures.front (omega arith) in
+    let v = rw e at c.groups-m.ensures in
+    let q = placed 5 5 32 [] grouped32 _ (take (5 * c.fitting-c.result) c.args.p.now) c.fitting-c.result (omega (arith, length-take (5 * c.fitting-c.result) c.args.p.now)) v in
+    let l : length (take (length c.args.p.now - 5 * c.fitting-c.result) (drop (5 * c.fitting-c.result) c.args.p.now)) ≡ length c.args.p.now - 5 * c.fitting-c.result = rw (take_rest c.args.p.now (5 * c.fitting-c.result)) (length-drop (5 * c.fitting-c.result) c.args.p.now) in
+    (omega arith, (grouped32, (omega arith, (omega arith, λ f. omega arith))))
 
 pub returns : goal.returns
 returns c =
-    let a = c.args in
-    all_wrote 5 5 upper_digit a.p.now grouped32 a.i a.e c.fitting-c.result (omega arith) (omega arith) c.groups-m.ensures
-    c.rest.ensures
+    let e = pieces_front 5 (length c.args.p.now / 5) c.fitting-c.result c.args.p.now _ c.as_chunks.ensures.front (omega arith) in
+    let v = rw e at c.groups-m.ensures in
+    all_wrote 5 5 32 upper_digit c.args.p.now grouped32 refl c.fitting-c.result (omega arith) v
+    (rw (take_rest c.args.p.now (5 * c.fitting-c.result)) at c.rest.ensures)

@@ -1,32 +1,21 @@
-use Rattle.base.proofs.Base64Rest.{pads_all, pads_one, pads_other, pads_short, pads_more, pads_none}
+use Rattle.std.proofs.Common.{sym, ◌∙◌, arith}
 use Rattle.base_group.specs.Group.{left_out}
+use Rattle.base.proofs.Base64Rest.{pads_left, pads_one, pads_other, pads_more}
+use Rattle.base.proofs.read.padded.Goals.{then-q-eq0-via-then-q-eq0, then-q-eq0-via-else-q-eq0+then-b-ne61, then-not-leaves_out+else-q-eq0+else-b-ne61, else-not-leaves_out}
 use Rattle.base.proofs.read.padded.Goals as goal
 
-pub loop-q-init : goal.loop-q-init
-loop-q-init c =
-    pads_all (left_out c.args.alphabet.now c.args.skip) _ _ c.requires.1 _ _ _ c.requires.0 c.kept_from-j.ensures
+pub returns-then-q-eq0 : goal.returns-then-q-eq0
+returns-then-q-eq0 c =
+    let f = left_out c.args.alphabet.numbers.now c.args.alphabet.skip in
+    elim c.then-q-eq0.branch [
+      | then-q-eq0-via-then-q-eq0 w ↦ pads_more f c.args.t.now c.loop-b.b-index (omega arith) c.loop-b.q (sym c.leaves_out.ensures ∙ c.if-not-leaves_out.true) w.if-q-eq0.true ∙ c.loop-b.invariant
+      | then-q-eq0-via-else-q-eq0+then-b-ne61 w ↦ pads_other f c.args.t.now c.loop-b.b-index (omega arith) c.loop-b.q (sym c.leaves_out.ensures ∙ c.if-not-leaves_out.true) w.if-b-ne61.true ∙ c.loop-b.invariant
+    ]
 
-pub returns-then-e-j : goal.returns-then-e-j
-returns-then-e-j c =
-    pads_short (left_out c.args.alphabet.now c.args.skip) _ _ c.requires.1 _ c.args.k _ _ c.loop-q.invariant c.if-e-j.true
-    c.loop-q-test.true
-
-pub returns-then-t-j-ne61 : goal.returns-then-t-j-ne61
-returns-then-t-j-ne61 c =
-    pads_other (left_out c.args.alphabet.now c.args.skip) _ _ c.requires.1 _ c.args.k _ _ c.loop-q.invariant c.if-e-j.false
-    c.if-t-j-ne61.true
-
-pub loop-q-preserved : goal.loop-q-preserved
-loop-q-preserved c =
-    pads_one (left_out c.args.alphabet.now c.args.skip) _ _ c.requires.1 _ c.args.k _ _ c.loop-q.invariant _ c.if-e-j.false
-    c.if-t-j-ne61.false c.loop-q-test.true c.kept_from-j-in-loop-q.ensures
-
-pub returns-then-j-e : goal.returns-then-j-e
-returns-then-j-e c =
-    pads_more (left_out c.args.alphabet.now c.args.skip) _ _ c.requires.1 _ c.args.k _ _ c.loop-q.invariant c.if-j-e.true
-    c.loop-q-test.false
-
-pub returns : goal.returns
-returns c =
-    pads_none (left_out c.args.alphabet.now c.args.skip) _ _ c.requires.1 _ c.args.k _ _ c.loop-q.invariant c.if-j-e.false
-    c.loop-q-test.false
+pub loop-b-preserved : goal.loop-b-preserved
+loop-b-preserved c =
+    let f = left_out c.args.alphabet.numbers.now c.args.alphabet.skip in
+    elim c.if-not-leaves_out.branch [
+      | then-not-leaves_out+else-q-eq0+else-b-ne61 w ↦ rw w.q-is (pads_one f c.args.t.now c.loop-b.b-index (omega arith) c.loop-b.q (sym c.leaves_out.ensures ∙ w.if-not-leaves_out.true) w.if-b-ne61.false w.if-q-eq0.false ∙ c.loop-b.invariant)
+      | else-not-leaves_out w ↦ rw w.q-is (pads_left f c.args.t.now c.loop-b.b-index (omega arith) c.loop-b.q (sym c.leaves_out.ensures ∙ w.if-not-leaves_out.false) ∙ c.loop-b.invariant)
+    ]

@@ -1,27 +1,24 @@
-use Rattle.octets.proofs.Slices.{front_within}
+use Rattle.std.proofs.Common.{arith}
+use Rattle.std.proofs.lemmas.List.{take_rest}
 use Rattle.format.specs.Octets.{blank}
-use Rattle.catalogue.specs.Entries.{names_of}
+use Rattle.octets.proofs.Slices.{span_length}
+use Rattle.catalogue.specs.Known.{names_in}
 use Rattle.catalogue.proofs.Laws.{listed_sound}
-use lib.ListN.{length}
 use Rattle.bitmap.proofs.Plain.{plain_types, plain_within}
-use native.Mathlib.Omega.{arith}
 use Rattle.bitmap.proofs.read.next_type.Goals as goal
 
-pub plain_type-r-requires : goal.plain_type-r-requires
-plain_type-r-requires c =
-    omega (
-      arith,
-      c.skip-a.ensures,
-      front_within blank c.args.t.now c.args.i (length c.args.t.now) (omega arith) (omega arith),
-    )
+pub slice_bounds-plain_type-count : goal.slice_bounds-plain_type-count
+slice_bounds-plain_type-count c = omega (arith, c.skip-a.ensures, span_length blank c.args.t.now)
 
-pub returns-in-Found : goal.returns-in-Found
-returns-in-Found c =
-    let t = c.args.t.now in
-    let n = names_of c.args.names.now c.args.types.now in
-    let v = c.in-Found.v in
-    let e = c.in-Found.e in
-    let p = rw c.in-Found.is at c.plain_type-r.ensures in (
-      plain_types n (listed_sound c.args.names.now c.args.types.now c.requires.2) t c.args.i c.skip-a.result e v c.requires.0 c.skip-a.ensures p.0 p.1 p.2 p.3,
-      plain_within n (listed_sound c.args.names.now c.args.types.now c.requires.2) t c.args.i c.skip-a.result e v c.requires.0 c.skip-a.ensures p.0 p.1 p.2 p.3,
-    )
+pub slice_bounds-plain_type-start : goal.slice_bounds-plain_type-start
+slice_bounds-plain_type-start c = omega (arith, c.skip-a.ensures, span_length blank c.args.t.now)
+
+pub returns-in-Some-clause-types : goal.returns-in-Some-clause-types
+returns-in-Some-clause-types c =
+    let k = c.args.c.now in
+    plain_types (names_in k) (listed_sound k.names.now k.types.now k.listed) c.args.t.now c.skip-a.result _ _ c.skip-a.ensures (rw (take_rest c.args.t.now c.skip-a.result) at c.in-Some.ensures)
+
+pub returns-in-Some-clause-within : goal.returns-in-Some-clause-within
+returns-in-Some-clause-within c =
+    let k = c.args.c.now in
+    plain_within (names_in k) (listed_sound k.names.now k.types.now k.listed) c.args.t.now c.skip-a.result _ _ c.skip-a.ensures (rw (take_rest c.args.t.now c.skip-a.result) at c.in-Some.ensures)

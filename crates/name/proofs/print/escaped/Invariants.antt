@@ -1,14 +1,9 @@
-use Prim.Native.Nat.{◌-◌, ◌≤◌}
-use lib.Seq.{slice}
-use Rattle.format.specs.Name.{name_escape}
+use Rattle.std.proofs.Common.{drop}
 use Rattle.format.specs.Lists.{flat_map}
+use Rattle.format.specs.Name.{name_escape}
 use Rattle.buffer.proofs.Laws.{Left}
 use Rattle.name.proofs.print.escaped.Given as goal
 
--- Up to j the octets are escaped and written; writing the rest from m on would give the whole text.
-abbrev pub invariant-loop-j : goal.invariant-loop-j
-invariant-loop-j l =
-    (l.i ≤ l.j) × (l.j ≤ l.e) × Left l.initial.out l.at (flat_map name_escape (slice l.i l.e l.p)) l.out l.m (flat_map name_escape (slice l.j l.e l.p))
-
-abbrev pub decreases-loop-j : goal.decreases-loop-j
-decreases-loop-j l = l.e - l.j
+-- The octets so far are escaped and written; writing the others from m on would give the whole text.
+abbrev pub invariant-loop-b : goal.invariant-loop-b
+invariant-loop-b l = Left l.initial.out l.at (flat_map name_escape l.p) l.out l.m (flat_map name_escape (drop l.b-index l.p))

@@ -1,54 +1,29 @@
-use Prim.Native.Nat.{◌+◌, ◌-◌}
-use mathlib.Core.Path.{refl, sym, ap, ◌∙◌}
+use Prim.Native.Nat.{◌-◌, ◌≤◌}
+use mathlib.Core.Path.{◌≡◌, sym, ap, ◌∙◌}
 use lib.ListN.{get_or}
-use lib.Seq.{slice}
-use Rattle.octets.proofs.Numbers.{value_from, digit_on, digit_more, digits_fit, nothing_yet}
+use Rattle.octets.proofs.Numbers.{value_from, digit_on, one_more_digit}
 use Rattle.octets.proofs.Slices.{next}
 use Rattle.rrtype.proofs.Types.{digits_ended}
 use native.Mathlib.Omega.{arith}
 use borrow.Author.Rules.{rules}
 use Rattle.rrtype.proofs.read.five_digits.Goals as goal
 
-pub loop-j-init : goal.loop-j-init
-loop-j-init c = (search rules, search rules, nothing_yet c.args.i, λ e h l. refl)
+pub returns-then-not-is_ascii_digit-clause-value : goal.returns-then-not-is_ascii_digit-clause-value
+returns-then-not-is_ascii_digit-clause-value c =
+    digits_ended c.args.t.now c.loop-n.n c.loop-n.v (search rules) (search rules) c.loop-n.invariant.so_far
 
-pub returns-then-b-lt48 : goal.returns-then-b-lt48
-returns-then-b-lt48 c = (
-  search rules,
-  search rules,
-  digits_ended c.args.t.now c.args.i c.loop-j.j c.loop-j.v (omega arith) (omega arith) c.loop-j.invariant.3,
-)
+pub loop-n-preserved : goal.loop-n-preserved
+loop-n-preserved c =
+    let l : 48 ≤ get_or c.args.t.now c.loop-n.n 0 = search rules in
+    let h : get_or c.args.t.now c.loop-n.n 0 ≤ 57 = search rules in
+    let d : c.from.result ≡ get_or c.args.t.now c.loop-n.n 0 - 48 = search rules in record {
+      small = one_more_digit c.loop-n.v c.loop-n.n _ c.loop-n.invariant.small (omega (arith, d));
+      so_far =
+          λ e k m. rw d
+          (sym (digit_on c.loop-n.v _ _ l h) ∙ ap (value_from c.loop-n.v) (sym (next c.args.t.now c.loop-n.n e (omega arith) m)) ∙ c.loop-n.invariant.so_far e (omega arith) m);
+    }
 
-pub returns-then-b-gt57 : goal.returns-then-b-gt57
-returns-then-b-gt57 c = (
-  search rules,
-  search rules,
-  digits_ended c.args.t.now c.args.i c.loop-j.j c.loop-j.v (omega arith) (omega arith) c.loop-j.invariant.3,
-)
-
-pub overflow_mul-v : goal.overflow_mul-v
-overflow_mul-v c =
-    omega (arith, digits_fit c.loop-j.v (c.loop-j.j - c.args.i) (omega arith) c.loop-j.invariant.2)
-
-pub overflow_add-v : goal.overflow_add-v
-overflow_add-v c =
-    omega (arith, digits_fit c.loop-j.v (c.loop-j.j - c.args.i) (omega arith) c.loop-j.invariant.2)
-
-pub loop-j-preserved : goal.loop-j-preserved
-loop-j-preserved c = (
-  search rules,
-  search rules,
-  digit_more _ _ _ _ c.loop-j.invariant.0 c.loop-j.invariant.2 (omega arith),
-  λ e h l. sym
-      (digit_on c.loop-j.v (get_or c.args.t.now c.loop-j.j 0) (slice (c.loop-j.j + 1) e c.args.t.now)
-      c.if-b-lt48.false c.if-b-gt57.false) ∙ ap (value_from c.loop-j.v)
-      (sym (next c.args.t.now c.loop-j.j e (omega arith) l)) ∙ c.loop-j.invariant.3 e (omega arith) l,
-)
-
-pub returns : goal.returns
-returns c = (
-  search rules,
-  search rules,
-  digits_ended c.args.t.now c.args.i c.loop-j.j c.loop-j.v (omega arith) (omega arith)
-      c.loop-j.invariant.3,
-)
+pub returns-clause-value : goal.returns-clause-value
+returns-clause-value c =
+    let e : c.loop-n.n ≡ 5 = search rules in
+    digits_ended c.args.t.now 5 c.loop-n.v (search rules) (omega arith) (rw e at c.loop-n.invariant.so_far)

@@ -1,12 +1,8 @@
-use mathlib.Core.Path.{sym, ◌∙◌}
 use Rattle.rrtype.proofs.Types.{type_front}
 use native.Mathlib.Omega.{arith}
 use Rattle.rrtype.proofs.read.plain_front.Goals as goal
 
-pub returns-then-named_type : goal.returns-then-named_type
-returns-then-named_type c = (
-  type_front c.args.t.now c.args.i c.five_digits-d.result.end c.five_digits-d.result.value (omega arith)
-      (sym c.named_type.ensures ∙ c.if-named_type.true) (c.five_digits-d.ensures.2 (omega arith)) (omega arith),
-  omega arith,
-  omega arith,
-)
+pub returns-clause-value : goal.returns-clause-value
+returns-clause-value c =
+    type_front c.args.t.now c.in_ok-after_type.field-0.now _ _ c.in_ok-after_type.ensures.word c.in_ok-after_type.ensures.rest
+    (c.five_digits-v.ensures.value (omega arith)) (omega arith)

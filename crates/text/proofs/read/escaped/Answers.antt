@@ -1,82 +1,41 @@
-use Prim.Native.Nat.{◌+◌, ◌-◌}
-use Rattle.text.proofs.Texts.{run_within, run_value, run_stops, quoted_none, escape_fault, escape_octet, ends_within}
-use Rattle.buffer.proofs.Values.{begun_none, begun_piece, begun_fault, begun_all}
-use Rattle.buffer.proofs.Laws.{wrote_one, wrote_length}
-use native.Mathlib.Omega.{arith}
-use borrow.Author.Rules.{rules}
+use Rattle.std.proofs.Common.{◌≡◌, ◌+◌, ◌≤◌, ap, ◌∙◌, arith, length, take, drop, length-drop}
+use Rattle.std.proofs.lemmas.List.{drop-drop}
+use Rattle.format.specs.Token.{quoted}
+use Rattle.format.specs.Text.{string_value}
+use Rattle.octets.proofs.Slices.{lent_rest}
+use Rattle.buffer.proofs.Laws.{wrote_one}
+use Rattle.buffer.proofs.Values.{after, begun_piece, begun_fault, begun_all}
+use Rattle.escape.specs.Escapes.{no_escape}
+use Rattle.text.proofs.Runs.{run_within}
+use Rattle.text.proofs.Texts.{run_value, run_stops, quoted_none, escape_fault, escape_octet}
 use Rattle.text.proofs.read.escaped.Goals as goal
 
-pub loop-j-init : goal.loop-j-init
-loop-j-init c =
-    (search rules, search rules, search rules, c.requires.4, begun_none _ _ _)
-
-pub shape_of-out-in-Fault : goal.shape_of-out-in-Fault
-shape_of-out-in-Fault c =
-    wrote_length c.loop-j.invariant.4.wrote
-
-pub returns-in-Fault : goal.returns-in-Fault
-returns-in-Fault c =
-    begun_fault c.loop-j.invariant.4
-    (escape_fault c.args.t.now _ _ c.loop-j-test.true c.requires.2 c.loop-j.invariant.3 c.read-x.result c.read-x.ensures.0
-    c.in-Fault.is)
-
-pub overflow_add-m : goal.overflow_add-m
-overflow_add-m c =
-    omega (arith, c.loop-j.invariant.2, c.requires.0)
-
-pub copy_near-j-requires : goal.copy_near-j-requires
-copy_near-j-requires c =
-    let w = ends_within (c.loop-j.j + 1) c.args.e c.read-x.result c.in-Octet.b c.in-Octet.k c.in-Octet.is
-    c.read-x.ensures.1 in
-    (omega (arith, w, c.loop-j.invariant.2, c.requires.0), w.1, c.requires.2, c.requires.3)
-
-pub overflow_add-m-in-Octet : goal.overflow_add-m-in-Octet
-overflow_add-m-in-Octet c =
-    omega (arith, c.loop-j.invariant.2, c.requires.0)
-
-pub overflow_sub-m : goal.overflow_sub-m
-overflow_sub-m c =
-    let w = ends_within (c.loop-j.j + 1) c.args.e c.read-x.result c.in-Octet.b c.in-Octet.k c.in-Octet.is
-    c.read-x.ensures.1 in
-    (run_within c.args.t.now c.in-Octet.k c.args.e c.copy_near-j.result w.1 c.requires.2
-    c.copy_near-j.ensures.0).0
-
-pub overflow_add-m-in-Octet-2 : goal.overflow_add-m-in-Octet-2
-overflow_add-m-in-Octet-2 c =
-    let w = ends_within (c.loop-j.j + 1) c.args.e c.read-x.result c.in-Octet.b c.in-Octet.k c.in-Octet.is
-    c.read-x.ensures.1 in
-    let v = run_within c.args.t.now c.in-Octet.k c.args.e c.copy_near-j.result w.1 c.requires.2
-    c.copy_near-j.ensures.0 in
-    omega (arith, w, v, c.loop-j.invariant.2, c.requires.0)
-
-pub loop-j-smaller : goal.loop-j-smaller
-loop-j-smaller c =
-    let w = ends_within (c.loop-j.j + 1) c.args.e c.read-x.result c.in-Octet.b c.in-Octet.k c.in-Octet.is
-    c.read-x.ensures.1 in
-    let v = run_within c.args.t.now c.in-Octet.k c.args.e c.copy_near-j.result w.1 c.requires.2
-    c.copy_near-j.ensures.0 in
-    omega (arith, w, v)
+pub returns-in_err-b : goal.returns-in_err-b
+returns-in_err-b c =
+    let q = rw (lent_rest c.args.t.now (c.loop-j.j + 1), c.in_err-b.was) at c.read.ensures.items in
+    rw c.from_residual.ensures (begun_fault c.loop-j.invariant.begun (escape_fault c.args.t.now c.loop-j.j c.loop-j-test.true c.loop-j.invariant.escape q))
 
 pub loop-j-preserved : goal.loop-j-preserved
 loop-j-preserved c =
-    let w = ends_within (c.loop-j.j + 1) c.args.e c.read-x.result c.in-Octet.b c.in-Octet.k c.in-Octet.is
-    c.read-x.ensures.1 in
-    let v = run_within c.args.t.now c.in-Octet.k c.args.e c.copy_near-j.result w.1 c.requires.2
-    c.copy_near-j.ensures.0 in (
-      omega (arith, w, v, c.loop-j.invariant.0),
-      v.1,
-      omega (arith, w, v, c.loop-j.invariant.2),
-      run_stops c.args.t.now _ _ _ w.1 c.requires.2 c.copy_near-j.ensures.0,
-      begun_piece _ _
-          (begun_piece _ _ c.loop-j.invariant.4 (wrote_one _ _ _ _ c.put.ensures)
-          (escape_octet c.args.t.now _ _ c.loop-j-test.true c.requires.2 c.loop-j.invariant.3 c.read-x.result
-          c.read-x.ensures.0 _ _ c.in-Octet.is)) c.copy_near-j.ensures.1
-          (run_value c.args.t.now _ _ _ w.1 c.requires.2 c.copy_near-j.ensures.0),
-    )
-
-pub shape_of-out : goal.shape_of-out
-shape_of-out c = wrote_length c.loop-j.invariant.4.wrote
+    let t = c.args.t.now in
+    let i = c.loop-j.j + 1 + c.in_ok-b.k in
+    let n = c.copy_near-n.result in
+    let r = rw (lent_rest t (c.loop-j.j + 1), c.in_ok-b.was) at c.read.ensures.items in
+    let k = rw (lent_rest t (c.loop-j.j + 1), c.in_ok-b.was) at c.read.ensures.within in
+    let q = rw (lent_rest t i) at c.copy_near-n.ensures.count in
+    let w = rw (lent_rest t i) at c.copy_near-n.ensures.wrote in
+    let e : drop n (drop i t) ≡ drop (c.loop-j.j + (1 + c.in_ok-b.k + n)) t = drop-drop n i t ∙ ap (λ m. drop m t) (omega arith) in
+    let m : c.loop-j.m + (1 + n) ≡ c.loop-j.m + 1 + n = omega arith in
+    let h : i + n ≤ length t = omega (arith, run_within no_escape n (drop i t) q, k.1, length-drop (c.loop-j.j + 1) t, length-drop i t) in
+    record {
+      within = omega arith;
+      room = omega (arith, c.loop-j.invariant.room);
+      escape = rw (← e) (run_stops (drop i t) n q);
+      begun = rw m
+          (begun_piece _ _
+          (begun_piece _ _ c.loop-j.invariant.begun (wrote_one _ _ _ _ c.put.ensures) (escape_octet t c.loop-j.j c.loop-j-test.true c.loop-j.invariant.escape _ _ r))
+          w (run_value (drop i t) n q ∙ ap (λ s. after (take n (drop i t)) (string_value (quoted s))) e));
+    }
 
 pub returns : goal.returns
-returns c =
-    begun_all c.loop-j.invariant.4 (quoted_none c.args.t.now _ _ c.loop-j-test.false)
+returns c = begun_all c.loop-j.invariant.begun (quoted_none c.args.t.now c.loop-j.j c.loop-j-test.false)

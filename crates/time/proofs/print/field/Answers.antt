@@ -5,13 +5,9 @@ use Rattle.buffer.proofs.Laws.{wrote_text}
 use Rattle.time.proofs.Days.{moment_of_lem}
 use Rattle.time.proofs.print.field.Goals as goal
 
-pub moment-requires : goal.moment-requires
-moment-requires c =
-    (c.requires.0, c.day_of-d.ensures.3)
-
 pub returns : goal.returns
 returns c =
     let v = c.number-v.result in
-    let d = c.day_of-d.ensures in
-    wrote_text _ _ (moment_of_lem (day_of (v / 86400)) _ _ (v % 86400) d.0 d.1 ∙ ap time_text c.number-v.ensures.0)
+    wrote_text _ _
+    (moment_of_lem (day_of (v / 86400)) _ _ (v % 86400) c.day_of.ensures.month c.day_of.ensures.day ∙ ap time_text c.number-v.ensures.value)
     c.moment.ensures

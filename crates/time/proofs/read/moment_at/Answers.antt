@@ -1,21 +1,17 @@
-use Rattle.time.proofs.Moments.{moment_fault, time_fault, moment_value}
-use Rattle.octets.specs.Octets.{number_of}
-use mathlib.Core.Path.{sym, ap, ◌∙◌}
+use mathlib.Core.Path.{sym, ◌∙◌}
+use Rattle.octets.proofs.Slices.{lent_rest}
+use Rattle.time.proofs.Moments.{moment_parts}
 use Rattle.time.proofs.read.moment_at.Goals as goal
 
-pub returns-in-Fault : goal.returns-in-Fault
-returns-in-Fault c =
-    moment_fault c.args.t.now c.args.i c.args.e c.requires.0 c.requires.1
-    (sym c.in-Fault.is ∙ c.decimal-a.ensures)
+pub returns-in_err-d : goal.returns-in_err-d
+returns-in_err-d c = c.from_residual.ensures ∙ sym (moment_parts c.args.t.now c.requires ∙ rw (← c.decimal.ensures, c.in_err-d.was))
 
-pub returns-in-Fault-b : goal.returns-in-Fault-b
-returns-in-Fault-b c =
-    time_fault c.args.t.now c.args.i c.args.e c.requires.0 c.requires.1
-    (sym c.in-Fault-b.is ∙ c.decimal-b.ensures)
+pub returns-in_err-s : goal.returns-in_err-s
+returns-in_err-s c =
+    c.from_residual-in_err-s.ensures
+    ∙ sym (moment_parts c.args.t.now c.requires ∙ rw (← c.decimal.ensures, c.in_ok-d.was, ← lent_rest c.args.t.now 8, ← c.decimal-2.ensures, c.in_err-s.was))
 
-pub returns-in-Value-b : goal.returns-in-Value-b
-returns-in-Value-b c =
+pub returns : goal.returns
+returns c =
     c.moment.ensures
-    ∙ ap number_of
-    (moment_value c.args.t.now c.args.i c.args.e c.requires.0 c.requires.1 _ _
-    (sym c.in-Value.is ∙ c.decimal-a.ensures) (sym c.in-Value-b.is ∙ c.decimal-b.ensures))
+    ∙ sym (moment_parts c.args.t.now c.requires ∙ rw (← c.decimal.ensures, c.in_ok-d.was, ← lent_rest c.args.t.now 8, ← c.decimal-2.ensures, c.in_ok-s.was))
