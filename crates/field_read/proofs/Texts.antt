@@ -3,7 +3,7 @@ use Prim.Native.Nat.{ℕ, suc, ◌≤◌, ◌<◌}
 use mathlib.Core.Path.{◌≡◌, refl, sym, ap, subst, ◌∙◌}
 use mathlib.Core.Bool.{false, cond}
 use mathlib.Core.List.{List, [], ◌∷◌}
-use mathlib.Core.Option.{Option, none, some}
+use Rattle.std.specs.Prelude.{Option, None, Some}
 use native.Mathlib.Omega.{arith}
 use native.Mathlib.Decide.{dec_le}
 use lib.ListN.{length}
@@ -22,10 +22,10 @@ use Rattle.buffer.proofs.Values.{after, Begun, begun_none, begun_piece, begun_fa
 
 -- the octets of all the strings
 abbrev pub all_strings : List Token → Option (List ℕ)
-all_strings ts = each_of read_string ts >>= λ l. some (flat l)
+all_strings ts = each_of read_string ts >>= λ l. Some (flat l)
 
 -- a string with its count has 1 to 256 octets
-string_sized : (t : Token) (xs : List ℕ) → read_string t ≡ some xs → (1 ≤ length xs) × (length xs ≤ 256)
+string_sized : (t : Token) (xs : List ℕ) → read_string t ≡ Some xs → (1 ≤ length xs) × (length xs ≤ 256)
 string_sized t xs e =
     let (v, a, b) = bind_some (string_value t) (counted 0) xs e in
     let (c, d) = provided_some (in_range 0 255 (length v)) (with_count v) xs b in
@@ -45,35 +45,35 @@ next_string [] xs vs e = let z : ◌≡◌ {A = ℕ} 0 1 = cc in absurd (omega a
 next_string (t ∷ ts) xs vs e = by (read_string t) refl e
   where
     by : (o : Option (List ℕ)) → read_string t ≡ o → got_or o ts ≡ got xs vs → Next (t ∷ ts) xs vs
-    by none r g = let z : ◌≡◌ {A = ℕ} 0 1 = cc in absurd (omega arith)
-    by (some ys) r g =
+    by None r g = let z : ◌≡◌ {A = ℕ} 0 1 = cc in absurd (omega arith)
+    by (Some ys) r g =
         let p : ys ≡ xs = cc in
         let q : ts ≡ vs = cc in
-        let s = string_sized t xs (r ∙ ap some p) in
-        record { there = refl; first = joins (r ∙ ap some p) q; least = s.0; most = s.1 }
+        let s = string_sized t xs (r ∙ ap Some p) in
+        record { there = refl; first = joins (r ∙ ap Some p) q; least = s.0; most = s.1 }
       where
-        after_one : (o : Option (List (List ℕ))) → (cons_both (some xs) o >>= λ l. some (flat l)) ≡ after xs (o >>= λ l. some (flat l))
-        after_one none = refl
-        after_one (some l) = refl
+        after_one : (o : Option (List (List ℕ))) → (cons_both (Some xs) o >>= λ l. Some (flat l)) ≡ after xs (o >>= λ l. Some (flat l))
+        after_one None = refl
+        after_one (Some l) = refl
 
-        joins : read_string t ≡ some xs → ts ≡ vs → all_strings (t ∷ ts) ≡ after xs (all_strings vs)
-        joins r q = ap (λ o. cons_both o (each_of read_string ts) >>= λ l. some (flat l)) r ∙ after_one (each_of read_string ts) ∙ ap (λ us. after xs (all_strings us)) q
+        joins : read_string t ≡ Some xs → ts ≡ vs → all_strings (t ∷ ts) ≡ after xs (all_strings vs)
+        joins r q = ap (λ o. cons_both o (each_of read_string ts) >>= λ l. Some (flat l)) r ∙ after_one (each_of read_string ts) ∙ ap (λ us. after xs (all_strings us)) q
 
 pub no_string : (us : List Token) → one_token read_string us ≡ no_token → us ≡ []
 no_string [] e = refl
 no_string (t ∷ ts) e = by (read_string t) e
   where
     by : (o : Option (List ℕ)) → got_or o ts ≡ no_token → t ∷ ts ≡ []
-    by none g = let z : ◌≡◌ {A = ℕ} 0 1 = cc in absurd (omega arith)
-    by (some ys) g = let z : ◌≡◌ {A = ℕ} 0 1 = cc in absurd (omega arith)
+    by None g = let z : ◌≡◌ {A = ℕ} 0 1 = cc in absurd (omega arith)
+    by (Some ys) g = let z : ◌≡◌ {A = ℕ} 0 1 = cc in absurd (omega arith)
 
-pub bad_string : (us : List Token) → one_token read_string us ≡ bad_token → (null us ≡ false) × (all_strings us ≡ none)
+pub bad_string : (us : List Token) → one_token read_string us ≡ bad_token → (null us ≡ false) × (all_strings us ≡ None)
 bad_string [] e = let z : ◌≡◌ {A = ℕ} 0 1 = cc in absurd (omega arith)
 bad_string (t ∷ ts) e = by (read_string t) refl e
   where
-    by : (o : Option (List ℕ)) → read_string t ≡ o → got_or o ts ≡ bad_token → (false ≡ false) × (all_strings (t ∷ ts) ≡ none)
-    by none r g = (refl, ap (λ o. cons_both o (each_of read_string ts) >>= λ l. some (flat l)) r)
-    by (some ys) r g = let z : ◌≡◌ {A = ℕ} 0 1 = cc in absurd (omega arith)
+    by : (o : Option (List ℕ)) → read_string t ≡ o → got_or o ts ≡ bad_token → (false ≡ false) × (all_strings (t ∷ ts) ≡ None)
+    by None r g = (refl, ap (λ o. cons_both o (each_of read_string ts) >>= λ l. Some (flat l)) r)
+    by (Some ys) r g = let z : ◌≡◌ {A = ℕ} 0 1 = cc in absurd (omega arith)
 
 -- In the loop: the strings of ts before us stand from n to m; there is none yet if m is n.
 pub record Before (o₀ o : List ℕ) (n m : ℕ) (ts us : List Token) : Type 0 where
@@ -108,7 +108,7 @@ module _ {o₀ o : List ℕ} {n m : ℕ} {ts us : List Token} (b : Before o₀ o
     unfolding read_field
     strings_bad e = let (t, v) = bad_string us e in rw (there_is t, begun_fault b.begun v)
 
-    strings_got : (xs : List ℕ) → null ts ≡ false → all_strings ts ≡ some xs → read_field ns strs q ts ≡ got xs []
+    strings_got : (xs : List ℕ) → null ts ≡ false → all_strings ts ≡ Some xs → read_field ns strs q ts ≡ got xs []
     unfolding read_field
     strings_got xs t v = ap (λ x. cond x no_token (got_or (all_strings ts) [])) t ∙ ap (λ o. got_or o []) v
 

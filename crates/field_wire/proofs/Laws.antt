@@ -9,6 +9,7 @@ use lib.Seq.{slice, length-slice, drop-cons}
 use borrow.Author.Tests.{lt-ltb, le-ltb, le-leb, lt-leb}
 use Rattle.format.specs.Wire.{Stage, any_octet, count, label_length, label_octet, to_the_end, string_count, string_octet, window, block_count, block_octet, stop, fault, go, step, may_end, Taken, short, bad, took, one_more, taken}
 use Rattle.format.specs.Field.{any_octets}
+use Rattle.format.proofs.Lists.{to_end}
 use Rattle.format.proofs.Wire.{takes_end}
 use Rattle.octets.proofs.Slices.{next, none, rest}
 
@@ -18,7 +19,7 @@ plus k short = short
 plus k bad = bad
 plus k (took n) = took (k + n)
 
-plus_none : (t : Taken) → t ≡ plus 0 t
+pub plus_none : (t : Taken) → t ≡ plus 0 t
 plus_none short = refl
 plus_none bad = refl
 plus_none (took n) = ap took (omega arith)
@@ -231,39 +232,35 @@ module _ (s : List ℕ) (i e : ℕ) (l : e ≤ length s) (h : i < e) where
         ∙ ap (λ x. plus (suc n) (taken (block_octet w 0) x)) (rest s (i + 1) n e)
         ∙ ap (λ x. plus (suc n) (taken (block_octet w 0) (slice x e s))) z
 
--- what is taken from i on, given what is taken from j on, after a + n more octets
-goes_on : (i j a n : ℕ) (x y z : Taken) → i ≤ j → x ≡ plus (j - i) y → y ≡ plus (a + n) z → x ≡ plus (j + a + n - i) z
-goes_on i j a n x y z h p q = p ∙ ap (plus (j - i)) q ∙ plus_plus (j - i) (a + n) (j + a + n - i) z (omega arith)
+-- what is taken in all, given what is taken from j on, after a + n more octets
+goes_on : (j a n : ℕ) (x y z : Taken) → x ≡ plus j y → y ≡ plus (a + n) z → x ≡ plus (j + (a + n)) z
+goes_on j a n x y z p q = p ∙ ap (plus j) q ∙ plus_plus j (a + n) (j + (a + n)) z refl
 
 -- what is taken in all, if z is taken of what is left
 pub whole : (k : ℕ) (x y z : Taken) → x ≡ plus k y → y ≡ z → plus k z ≡ x
 whole k x y z p q = sym (p ∙ ap (plus k) q)
 
-pub whole_so_far : (i j : ℕ) (x y : Taken) → x ≡ plus (j - i) y → took 0 ≡ y → took (j - i) ≡ x
-whole_so_far i j x y p q = let z : j - i ≡ j - i + 0 = omega arith in ap took z ∙ whole (j - i) x y (took 0) p (sym q)
-
--- nothing is taken yet
-pub at_first : (i : ℕ) (t : Taken) → t ≡ plus (i - i) t
-at_first i t = let z : 0 ≡ i - i = omega arith in plus_none t ∙ ap (λ k. plus k t) z
+pub whole_so_far : (j : ℕ) (x y : Taken) → x ≡ plus j y → took 0 ≡ y → took j ≡ x
+whole_so_far j x y p q = let z : j ≡ j + 0 = omega arith in ap took z ∙ whole j x y (took 0) p (sym q)
 
 -- after a string
-pub string_again : (s : List ℕ) (i j e : ℕ) → e ≤ length s → j < e → (n : ℕ) (x : Taken) → i ≤ j → x ≡ plus (j - i) (taken (string_count true) (slice j e s))
-    → n ≡ get_or s j 0 → n < e - j → x ≡ plus (j + 1 + n - i) (taken (string_count true) (slice (j + 1 + n) e s))
-string_again s i j e l h n x o v p a =
-    goes_on i j 1 n x (taken (string_count true) (slice j e s)) (taken (string_count true) (slice (j + 1 + n) e s)) o v (string_all s j e l h true n p a)
+pub string_again : (s : List ℕ) (j e : ℕ) → e ≤ length s → j < e → (n : ℕ) (x : Taken) → x ≡ plus j (taken (string_count true) (slice j e s))
+    → n ≡ get_or s j 0 → n < e - j → x ≡ plus (j + (1 + n)) (taken (string_count true) (slice (j + (1 + n)) e s))
+string_again s j e l h n x v p a =
+    let z : j + 1 + n ≡ j + (1 + n) = omega arith in
+    goes_on j 1 n x (taken (string_count true) (slice j e s)) (taken (string_count true) (slice (j + (1 + n)) e s)) v
+    (string_all s j e l h true n p a ∙ ap (λ k. plus (1 + n) (taken (string_count true) (slice k e s))) z)
 
 -- a name at its first octet, and after a label
-pub name_first : (s : List ℕ) (i e : ℕ) → e ≤ length s → i < e → (b : Bool) → taken (label_length b 0) (slice i e s) ≡ plus (i - i) (taken (label_length false (i - i)) (slice i e s))
-name_first s i e l h b =
-    let z : 0 ≡ i - i = omega arith in
-    name_there s i e l h 0 b false ∙ plus_none (taken (label_length false 0) (slice i e s)) ∙ ap (λ k. plus k (taken (label_length false k) (slice i e s))) z
+pub name_first : (s : List ℕ) (e : ℕ) → e ≤ length s → 0 < e → (b : Bool) → taken (label_length b 0) (slice 0 e s) ≡ plus 0 (taken (label_length false 0) (slice 0 e s))
+name_first s e l h b = name_there s 0 e l h 0 b false ∙ plus_none (taken (label_length false 0) (slice 0 e s))
 
-pub label_again : (s : List ℕ) (i j e : ℕ) → e ≤ length s → j < e → (n : ℕ) (x : Taken) → i ≤ j → x ≡ plus (j - i) (taken (label_length false (j - i)) (slice j e s))
-    → n ≡ get_or s j 0 → 1 ≤ n → n ≤ 63 → j - i + 1 + n + 1 ≤ 255 → n < e - j → x ≡ plus (j + 1 + n - i) (taken (label_length false (j + 1 + n - i)) (slice (j + 1 + n) e s))
-label_again s i j e l h n x o v p a b c d =
-    let z : j - i + 1 + n ≡ j + 1 + n - i = omega arith in
-    goes_on i j 1 n x (taken (label_length false (j - i)) (slice j e s)) (taken (label_length false (j - i + 1 + n)) (slice (j + 1 + n) e s)) o v (label_all s j e l h (j - i) n p a b c d)
-    ∙ ap (λ k. plus (j + 1 + n - i) (taken (label_length false k) (slice (j + 1 + n) e s))) z
+pub label_again : (s : List ℕ) (j e : ℕ) → e ≤ length s → j < e → (n : ℕ) (x : Taken) → x ≡ plus j (taken (label_length false j) (slice j e s))
+    → n ≡ get_or s j 0 → 1 ≤ n → n ≤ 63 → j + 1 + n + 1 ≤ 255 → n < e - j → x ≡ plus (j + (1 + n)) (taken (label_length false (j + (1 + n))) (slice (j + (1 + n)) e s))
+label_again s j e l h n x v p a b c d =
+    let z : j + 1 + n ≡ j + (1 + n) = omega arith in
+    goes_on j 1 n x (taken (label_length false j) (slice j e s)) (taken (label_length false (j + (1 + n))) (slice (j + (1 + n)) e s)) v
+    (label_all s j e l h j n p a b c d ∙ ap (λ k. plus (1 + n) (taken (label_length false k) (slice k e s))) z)
 
 -- a whole block at j: its window, its count n and its octets
 module _ (s : List ℕ) (j e : ℕ) (l : e ≤ length s) (h : j < e) (lo : ℕ) (r : lo ≤ get_or s j 0) where
@@ -313,7 +310,15 @@ module _ (s : List ℕ) (j e : ℕ) (l : e ≤ length s) (h : j < e) (lo : ℕ) 
             on zero z = absurd (z refl)
             on (suc x) z = refl
 
-        -- after a block
-        pub window_again : (i : ℕ) (x : Taken) → i ≤ j → x ≡ plus (j - i) (taken (window lo) here) → (get_or s (j + 1 + n) 0 ≡ 0 → ⊥)
-            → x ≡ plus (j + 2 + n - i) (taken (window (get_or s j 0 + 1)) (slice (j + 2 + n) e s))
-        window_again i x a v z = goes_on i j 2 n x (taken (window lo) here) (taken (window (get_or s j 0 + 1)) (slice (j + 2 + n) e s)) a v (window_all z)
+        -- after a block, whose window is w
+        pub window_again : (x : Taken) → x ≡ plus j (taken (window lo) here) → (get_or s (j + 1 + n) 0 ≡ 0 → ⊥) → (w : ℕ) → w ≡ get_or s j 0
+            → x ≡ plus (j + (2 + n)) (taken (window (w + 1)) (slice (j + (2 + n)) e s))
+        window_again x v z w u =
+            let y : j + 2 + n ≡ j + (2 + n) = omega arith in
+            rw u
+            (goes_on j 2 n x (taken (window lo) here) (taken (window (get_or s j 0 + 1)) (slice (j + (2 + n)) e s)) v
+            (window_all z ∙ ap (λ k. plus (2 + n) (taken (window (get_or s j 0 + 1)) (slice k e s))) y))
+
+-- a field is taken of all the octets that are left
+pub all_left : (st : Stage) (p : List ℕ) → taken st (slice 0 (length p) p) ≡ taken st p
+all_left st p = ap (taken st) (to_end p 0)

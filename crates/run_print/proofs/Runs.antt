@@ -7,23 +7,25 @@ use native.Mathlib.Omega.{arith}
 use lib.ListN.{length, take, drop, get_or, set, length-drop}
 use lib.Dec.{eqb}
 use borrow.Author.Tests.{ne_eqb}
-use lib.Seq.{slice, length-slice, drop-drop}
+use lib.Seq.{length-take-le}
 use Rattle.format.specs.Wire.{took, taken}
 use Rattle.format.specs.Field.{Symbol, Kind, start}
 use Rattle.format.specs.Catalogue.{TypeName}
 use Rattle.format.specs.Demands.{sound_names}
 use Rattle.format.specs.Run.{shown, parts, parts_of, joined, text_of_parts, text_of}
-use Rattle.format.proofs.Lists.{below_take, below_drop, below_each, to_end}
+use Rattle.format.proofs.Lists.{below_each}
 use Rattle.format.proofs.Wire.{fits, alone}
 use Rattle.format.proofs.Fields.{field_laws}
 use Rattle.format.proofs.Bound.{cap_most}
-use Rattle.octets.proofs.Slices.{lent}
 use Rattle.stanza_form.specs.Forms.{kind_of, held_by, symbols_in, or_none}
 use Rattle.stanza_form.specs.declared.FieldDesc.{FieldDesc}
-use Rattle.stanza_form.specs.Fields.{no_field}
+use Rattle.stanza_form.specs.Code.{field_at, fields_of}
+use Rattle.catalogue.specs.declared.Catalogue.{Catalogue}
+use Rattle.catalogue.specs.Known.{names_in}
+use Rattle.catalogue.proofs.Laws.{listed_sound}
 use Rattle.buffer.specs.Writing.{Wrote}
 use Rattle.buffer.proofs.Laws.{Left, left_piece, wrote_before}
-use Rattle.run_wire.specs.Run.{kinds_from}
+use Rattle.run_wire.specs.Run.{kinds_of}
 use Rattle.stanza_form.specs.Fields.{kind_for, Usable}
 use Rattle.run_wire.proofs.Laws.{next_kind, no_kind}
 use Rattle.run_print.specs.Printing.{lead}
@@ -93,52 +95,50 @@ lead_length (suc n) [] = omega arith
 lead_length (suc n) (x ∷ t) = omega arith
 
 -- a field's text is not too long
-pub field_short : (ns : List TypeName) → sound_names ns ≡ true → (s : List ℕ) (d : FieldDesc) → Usable s d → (p : List ℕ) (i e : ℕ) → ((j : ℕ) → get_or p j 0 < 256) → e ≤ length p
-    → taken (start (kind_for s d)) (slice i e p) ≡ took (e - i) → length (shown ns (kind_for s d) (slice i e p)) ≤ 4 * (e - i) + 687679
-field_short ns g s d u p i e b l t =
-    let n = length-slice i e p l in
-    omega (arith, (field_laws ns g (kind_for s d) u.sound).bound (slice i e p) (below_drop 256 i (take e p) (below_take 256 e p (below_each 256 p b))) (t ∙ ap took (sym n)), n, cap_most (kind_for s d))
+field_short : (ns : List TypeName) → sound_names ns ≡ true → (s : List ℕ) (d : FieldDesc) → Usable s d → (p : List ℕ) → ((j : ℕ) → get_or p j 0 < 256)
+    → taken (start (kind_for s d)) p ≡ took (length p) → length (shown ns (kind_for s d) p) ≤ 4 * length p + 687679
+field_short ns g s d u p b t = omega (arith, (field_laws ns g (kind_for s d) u.sound).bound p (below_each 256 p b) t, cap_most (kind_for s d))
 
--- A turn of the loop over a run: k fields are written, the octets from i on are left, and the next field, d, takes w of them.
-pub record Turn (ns : List TypeName) (s : List ℕ) (fs : List FieldDesc) (first many : ℕ) (p : List ℕ) (k i w : ℕ) (d : FieldDesc) : Type 0 where
-  pub within : i + w ≤ length p
-  pub takes : taken (start (kind_for s d)) (slice i (i + w) p) ≡ took (i + w - i)
-  pub others : (qs : List (List ℕ)) × (parts_of (kinds_from s fs (first + (k + 1)) (many - (k + 1))) (drop (i + w) p) ≡ parts qs)
-  pub text : text_of ns (kinds_from s fs (first + k) (many - k)) (drop i p) ≡ joined (shown ns (kind_for s d) (slice i (i + w) p)) (text_of ns (kinds_from s fs (first + (k + 1)) (many - (k + 1))) (drop (i + w) p))
+-- the same under a catalogue
+pub listed_short : (c : Catalogue) (s : List ℕ) (d : FieldDesc) → Usable s d → (p : List ℕ) → ((j : ℕ) → get_or p j 0 < 256)
+    → taken (start (kind_for s d)) p ≡ took (length p) → length (shown (names_in c) (kind_for s d) p) ≤ 4 * length p + 687679
+listed_short c s d u p b t = field_short (names_in c) (listed_sound c.names.now c.types.now c.listed) s d u p b t
 
-module _ (ns : List TypeName) (s : List ℕ) (fs : List FieldDesc) (first many : ℕ) (p : List ℕ) (k i : ℕ) (h : k < many) (l : i ≤ length p)
-    (a : (ps : List (List ℕ)) × (parts_of (kinds_from s fs (first + k) (many - k)) (drop i p) ≡ parts ps)) where
-  pub turn : (d : FieldDesc) → d ≡ get_or fs (first + k) no_field → (last : Bool) → (last ≡ true → k + 1 ≡ many) → (r : ℕ)
-      → ((m : List Symbol) (w : ℕ) → taken (start (kind_of m d.form)) (slice i (length p) p) ≡ took w → (last ≡ true → i + w ≡ length p) → r ≡ w) → Turn ns s fs first many p k i r d
-  turn d f last y r g = by (text_next ns (kind_for s d) others_kinds (drop i p) a.0 (ap (λ ks. parts_of ks (drop i p)) (sym next) ∙ a.1))
+-- A turn of the loop over a run: k fields are written, the octets ys are left, and the next field, d, takes w of them.
+pub record Turn (ns : List TypeName) (s cs ys : List ℕ) (k w : ℕ) (d : FieldDesc) : Type 0 where
+  pub within : w ≤ length ys
+  pub takes : taken (start (kind_for s d)) (take w ys) ≡ took (length (take w ys))
+  pub others : (qs : List (List ℕ)) × (parts_of (kinds_of s (fields_of (drop (k + 1) cs))) (drop w ys) ≡ parts qs)
+  pub text : text_of ns (kinds_of s (fields_of (drop k cs))) ys ≡ joined (shown ns (kind_for s d) (take w ys)) (text_of ns (kinds_of s (fields_of (drop (k + 1) cs))) (drop w ys))
+
+module _ (ns : List TypeName) (s cs ys : List ℕ) (k : ℕ) (h : k < length cs) (a : (ps : List (List ℕ)) × (parts_of (kinds_of s (fields_of (drop k cs))) ys ≡ parts ps)) where
+  pub turn : (d : FieldDesc) → d ≡ field_at (get_or cs k 0) → (last : Bool) → (last ≡ true → k + 1 ≡ length cs) → (r : ℕ)
+      → ((m : List Symbol) (w : ℕ) → taken (start (kind_of m d.form)) ys ≡ took w → (last ≡ true → w ≡ length ys) → r ≡ w) → Turn ns s cs ys k r d
+  turn d f last y r g = by (text_next ns (kind_for s d) others_kinds ys a.0 (ap (λ ks. parts_of ks ys) (sym next) ∙ a.1))
     where
       others_kinds : List Kind
-      others_kinds = kinds_from s fs (first + (k + 1)) (many - (k + 1))
+      others_kinds = kinds_of s (fields_of (drop (k + 1) cs))
 
-      next : kinds_from s fs (first + k) (many - k) ≡ kind_for s d ∷ others_kinds
-      next = next_kind s fs first many k h d f
+      next : kinds_of s (fields_of (drop k cs)) ≡ kind_for s d ∷ others_kinds
+      next = next_kind s cs k h d f
 
-      by : ((w : ℕ) × (taken (start (kind_for s d)) (drop i p) ≡ took w)
-          × ((qs : List (List ℕ)) × (parts_of (kinds_from s fs (first + (k + 1)) (many - (k + 1))) (drop w (drop i p)) ≡ parts qs))
-          × (text_of ns (kind_for s d ∷ kinds_from s fs (first + (k + 1)) (many - (k + 1))) (drop i p)
-          ≡ joined (shown ns (kind_for s d) (take w (drop i p))) (text_of ns (kinds_from s fs (first + (k + 1)) (many - (k + 1))) (drop w (drop i p)))))
-          → Turn ns s fs first many p k i r d
+      by : ((w : ℕ) × (taken (start (kind_for s d)) ys ≡ took w)
+          × ((qs : List (List ℕ)) × (parts_of (kinds_of s (fields_of (drop (k + 1) cs))) (drop w ys) ≡ parts qs))
+          × (text_of ns (kind_for s d ∷ kinds_of s (fields_of (drop (k + 1) cs))) ys
+          ≡ joined (shown ns (kind_for s d) (take w ys)) (text_of ns (kinds_of s (fields_of (drop (k + 1) cs))) (drop w ys))))
+          → Turn ns s cs ys k r d
       by (w, t, q, e) =
-          let m : i + w ≤ length p = omega (arith, fits (start (kind_for s d)) (drop i p) w t, length-drop i p) in
-          let ends : last ≡ true → i + w ≡ length p = λ x.
-          let n : many - (k + 1) ≡ 0 = omega (arith, y x) in
-          let (o, _) = empty (drop w (drop i p)) q.0 (subst (λ j. parts_of (kinds_from s fs (first + (k + 1)) j) (drop w (drop i p)) ≡ parts q.0) n q.1) in
-          omega (arith, ap length o, length-drop w (drop i p), length-drop i p) in
-          let z : r ≡ w = g (or_none (symbols_in (held_by d.form) s d.qualifiers_at d.qualifiers_end)) w (ap (taken (start (kind_for s d))) (to_end p i) ∙ t) ends in
-          let n : i + w - i ≡ w = omega arith in
-          let c : take w (drop i p) ≡ slice i (i + w) p = subst (λ j. take j (drop i p) ≡ slice i (i + w) p) n (lent p i (i + w) (omega arith)) in
+          let m : w ≤ length ys = fits (start (kind_for s d)) ys w t in
+          let ends : last ≡ true → w ≡ length ys = λ x.
+          let (o, _) = empty (drop w ys) q.0 (subst (λ ks. parts_of ks (drop w ys) ≡ parts q.0) (no_kind s cs (k + 1) (omega (arith, y x))) q.1) in
+          omega (arith, ap length o, length-drop w ys) in
+          let z : r ≡ w = g (or_none (symbols_in (held_by d.form) s d.qualifiers_at d.qualifiers_end)) w t ends in
+          let n : w ≡ length (take w ys) = sym (length-take-le w ys m) in
           rw z (record {
             within = m;
-            takes = ap (taken (start (kind_for s d))) (sym c) ∙ alone (start (kind_for s d)) (drop i p) w t ∙ ap took (sym n);
-            others = (q.0, ap (parts_of (kinds_from s fs (first + (k + 1)) (many - (k + 1)))) (sym (drop-drop w i p)) ∙ q.1);
-            text = ap (λ ks. text_of ns ks (drop i p)) next ∙ e
-                ∙ ap (λ t. joined (shown ns (kind_for s d) t) (text_of ns (kinds_from s fs (first + (k + 1)) (many - (k + 1))) (drop w (drop i p)))) c
-                ∙ ap (λ ys. joined (shown ns (kind_for s d) (slice i (i + w) p)) (text_of ns (kinds_from s fs (first + (k + 1)) (many - (k + 1))) ys)) (drop-drop w i p);
+            takes = alone (start (kind_for s d)) ys w t ∙ ap took n;
+            others = q;
+            text = ap (λ ks. text_of ns ks ys) next ∙ e;
           })
 
 -- the text that is left, after a field's is written
@@ -150,10 +150,10 @@ pub went_bound : {o o' : List ℕ} {n r : ℕ} (f : List ℕ) (m : ℕ) → leng
 went_bound {n = n} {r} f m h w = omega (arith, w.count, lead_length n f)
 
 -- no field is left, and so no text is
-pub run_done : (ns : List TypeName) (s : List ℕ) (fs : List FieldDesc) (first many k : ℕ) (xs : List ℕ) (at : ℕ) → many ≤ k
-    → (ps : List (List ℕ)) × (parts_of (kinds_from s fs (first + k) (many - k)) xs ≡ parts ps) → lead at (text_of ns (kinds_from s fs (first + k) (many - k)) xs) ≡ []
-run_done ns s fs first many k xs at h (ps, e) =
-    let q = no_kind s fs first many k h in
+pub run_done : (ns : List TypeName) (s cs : List ℕ) (k : ℕ) (xs : List ℕ) (at : ℕ) → length cs ≤ k
+    → (ps : List (List ℕ)) × (parts_of (kinds_of s (fields_of (drop k cs))) xs ≡ parts ps) → lead at (text_of ns (kinds_of s (fields_of (drop k cs))) xs) ≡ []
+run_done ns s cs k xs at h (ps, e) =
+    let q = no_kind s cs k h in
     ap (lead at) (ap (λ ks. text_of ns ks xs) q ∙ text_none ns xs ps (ap (λ ks. parts_of ks xs) (sym q) ∙ e)) ∙ by at
   where
     by : (n : ℕ) → lead n [] ≡ []

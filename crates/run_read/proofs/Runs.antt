@@ -12,6 +12,11 @@ use Rattle.format.specs.Token.{Token, scanned, tokens}
 use Rattle.format.specs.Run.{Got, no_token, bad_token, got, refused, parts, with_first, max_rdata, read_run}
 use Rattle.buffer.specs.Writing.{Wrote}
 use Rattle.buffer.proofs.Laws.{wrote_none, wrote_append}
+use Rattle.buffer.specs.declared.lack.Lack.{Lack}
+use Rattle.buffer.specs.declared.lack.Lack.TheVariants.{Missing, Fault}
+use Rattle.std.specs.Prelude.{Err}
+use Rattle.run_wire.specs.Run.{number_of}
+use Rattle.field_read.specs.Fields.{Gives}
 use Rattle.run_read.specs.Reading.{Stands}
 
 -- no token is left at the end of a text
@@ -40,6 +45,11 @@ module _ (read : Kind → List Token → Got) where
     pub ahead_bad : read j us ≡ bad_token → read_run read ks ts ≡ refused 9 (k + 1)
     unfolding read_run
     ahead_bad t = a.refuses 9 1 (rw (e, t))
+
+    -- what is lacking tells the refusal
+    pub ahead_lacks : (w : Lack) (xs ys : List ℕ) (n : ℕ) (s : List ℕ) → Gives xs ys n s (Err w) (read j us) → read_run read ks ts ≡ refused (number_of w) (k + 1)
+    ahead_lacks Missing xs ys n s t = ahead_missing t
+    ahead_lacks Fault xs ys n s t = ahead_bad t
 
     pub ahead_got : (p : List ℕ) (vs : List Token) → read j us ≡ got p vs → Ahead ks ts js vs (k + 1) (xs ++ p)
     ahead_got p vs t = record {

@@ -4,20 +4,24 @@ use mathlib.Core.Path.{◌≡◌, refl, sym, ap, ◌∙◌, subst}
 use mathlib.Core.List.{List, [], ◌∷◌}
 use native.Mathlib.Omega.{arith}
 use lib.ListN.{length, take, drop, get_or, length-drop}
-use lib.Seq.{slice, drop-drop}
+use lib.Seq.{drop-drop}
 use Rattle.format.specs.Wire.{short, bad, took, taken}
 use Rattle.format.specs.Field.{Symbol, Kind, start, kinds}
 use Rattle.format.specs.Run.{refused, parts, with_first, parts_of}
-use Rattle.format.proofs.Lists.{to_end}
+use Rattle.std.specs.Prelude.{Result, Ok, Err}
+use Rattle.format.proofs.Lists.{drop_next, drop_none}
+use Rattle.octets.proofs.Slices.{lent_rest}
+use Rattle.stanza_form.specs.Code.{field_at, fields_of}
+use Rattle.stanza_form.proofs.Codes.{field_at_lem}
 use Rattle.format.proofs.Wire.{fits}
 use Rattle.format.proofs.Run.{more}
 use Rattle.stanza_form.specs.declared.FieldDesc.{FieldDesc}
 use Rattle.stanza_form.specs.Fields.{no_field, fields_from}
 use Rattle.stanza_form.specs.Forms.{kind_of, held_by, symbols_in, or_none}
-use Rattle.field_wire.specs.declared.Take.{Take}
-use Rattle.field_wire.specs.declared.Take.TheVariants.{Missing, Fault, Took}
+use Rattle.buffer.specs.declared.lack.Lack.{Lack}
+use Rattle.buffer.specs.declared.lack.Lack.TheVariants.{Missing, Fault}
 use Rattle.field_wire.specs.Wire.{taken_in}
-use Rattle.run_wire.specs.Run.{kinds_from}
+use Rattle.run_wire.specs.Run.{kinds_from, kinds_of, number_of}
 use Rattle.stanza_form.specs.Fields.{kind_for}
 
 -- the kinds of a stanza's fields, and of a run of them
@@ -47,19 +51,36 @@ module _ (s : List ℕ) (fs : List FieldDesc) where
       let q : 0 + j ≡ j = omega arith in
       rw p (ap (take n) (kinds_drop j 0 (n + (m - j - n)) ∙ ap (λ i. kinds_from s fs i (n + (m - j - n))) q) ∙ kinds_take n j (m - j - n))
 
-  -- the next field, d, after the first k fields of a run
-  pub next_kind : (first many k : ℕ) → k < many → (d : FieldDesc) → d ≡ get_or fs (first + k) no_field
-      → kinds_from s fs (first + k) (many - k) ≡ kind_for s d ∷ kinds_from s fs (first + (k + 1)) (many - (k + 1))
-  next_kind first many k h d e =
-      let p : many - k ≡ suc (many - (k + 1)) = omega arith in
-      let q : first + k + 1 ≡ first + (k + 1) = omega arith in
-      rw (p, e) (ap (λ i. kind_for s (get_or fs (first + k) no_field) ∷ kinds_from s fs i (many - (k + 1))) q)
+-- the kinds of a run
+pub kinds_drop_of : (s : List ℕ) (k : ℕ) (fs : List FieldDesc) → drop k (kinds_of s fs) ≡ kinds_of s (drop k fs)
+kinds_drop_of s zero fs = refl
+kinds_drop_of s (suc k) [] = refl
+kinds_drop_of s (suc k) (d ∷ fs) = kinds_drop_of s k fs
 
-  pub no_kind : (first many k : ℕ) → many ≤ k → kinds_from s fs (first + k) (many - k) ≡ []
-  no_kind first many k h = let p : many - k ≡ 0 = omega arith in rw p
+pub fields_drop : (k : ℕ) (cs : List ℕ) → drop k (fields_of cs) ≡ fields_of (drop k cs)
+fields_drop zero cs = refl
+fields_drop (suc k) [] = refl
+fields_drop (suc k) (c ∷ cs) = fields_drop k cs
 
-  pub all_kinds : (first many : ℕ) → kinds_from s fs (first + 0) (many - 0) ≡ kinds_from s fs first many
-  all_kinds first many = let p : many - 0 ≡ many = omega arith in let q : first + 0 ≡ first = omega arith in rw (p, q)
+fields_take : (k : ℕ) (cs : List ℕ) → take k (fields_of cs) ≡ fields_of (take k cs)
+fields_take zero cs = refl
+fields_take (suc k) [] = refl
+fields_take (suc k) (c ∷ cs) = ap (λ l. field_at c ∷ l) (fields_take k cs)
+
+-- the next field of a run of codes, and none
+module _ (s : List ℕ) (cs : List ℕ) (k : ℕ) where
+  pub next_kind : k < length cs → (d : FieldDesc) → d ≡ field_at (get_or cs k 0) → kinds_of s (fields_of (drop k cs)) ≡ kind_for s d ∷ kinds_of s (fields_of (drop (k + 1) cs))
+  next_kind h d e = rw (drop_next cs k h, e)
+
+  pub no_kind : length cs ≤ k → kinds_of s (fields_of (drop k cs)) ≡ []
+  no_kind h = rw (drop_none cs k h)
+
+-- the fields from number k on, `m` of them, are those of the codes there
+pub run_of : (s : List ℕ) (cs : List ℕ) (k m : ℕ) → k + m ≤ length cs → kinds_from s (fields_of cs) k m ≡ kinds_of s (fields_of (take m (drop k cs)))
+run_of s cs k zero h = refl
+run_of s cs k (suc m) h =
+    let q : k < length cs = omega arith in
+    rw (drop_next cs k q, field_at_lem cs k) (ap (λ l. kind_for s (field_at (get_or cs k 0)) ∷ l) (run_of s cs (k + 1) m (omega arith)))
 
 -- After k fields of a run ks on octets xs: what the other fields, ls, make of the octets that are left, ys, tells what the run makes of xs.
 pub record Ahead (ks : List Kind) (xs : List ℕ) (ls : List Kind) (ys : List ℕ) (k : ℕ) : Type 0 where
@@ -101,23 +122,21 @@ module _ {ks : List Kind} {xs : List ℕ} {ls : List Kind} {ys : List ℕ} {k : 
   ahead_done q = a.accepts [] (rw (e, q))
 
 -- a turn of the loop over a run: k fields are taken, the octets from `at` on are left, and t is what the next field, d, takes of them
-module _ (fs : List FieldDesc) (first many : ℕ) (p : List ℕ) (k at : ℕ) (t : Take) (d : FieldDesc) (e : d ≡ get_or fs (first + k) no_field)
-    (a : (s : List ℕ) → Ahead (kinds_from s fs first many) p (kinds_from s fs (first + k) (many - k)) (drop at p) k) (h : k < many)
-    (g : (l : List Symbol) → taken_in t ≡ taken (start (kind_of l d.form)) (slice at (length p) p)) where
+module _ (cs p : List ℕ) (k at : ℕ) (t : Result ℕ Lack) (d : FieldDesc) (e : d ≡ field_at (get_or cs k 0))
+    (a : (s : List ℕ) → Ahead (kinds_of s (fields_of cs)) p (kinds_of s (fields_of (drop k cs))) (drop at p) k) (h : k < length cs)
+    (g : (l : List Symbol) → taken_in t ≡ taken (start (kind_of l d.form)) (take (length p - at) (drop at p))) where
   here : (s : List ℕ) → taken (start (kind_for s d)) (drop at p) ≡ taken_in t
-  here s = ap (taken (start (kind_for s d))) (sym (to_end p at)) ∙ sym (g (or_none (symbols_in (held_by d.form) s d.qualifiers_at d.qualifiers_end)))
+  here s = ap (taken (start (kind_for s d))) (sym (lent_rest p at)) ∙ sym (g (or_none (symbols_in (held_by d.form) s d.qualifiers_at d.qualifiers_end)))
 
-  pub turn_short : t ≡ Missing → (s : List ℕ) → parts_of (kinds_from s fs first many) p ≡ refused 8 (k + 1)
-  turn_short q s = ahead_short (a s) _ _ (next_kind s fs first many k h d e) (here s ∙ ap taken_in q)
+  pub turn_lacks : (w : Lack) → t ≡ Err w → (s : List ℕ) → parts_of (kinds_of s (fields_of cs)) p ≡ refused (number_of w) (k + 1)
+  turn_lacks Missing q s = ahead_short (a s) _ _ (next_kind s cs k h d e) (here s ∙ ap taken_in q)
+  turn_lacks Fault q s = ahead_bad (a s) _ _ (next_kind s cs k h d e) (here s ∙ ap taken_in q)
 
-  pub turn_bad : t ≡ Fault → (s : List ℕ) → parts_of (kinds_from s fs first many) p ≡ refused 9 (k + 1)
-  turn_bad q s = ahead_bad (a s) _ _ (next_kind s fs first many k h d e) (here s ∙ ap taken_in q)
-
-  module _ (w : ℕ) (q : t ≡ Took w) where
+  module _ (w : ℕ) (q : t ≡ Ok w) where
     pub turn_within : at ≤ length p → at + w ≤ length p
     turn_within l = omega (arith, fits (start (kind_for [] d)) (drop at p) w (here [] ∙ ap taken_in q), length-drop at p)
 
-    pub turn_took : (s : List ℕ) → Ahead (kinds_from s fs first many) p (kinds_from s fs (first + (k + 1)) (many - (k + 1))) (drop (at + w) p) (k + 1)
+    pub turn_took : (s : List ℕ) → Ahead (kinds_of s (fields_of cs)) p (kinds_of s (fields_of (drop (k + 1) cs))) (drop (at + w) p) (k + 1)
     turn_took s =
-        subst (λ ys. Ahead (kinds_from s fs first many) p (kinds_from s fs (first + (k + 1)) (many - (k + 1))) ys (k + 1)) (drop-drop w at p)
-        (ahead_took (a s) _ _ (next_kind s fs first many k h d e) w (here s ∙ ap taken_in q))
+        subst (λ ys. Ahead (kinds_of s (fields_of cs)) p (kinds_of s (fields_of (drop (k + 1) cs))) ys (k + 1)) (drop-drop w at p)
+        (ahead_took (a s) _ _ (next_kind s cs k h d e) w (here s ∙ ap taken_in q))

@@ -1,17 +1,6 @@
-use Rattle.field_wire.specs.Wire.{taken_in}
-use Rattle.format.specs.Wire.{Taken, short, bad, took}
-use mathlib.Core.Path.{◌≡◌, ap, sym, ◌∙◌}
+use Rattle.std.specs.Prelude.{Result, Ok, Err}
+use Rattle.field_print.proofs.Fields.{taken_or_none}
 use Rattle.field_print.proofs.width.Goals as goal
 
-pub returns-in-Missing : goal.returns-in-Missing
-returns-in-Missing c =
-    λ l w e. let z : ◌≡◌ {A = Taken} short (took w) = sym (ap taken_in c.in-Missing.is) ∙ c.take_field-t.ensures l ∙ e in cc
-
-pub returns-in-Fault : goal.returns-in-Fault
-returns-in-Fault c =
-    λ l w e. let z : ◌≡◌ {A = Taken} bad (took w) = sym (ap taken_in c.in-Fault.is) ∙ c.take_field-t.ensures l ∙ e in cc
-
-pub returns-in-Took : goal.returns-in-Took
-returns-in-Took c =
-    λ l w e. let z : ◌≡◌ {A = Taken} (took c.in-Took.w) (took w) = sym (ap taken_in c.in-Took.is) ∙
-    c.take_field-t.ensures l ∙ e in cc
+pub returns : goal.returns
+returns c = λ l w e. taken_or_none c.take_field.result w c.unwrap_or.result c.unwrap_or.ensures (c.take_field.ensures l) e

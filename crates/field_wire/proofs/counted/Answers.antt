@@ -1,25 +1,31 @@
-use mathlib.Core.Path.{refl}
+use mathlib.Core.Path.{refl, ◌∙◌}
 use mathlib.Core.Bool.{false}
-use Rattle.format.specs.Wire.{count}
-use Rattle.field_wire.proofs.Laws.{nothing, count_low, count_cut, count_all}
+use Prim.Native.Nat.{◌<◌, ◌≤◌}
+use lib.ListN.{length}
+use borrow.Author.Rules.{rules}
 use native.Mathlib.Omega.{arith}
+use Rattle.format.specs.Wire.{count}
+use Rattle.field_wire.proofs.Laws.{nothing, count_low, count_cut, count_all, all_left}
 use Rattle.field_wire.proofs.counted.Goals as goal
 
-pub returns-then-e-i : goal.returns-then-e-i
-returns-then-e-i c = nothing _ _ _ c.requires.1 (count c.args.lo) false refl c.if-e-i.true
+pub returns-then-is_empty : goal.returns-then-is_empty
+returns-then-is_empty c =
+    let h : length c.args.p.now ≤ 0 = search rules in
+    nothing c.args.p.now 0 (length c.args.p.now) (omega arith) (count c.args.lo) false refl h ∙ all_left (count c.args.lo) c.args.p.now
 
-pub returns-then-b-lo : goal.returns-then-b-lo
-returns-then-b-lo c =
-    count_low _ _ _ c.requires.1 c.if-e-i.false _ c.if-b-lo.true
+pub returns-then-p-lo : goal.returns-then-p-lo
+returns-then-p-lo c =
+    let h : 0 < length c.args.p.now = search rules in
+    count_low c.args.p.now 0 (length c.args.p.now) (omega arith) h c.args.lo c.if-p-lo.true ∙ all_left (count c.args.lo) c.args.p.now
 
-pub overflow_cast-n : goal.overflow_cast-n
-overflow_cast-n c =
-    omega (arith, c.type_inv.p c.args.i)
-
-pub returns-then-e-i-2 : goal.returns-then-e-i-2
-returns-then-e-i-2 c =
-    count_cut _ _ _ c.requires.1 c.if-e-i.false _ _ refl c.if-b-lo.false c.if-e-i-2.true
+pub returns-then-p-n : goal.returns-then-p-n
+returns-then-p-n c =
+    let h : 0 < length c.args.p.now = search rules in
+    count_cut c.args.p.now 0 (length c.args.p.now) (omega arith) h c.args.lo c.from-n.result c.from-n.ensures (omega (arith, c.from-n.ensures)) (omega arith)
+    ∙ all_left (count c.args.lo) c.args.p.now
 
 pub returns : goal.returns
 returns c =
-    count_all _ _ _ c.requires.1 c.if-e-i.false _ _ refl c.if-b-lo.false c.if-e-i-2.false
+    let h : 0 < length c.args.p.now = search rules in
+    count_all c.args.p.now 0 (length c.args.p.now) (omega arith) h c.args.lo c.from-n.result c.from-n.ensures (omega (arith, c.from-n.ensures)) (omega arith)
+    ∙ all_left (count c.args.lo) c.args.p.now

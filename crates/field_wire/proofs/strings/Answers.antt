@@ -1,33 +1,37 @@
-use Prim.Native.Nat.{◌-◌}
+use Prim.Native.Nat.{◌≤◌, ◌<◌}
 use mathlib.Core.Path.{refl, ◌∙◌}
 use mathlib.Core.Bool.{true, false}
+use lib.ListN.{length}
 use Rattle.format.specs.Wire.{string_count, short}
-use Rattle.field_wire.proofs.Laws.{whole, whole_so_far, at_first, nothing, string_cut, string_again, string_there}
+use Rattle.field_wire.proofs.Laws.{whole, whole_so_far, plus_none, nothing, string_cut, string_again, string_there, all_left}
 use native.Mathlib.Omega.{arith}
 use borrow.Author.Rules.{rules}
 use Rattle.field_wire.proofs.strings.Goals as goal
 
-pub returns-then-e-i : goal.returns-then-e-i
-returns-then-e-i c = nothing _ _ _ c.requires.1 (string_count false) false refl c.if-e-i.true
+pub returns-then-is_empty : goal.returns-then-is_empty
+returns-then-is_empty c =
+    let h : length c.args.p.now ≤ 0 = search rules in
+    nothing c.args.p.now 0 (length c.args.p.now) (omega arith) (string_count false) false refl h ∙ all_left (string_count false) c.args.p.now
 
 pub loop-j-init : goal.loop-j-init
-loop-j-init c = (search rules, c.requires.0, string_there _ _ _ c.requires.1 c.if-e-i.false false true ∙ at_first _ _)
+loop-j-init c =
+    let h : 0 < length c.args.p.now = search rules in
+    (search rules, string_there c.args.p.now 0 (length c.args.p.now) (omega arith) h false true ∙ plus_none _)
 
-pub overflow_cast-n : goal.overflow_cast-n
-overflow_cast-n c =
-    omega (arith, c.shared_slice_known-1.given c.loop-j.j)
-
-pub returns-then-e-j : goal.returns-then-e-j
-returns-then-e-j c =
-    whole _ _ _ short c.loop-j.invariant.2 (string_cut _ _ _ c.requires.1 c.loop-j-test.true true _ refl c.if-e-j.true)
+pub returns-then-p-j : goal.returns-then-p-j
+returns-then-p-j c =
+    whole _ _ _ short c.loop-j.invariant.1
+    (string_cut c.args.p.now c.loop-j.j (length c.args.p.now) (omega arith) c.loop-j-test.true true c.from-n.result c.from-n.ensures (omega arith))
+    ∙ all_left (string_count false) c.args.p.now
 
 pub loop-j-preserved : goal.loop-j-preserved
 loop-j-preserved c = (
-  search rules,
-  search rules,
-  string_again _ _ _ _ c.requires.1 c.loop-j-test.true _ _ c.loop-j.invariant.0 c.loop-j.invariant.2 refl c.if-e-j.false,
+  omega arith,
+  string_again c.args.p.now c.loop-j.j (length c.args.p.now) (omega arith) c.loop-j-test.true c.from-n.result _ c.loop-j.invariant.1 c.from-n.ensures (omega arith),
 )
 
 pub returns : goal.returns
 returns c =
-    whole_so_far _ _ _ _ c.loop-j.invariant.2 (nothing _ _ _ c.requires.1 (string_count true) true refl c.loop-j-test.false)
+    whole_so_far c.loop-j.j _ _ c.loop-j.invariant.1
+    (nothing c.args.p.now c.loop-j.j (length c.args.p.now) (omega arith) (string_count true) true refl c.loop-j-test.false)
+    ∙ all_left (string_count false) c.args.p.now

@@ -1,11 +1,8 @@
-use Rattle.catalogue.specs.Entries.{names_of}
-use mathlib.Core.Path.{◌≡◌}
-use mathlib.Core.List.{List}
-use Prim.Native.Nat.{ℕ, ◌+◌, ◌-◌, ◌≤◌}
-use lib.ListN.{length, drop}
+use Rattle.std.proofs.Common.{◌≤◌, ◌≡◌, List, ℕ, length, drop}
+use Rattle.catalogue.specs.Known.{names_in}
 use Rattle.format.specs.Token.{tokens}
 use Rattle.format.specs.Run.{read_field}
-use Rattle.run_wire.specs.Run.{kinds_from}
+use Rattle.run_wire.specs.Run.{kinds_of}
 use Rattle.run_read.specs.Reading.{Stands}
 use Rattle.run_read.proofs.Runs.{Ahead}
 use Rattle.stanza_form.specs.Code.{fields_of}
@@ -15,10 +12,7 @@ use Rattle.run_read.proofs.read_run.Given as goal
 -- tokens from i on, tell what the run makes of all the tokens.
 abbrev pub invariant-loop-k : goal.invariant-loop-k
 invariant-loop-k l =
-    (l.k ≤ l.many) × (l.i ≤ length l.t) × (l.n ≤ 65536) × (length l.out ≡ length l.initial.out)
+    (l.i ≤ length l.t) × (l.n ≤ 65536)
     × ((xs : List ℕ) × Stands l.initial.out l.out l.n xs
-    × Ahead (λ j ts. read_field (names_of l.names l.types) j l.origin ts) (kinds_from l.s (fields_of l.codes) l.first l.many) (tokens l.t)
-    (kinds_from l.s (fields_of l.codes) (l.first + l.k) (l.many - l.k)) (tokens (drop l.i l.t)) l.k xs)
-
-abbrev pub decreases-loop-k : goal.decreases-loop-k
-decreases-loop-k l = l.many - l.k
+    × Ahead (λ j ts. read_field (names_in l.u.c) j l.u.origin.now ts) (kinds_of l.u.s.now (fields_of l.codes)) (tokens l.t)
+    (kinds_of l.u.s.now (fields_of (drop l.k l.codes))) (tokens (drop l.i l.t)) l.k xs)
