@@ -3,7 +3,7 @@ use Prim.Native.Nat.{ℕ, zero, suc, ◌+◌, ◌*◌, ◌-◌, ◌^◌, ◌≤�
 use mathlib.Core.Path.{◌≡◌, refl}
 use mathlib.Core.Bool.{Bool, true, false, not, cond, ◌&&◌, ◌||◌}
 use mathlib.Core.List.{List, [], ◌∷◌, ◌++◌, map}
-use mathlib.Core.Option.{Option, none, some}
+use Rattle.std.specs.Prelude.{Option, None, Some}
 use native.Mathlib.Omega.{arith}
 use native.Mathlib.Nat.{pow-suc, mul-le-mul_right}
 use lib.ListN.{length}
@@ -35,16 +35,16 @@ use Rattle.format.proofs.Bitmap.{window_length}
 
 -- What an option holds has a property, where it holds anything; and what a test picks.
 abbrev Gives : {A : Type 0} → (A → Type 0) → Option A → Type 0
-Gives P none = Unit {0}
-Gives P (some x) = P x
+Gives P None = Unit {0}
+Gives P (Some x) = P x
 
 gives_then : {A B : Type 0} (P : A → Type 0) (Q : B → Type 0) (o : Option A) (f : A → Option B) → Gives P o → ((x : A) → P x → Gives Q (f x)) → Gives Q (o >>= f)
-gives_then P Q none f h k = tt
-gives_then P Q (some x) f h k = k x h
+gives_then P Q None f h k = tt
+gives_then P Q (Some x) f h k = k x h
 
 gives_after : {A B : Type 0} (Q : B → Type 0) (o : Option A) (f : A → Option B) → ((x : A) → Gives Q (f x)) → Gives Q (o >>= f)
-gives_after Q none f k = tt
-gives_after Q (some x) f k = k x
+gives_after Q None f k = tt
+gives_after Q (Some x) f k = k x
 
 gives_provided : {A : Type 0} (P : A → Type 0) (b : Bool) (x : A) → (b ≡ true → P x) → Gives P (provided b x)
 gives_provided P true x h = h refl
@@ -52,9 +52,9 @@ gives_provided P false x h = tt
 
 gives_both : {A : Type 0} (P : A → Type 0) (Q : List A → Type 0) → ((x : A) (xs : List A) → P x → Q xs → Q (x ∷ xs)) → (o : Option A) (p : Option (List A)) → Gives P o → Gives Q p
     → Gives Q (cons_both o p)
-gives_both P Q h none p a b = tt
-gives_both P Q h (some x) none a b = tt
-gives_both P Q h (some x) (some xs) a b = h x xs a b
+gives_both P Q h None p a b = tt
+gives_both P Q h (Some x) None a b = tt
+gives_both P Q h (Some x) (Some xs) a b = h x xs a b
 
 on_test : {A : Type 0} (P : A → Type 0) (b : Bool) (x y : A) → (b ≡ true → P x) → P y → P (cond b x y)
 on_test P true x y h k = h refl
@@ -84,11 +84,11 @@ Reader f = (t : List ℕ) → Octets t → Gives Octets (f t)
 octets_then : (o : Option (List ℕ)) (f : List ℕ → Option (List ℕ)) → Gives Octets o → Reader f → Gives Octets (o >>= f)
 octets_then o f h k = gives_then Octets Octets o f h k
 
-made_octets : {A : Type 0} (o : Option A) (g : A → List ℕ) → ((x : A) → Octets (g x)) → Gives Octets (o >>= λ x. some (g x))
-made_octets o g h = gives_after Octets o (λ x. some (g x)) h
+made_octets : {A : Type 0} (o : Option A) (g : A → List ℕ) → ((x : A) → Octets (g x)) → Gives Octets (o >>= λ x. Some (g x))
+made_octets o g h = gives_after Octets o (λ x. Some (g x)) h
 
 -- I1, I2, I4, R, T, AA and AAAA: numbers as digits in base 256
-number_octets : (w : ℕ) (o : Option ℕ) → Gives Octets (o >>= λ v. some (digits 256 w v))
+number_octets : (w : ℕ) (o : Option ℕ) → Gives Octets (o >>= λ v. Some (digits 256 w v))
 number_octets w o = made_octets o (digits 256 w) (λ v. digits_below 256 w v (omega arith))
 
 groups_octets : (gs : List ℕ) → Octets (group_octets gs)
@@ -102,7 +102,7 @@ below_less m o = gives_after (Less m) o (λ v. provided (ltb v m) v) (λ v. give
 digit_less : (b x : ℕ) → Gives (Less b) (digit_value b x)
 digit_less b x =
     on_test (Gives (Less b)) (digit x) (here (x - 48)) _ (λ e. tested (x - 48))
-    (on_test (Gives (Less b)) (letter x) (here (lowered x - 97 + 10)) none (λ e. tested (lowered x - 97 + 10)) tt)
+    (on_test (Gives (Less b)) (letter x) (here (lowered x - 97 + 10)) None (λ e. tested (lowered x - 97 + 10)) tt)
   where
     here : ℕ → Option ℕ
     here v = provided (ltb v b) v
@@ -119,10 +119,10 @@ pair_less [] = tt
 pair_less (a ∷ []) = tt
 pair_less (a ∷ b ∷ []) = by (digit_value 16 a) (digit_value 16 b) (digit_less 16 a) (digit_less 16 b)
   where
-    by : (o p : Option ℕ) → Gives (Less 16) o → Gives (Less 16) p → Gives (Less 256) (cons_both o (cons_both p (some [])) >>= λ ds. some (number 16 ds))
-    by none p h k = tt
-    by (some x) none h k = tt
-    by (some x) (some y) h k = omega arith
+    by : (o p : Option ℕ) → Gives (Less 16) o → Gives (Less 16) p → Gives (Less 256) (cons_both o (cons_both p (Some [])) >>= λ ds. Some (number 16 ds))
+    by None p h k = tt
+    by (Some x) None h k = tt
+    by (Some x) (Some y) h k = omega arith
 pair_less (a ∷ b ∷ c ∷ t) = rw (ne_eqb (suc (suc (suc (length t)))) 2 (omega arith)) tt
 
 separated_octets : (n c : ℕ) (f : List ℕ → Option ℕ) → ((t : List ℕ) → Gives (Less 256) (f t)) → (t : List ℕ) → Gives Octets (exactly n (each_of f (split_on c t)))
@@ -148,7 +148,7 @@ whole_octets_lem : (w m v : ℕ) (bs : List ℕ) → suc v * 2 ^ m ≤ 256 → B
 whole_octets_lem w m v [] h b = gives_provided Octets (ltb (8 - m) w && eqb v 0) [] (λ e. tt)
 whole_octets_lem w zero v (c ∷ bs) h b = tt
 whole_octets_lem w (suc zero) v (c ∷ bs) h b =
-    gives_both (Less 256) Octets (λ x xs h k. (h, k)) (some (v * 2 + c)) (whole_octets w 8 0 bs) (omega (arith, b.0)) (whole_octets_lem w 8 0 bs (omega arith) b.1)
+    gives_both (Less 256) Octets (λ x xs h k. (h, k)) (Some (v * 2 + c)) (whole_octets w 8 0 bs) (omega (arith, b.0)) (whole_octets_lem w 8 0 bs (omega arith) b.1)
 whole_octets_lem w (suc (suc m)) v (c ∷ bs) h b =
     let l : suc (v * 2 + c) ≤ suc v * 2 = omega (arith, b.0) in
     let g : suc v * (2 ^ suc m * 2) ≤ 256 = rw (pow-suc 2 (suc m)) at h in
@@ -159,7 +159,7 @@ base_octets w ds = whole_octets_lem w 8 0 (bits w ds) (omega arith) (bits_below 
 
 unpadded_octets : (s : Spanned) → Gives Octets (unpadded s)
 unpadded_octets s =
-    on_test (Gives Octets) (same_octets s.rest (padding (length s.front))) (each_of base64_value s.front >>= from_digits 6) none
+    on_test (Gives Octets) (same_octets s.rest (padding (length s.front))) (each_of base64_value s.front >>= from_digits 6) None
     (λ e. gives_after Octets (each_of base64_value s.front) (from_digits 6) (base_octets 6)) tt
 
 -- R[L]: a block's window is one of 256, its count at most 32, and its octets are of eight bits
@@ -279,12 +279,12 @@ items_octets e (x ∷ xs) b = by (escape_step e x) (step_means e x b.0) (λ f. i
   where
     by : (m : EscapeMove) → Means m → ((f : Escaping) → Gives Items (unescaped_from f xs)) → Gives Items (after_escape m (λ f. unescaped_from f xs))
     by (moves f) h ih = ih f
-    by (gives i) h ih = gives_both (λ i. octet_of i < 256) Items (λ i is a c. (a, c)) (some i) (unescaped_from outside xs) h (ih outside)
+    by (gives i) h ih = gives_both (λ i. octet_of i < 256) Items (λ i is a c. (a, c)) (Some i) (unescaped_from outside xs) h (ih outside)
     by bad_escape h ih = tt
 
 value_octets : (t : Token) → Written t → Gives Octets (string_value t)
 value_octets (bare t) w = gives_provided Octets (not (among 92 t)) t (λ e. w)
-value_octets (quoted t) w = gives_then Items Octets (unescaped t) (λ is. some (map octet_of is)) (items_octets outside t w) (λ is h. h)
+value_octets (quoted t) w = gives_then Items Octets (unescaped t) (λ is. Some (map octet_of is)) (items_octets outside t w) (λ is h. h)
 value_octets broken w = tt
 
 string_octets : (t : Token) → Written t → Gives Octets (read_string t)
@@ -303,18 +303,18 @@ parts_octets (i ∷ is) h = by (is_dot i) (split is_dot is) (parts_octets is h.1
 label_octets : (l w : List ℕ) → Octets l → Octets w → Gives Octets (label_before l w)
 label_octets l w a b = gives_provided Octets (in_range 1 63 (length l)) (with_count l ++ w) (λ e. (count_small 1 63 l (omega arith) e, below_append 256 l w a b))
 
-wire_octets : (o : List ℕ) (ps : List (List ℕ)) → Octets o → All Octets ps → Gives Octets (wire_name (some o) ps)
+wire_octets : (o : List ℕ) (ps : List (List ℕ)) → Octets o → All Octets ps → Gives Octets (wire_name (Some o) ps)
 unfolding wire_name
 wire_octets o [] b h = tt
-wire_octets o (l ∷ []) b h = on_test (Gives Octets) (null l) (some (0 ∷ [])) (label_before l o) (λ e. (omega arith, tt)) (label_octets l o h.0 b)
-wire_octets o (l ∷ m ∷ ls) b h = octets_then (wire_name (some o) (m ∷ ls)) (label_before l) (wire_octets o (m ∷ ls) b h.1) (λ w c. label_octets l w h.0 c)
+wire_octets o (l ∷ []) b h = on_test (Gives Octets) (null l) (Some (0 ∷ [])) (label_before l o) (λ e. (omega arith, tt)) (label_octets l o h.0 b)
+wire_octets o (l ∷ m ∷ ls) b h = octets_then (wire_name (Some o) (m ∷ ls)) (label_before l) (wire_octets o (m ∷ ls) b h.1) (λ w c. label_octets l w h.0 c)
 
 name_octets : (o : List ℕ) → Octets o → Reader (read_name o)
 name_octets o b t c =
-    on_test (Gives Octets) (same_octets t (ascii "@")) (some o) (name_of (some o) t) (λ e. b)
-    (on_test (Gives Octets) (same_octets t (ascii ".")) (some (0 ∷ [])) _ (λ e. (omega arith, tt))
+    on_test (Gives Octets) (same_octets t (ascii "@")) (Some o) (name_of (Some o) t) (λ e. b)
+    (on_test (Gives Octets) (same_octets t (ascii ".")) (Some (0 ∷ [])) _ (λ e. (omega arith, tt))
     (gives_then Items Octets (unescaped t) _ (items_octets outside t c)
-    (λ is h. octets_then (wire_name (some o) (map (map octet_of) (split is_dot is))) _ (wire_octets o (map (map octet_of) (split is_dot is)) b (parts_octets is h))
+    (λ is h. octets_then (wire_name (Some o) (map (map octet_of) (split is_dot is))) _ (wire_octets o (map (map octet_of) (split is_dot is)) b (parts_octets is h))
     (λ w d. gives_provided Octets (leb (length w) 255) w (λ e. d)))))
 
 -- What a field gets of such tokens is octets, and tokens left; one token and all of them pass a reader's law on.
@@ -324,8 +324,8 @@ Fine bad_token = Unit {0}
 Fine (got p ts) = Octets p × All Written ts
 
 or_fine : (o : Option (List ℕ)) (ts : List Token) → Gives Octets o → All Written ts → Fine (got_or o ts)
-or_fine none ts h w = tt
-or_fine (some p) ts h w = (h, w)
+or_fine None ts h w = tt
+or_fine (Some p) ts h w = (h, w)
 
 bare_written : (t : Token) → Written t → Gives Octets (bare_of t)
 bare_written (bare t) w = w
@@ -361,15 +361,15 @@ module _ (types : List TypeName) (o : List ℕ) (b : Octets o) (ts : List Token)
   field_fine (name m) = on_test Fine (m.optional && null ts) (got [] []) (one_bare (read_name o) ts) (λ e. (tt, tt)) (bare_fine (read_name o) (name_octets o b) ts w)
   field_fine str = token_fine read_string string_octets ts w
   field_fine strs =
-      let h = gives_then (λ l. Octets (flat l)) Octets (each_of read_string ts) (λ l. some (flat l)) (each_flat Written read_string string_octets ts w) (λ l h. h) in
-      on_test Fine (null ts) no_token _ (λ e. tt) (or_fine (each_of read_string ts >>= λ l. some (flat l)) [] h tt)
+      let h = gives_then (λ l. Octets (flat l)) Octets (each_of read_string ts) (λ l. Some (flat l)) (each_flat Written read_string string_octets ts w) (λ l h. h) in
+      on_test Fine (null ts) no_token _ (λ e. tt) (or_fine (each_of read_string ts >>= λ l. Some (flat l)) [] h tt)
   field_fine raw = token_fine read_raw (λ t c. octets_then (string_value t) not_empty (value_octets t c) some_octets) ts w
   field_fine b32 =
       bare_fine read_base32 (λ t c. gives_after Octets (each_of (digit_value 32) t) _ (λ ds. octets_then (from_digits 5 ds) (counted 1) (base_octets 5 ds) (counted_octets 1))) ts w
   field_fine b64 = bares_fine read_base64 (λ t c. unpadded_octets (span not_padding t)) ts w
   field_fine hex = bares_fine from_hex (λ t c. hex_octets t) ts w
   field_fine hexc =
-      bare_fine read_counted_hex (λ t c. on_test (Gives Octets) (same_octets t (ascii "-")) (some (with_count [])) _ (λ e. (omega arith, tt)) (octets_then (from_hex t) (counted 1) (hex_octets t) (counted_octets 1))) ts w
+      bare_fine read_counted_hex (λ t c. on_test (Gives Octets) (same_octets t (ascii "-")) (Some (with_count [])) _ (λ e. (omega arith, tt)) (octets_then (from_hex t) (counted 1) (hex_octets t) (counted_octets 1))) ts w
   field_fine (eui v) = bare_fine (read_eui v) (λ t c. separated_octets v 45 hex_pair pair_less t) ts w
   field_fine time =
       bare_fine read_time (λ t c. number_octets 4 (below (2 ^ 32) (cond (eqb (length t) 14) (each_of (digit_value 10) t >>= moment_of) (decimal_of t)))) ts w

@@ -3,7 +3,7 @@ use Prim.Native.Nat.{ℕ, zero, suc, ◌+◌, ◌-◌, ◌≤◌, ◌<◌}
 use mathlib.Core.Path.{◌≡◌, refl, sym}
 use mathlib.Core.Bool.{Bool, true, false, not, cond, ◌||◌, ◌&&◌, true≢false}
 use mathlib.Core.List.{List, [], ◌∷◌, ◌++◌}
-use mathlib.Core.Option.{Option, none, some}
+use Rattle.std.specs.Prelude.{Option, None, Some}
 use native.Mathlib.Omega.{arith}
 use lib.ListN.{length, take, drop, length-take, length-drop, length-append}
 use lib.Dec.{leb, ltb, eqb}
@@ -135,13 +135,13 @@ module _ (l : Lent) (many room : ℕ) where
   content_faulty in_file before_header indented end t = either Faulty indented (faulty 2) (of_header (header_line end t)) bad_grammar (by (header_line end t))
     where
       by : (h : Option Header) → Faulty (of_header h)
-      by none = bad_grammar
-      by (some h) = either Faulty (in_range 1 65535 h.type_no) _ _ tt (λ i h. not_allowed h, refl)
+      by None = bad_grammar
+      by (Some h) = either Faulty (in_range 1 65535 h.type_no) _ _ tt (λ i h. not_allowed h, refl)
   content_faulty in_file (after_header d) indented end t = either Faulty (as_set in_file indented) (of_field_line d (field_line end t)) (faulty 2) (by (field_line end t)) bad_grammar
     where
       by : (f : Option FieldLine) → Faulty (of_field_line d f)
-      by none = bad_grammar
-      by (some f) = field_faulty d f (meaning f.keyword f.qualifiers)
+      by None = bad_grammar
+      by (Some f) = field_faulty d f (meaning f.keyword f.qualifiers)
 
   line_faulty : (in_file : Bool) (p : Progress) (q : Part) → Faulty (line_verdict in_file p q)
   line_faulty in_file p q =
@@ -265,10 +265,10 @@ bad_from earlier names (e ∷ es) i h q = by (ltb (length earlier) 512) refl q (
     here q = let z : suc (length earlier) ≡ i = cc in (omega arith, omega arith)
 
     on : length earlier < 512 → (o : Option TypeName) → after_entry o (suc (length earlier)) (λ n. catalogued_from (earlier ++ n ∷ []) names es) ≡ bad_entry i → Later → (1 ≤ i) × (i ≤ 513)
-    on l none q ih = here q
-    on l (some n) q ih = ih n (omega (arith, length-append earlier (n ∷ []))) q
+    on l None q ih = here q
+    on l (Some n) q ih = ih n (omega (arith, length-append earlier (n ∷ []))) q
 
-    by : (b : Bool) → ltb (length earlier) 512 ≡ b → after_entry (cond b (entry_after earlier names e) none) (suc (length earlier)) (λ n. catalogued_from (earlier ++ n ∷ []) names es) ≡ bad_entry i → Later
+    by : (b : Bool) → ltb (length earlier) 512 ≡ b → after_entry (cond b (entry_after earlier names e) None) (suc (length earlier)) (λ n. catalogued_from (earlier ++ n ∷ []) names es) ≡ bad_entry i → Later
         → (1 ≤ i) × (i ≤ 513)
     by true l q ih = on (ltb-true (length earlier) 512 l) (entry_after earlier names e) q ih
     by false l q ih = here q

@@ -7,6 +7,7 @@ ghost use Rattle.format.specs.Entries.{judge_of};
 ghost use Rattle.stanza_judge.specs.Stanza.{Outlined};
 ghost use Rattle.entry.specs.Entries.{Replies, JudgePromise, JudgeStoredPromise, unpacked};
 
+use run_wire::Refusal;
 use stanza_judge::Outline;
 
 // An answer: 0 and a count, or a refusal's number and place.
@@ -18,17 +19,32 @@ pub struct Reply {
 
 // A refusal.
 pub fn refused(number: u32, place: u32) -> Reply
-    ensures { (result.number ≡ number) × (result.place ≡ place) }
+    ensures number { result.number ≡ number }
+    ensures place { result.place ≡ place }
 {
-    Reply {
-        number: number,
-        place: place,
-    }
+    Reply { number, place }
+}
+
+// The refusal of a run's octets or text.
+pub fn refused_run(r: Refusal) -> Reply
+    ensures number { result.number ≡ r.number }
+    ensures place { result.place ≡ r.place }
+{
+    refused(r.number, r.place)
+}
+
+// The refusal of a description.
+pub fn rejected(outline: Outline) -> Reply
+    ensures number { result.number ≡ outline.number }
+    ensures place { result.place ≡ outline.line }
+{
+    refused(u32::from(outline.number), u32::from(outline.line))
 }
 
 // Success, with the count of fields or octets.
 pub fn accepted(count: u32) -> Reply
-    ensures { (result.number ≡ 0) × (result.place ≡ count) }
+    ensures number { result.number ≡ 0 }
+    ensures place { result.place ≡ count }
 {
     Reply {
         number: 0,
@@ -41,11 +57,10 @@ fn replied(outline: Outline) -> Reply
     requires { outline.number ≡ 0 → outline.count ≤ 64 }
     ensures { (l : Lent) (s codes : List ℕ) → Outlined l s codes outline → Replies result (judge_of l) }
 {
-    let n = outline.number;
-    if n == 0 {
+    if outline.number == 0 {
         return accepted(outline.count as u32);
     }
-    refused(n as u32, outline.line as u32)
+    rejected(outline)
 }
 
 // Judges a description in a file.
@@ -70,18 +85,13 @@ pub fn judge_stored(txt: &[u8], edition: usize) -> Reply
 pub fn is_run(first: usize, many: usize, count: usize) -> bool
     ensures { result ≡ leb 1 first && leb (first - 1 + many) count }
 {
-    if first < 1 {
-        return false;
-    }
-    if count < many {
-        return false;
-    }
-    first - 1 <= count - many
+    1 <= first && many <= count && first - 1 <= count - many
 }
 
 // An answer in 64 bits: the number in the upper 32, the place or the count in the lower.
 pub fn packed(r: Reply) -> u64
-    ensures { ((unpacked result).number ≡ r.number) × ((unpacked result).place ≡ r.place) }
+    ensures number { (unpacked result).number ≡ r.number }
+    ensures place { (unpacked result).place ≡ r.place }
 {
-    (r.number as u64) * 4294967296 + r.place as u64
+    u64::from(r.number) * 4294967296 + u64::from(r.place)
 }

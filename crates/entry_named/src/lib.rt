@@ -23,9 +23,9 @@ pub fn print_named(
 ) -> Reply
     ensures { PrintWithPromise stanza.now first length (parallel numbers.now starts.now lengths.now) names.now rdata.now out.old at result out.new }
 {
-    let mut raw = [0u64; 513];
+    let mut raw = [0; 513];
     let n = catalogue_pack::pack(numbers, starts, lengths, &mut raw);
-    entry_print::print_with(stanza, first, length, &raw[0..n], names, rdata, out, at)
+    entry_print::print_with(stanza, first, length, &raw[..n], names, rdata, out, at)
 }
 
 // Reads a text under `length` fields of a description, starting at `first`, with the names of types in the catalogue: see
@@ -45,13 +45,13 @@ pub fn read_named(
 ) -> Reply
     ensures { ReadWithPromise stanza.now first length (parallel numbers.now starts.now lengths.now) names.now origin.now text.now out.old at result out.new }
 {
-    let mut raw = [0u64; 513];
+    let mut raw = [0; 513];
     let n = catalogue_pack::pack(numbers, starts, lengths, &mut raw);
     entry_read::read_with(
         stanza,
         first,
         length,
-        &raw[0..n],
+        &raw[..n],
         names,
         origin,
         text,

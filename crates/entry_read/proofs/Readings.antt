@@ -1,11 +1,10 @@
 -- What reading answers, refusal by refusal.
 use Prim.Native.Nat.{ℕ, ◌+◌, ◌-◌, ◌≤◌, ◌<◌}
-use mathlib.Core.Path.{◌≡◌, ap, ◌∙◌}
+use mathlib.Core.Path.{◌≡◌, ap}
 use mathlib.Core.Bool.{true, false, ◌&&◌}
 use mathlib.Core.List.{List}
 use native.Mathlib.Omega.{arith}
 use lib.ListN.{length}
-use lib.Seq.{slice}
 use lib.Dec.{leb}
 use borrow.Author.Tests.{le-leb, lt-leb}
 use Rattle.format.specs.Wire.{label_length, taken, takes_all}
@@ -16,17 +15,22 @@ use Rattle.format.specs.Entries.{refusal, of_catalogue, reading_of}
 use Rattle.stanza_form.specs.Code.{fields_of}
 use Rattle.stanza_judge.specs.declared.Outline.{Outline}
 use Rattle.stanza_judge.specs.Stanza.{Outlined}
-use Rattle.run_wire.specs.Run.{kinds_from}
-use Rattle.format.proofs.Lists.{to_end}
-use Rattle.field_wire.specs.declared.Take.{Take}
+use Rattle.run_wire.specs.Run.{kinds_of}
+use Rattle.std.specs.Prelude.{Result, Err}
+use Rattle.buffer.specs.declared.lack.Lack.{Lack}
+use Rattle.buffer.specs.declared.lack.Lack.TheVariants.{Missing, Fault}
 use Rattle.field_wire.specs.Wire.{taken_in}
 use Rattle.entry.specs.Entries.{run_octets}
 use Rattle.entry.proofs.Laws.{accepted, refused as not-judged}
-use Rattle.entry.proofs.Runs.{kinds_length, run_kinds}
+use Rattle.entry.proofs.Runs.{run_codes, kinds_length, run_kinds}
 
 -- "one whole wire name"
-pub whole_name : (p : List ℕ) (t : Take) → taken_in t ≡ taken (label_length false 0) (slice 0 (length p) p) → takes_all (taken_in t) p ≡ is_wire_name p
-whole_name p t e = ap (λ x. takes_all x p) (e ∙ ap (taken (label_length false 0)) (to_end p 0))
+pub whole_name : (p : List ℕ) (t : Result ℕ Lack) → taken_in t ≡ taken (label_length false 0) p → takes_all (taken_in t) p ≡ is_wire_name p
+whole_name p t e = ap (λ x. takes_all x p) e
+
+pub no_name : (p : List ℕ) (w : Lack) → taken_in (Err w) ≡ taken (label_length false 0) p → false ≡ is_wire_name p
+no_name p Missing e = whole_name p (Err Missing) e
+no_name p Fault e = whole_name p (Err Fault) e
 
 -- refusals 1, the description's, 6 and 7
 module _ (l : Lent) (es : List Entry) (names : List ℕ) where
@@ -49,6 +53,6 @@ module _ (l : Lent) (es : List Entry) (names : List ℕ) where
         unfolding reading_of
         read_no_origin w = rw (le-leb (length text) 1048576 h, accepted q n, kinds_length q, ← r, w)
 
-        pub read_runs : is_wire_name origin ≡ true → reading_of l first many es names origin text ≡ of_catalogue (catalogued names es) (λ c. run_octets c (kinds_from s (fields_of codes) (first - 1) many) origin text)
+        pub read_runs : o.count ≤ length codes → is_wire_name origin ≡ true → reading_of l first many es names origin text ≡ of_catalogue (catalogued names es) (λ c. run_octets c (kinds_of s (fields_of (run_codes first many codes))) origin text)
         unfolding reading_of
-        read_runs w = rw (le-leb (length text) 1048576 h, accepted q n, kinds_length q, ← r, w, run_kinds q first many r)
+        read_runs room w = rw (le-leb (length text) 1048576 h, accepted q n, kinds_length q, ← r, w, run_kinds q room first many r)

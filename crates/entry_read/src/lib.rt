@@ -10,31 +10,27 @@ ghost use Rattle.stanza_form.specs.Code.{fields_of};
 ghost use Rattle.stanza_judge.specs.Stanza.{Outlined};
 ghost use Rattle.stanza_stored.specs.Stored.{lent_as};
 ghost use Rattle.catalogue.specs.Entries.{entries_at};
-ghost use Rattle.run_wire.specs.Run.{kinds_from, UsableRun};
+ghost use Rattle.run_wire.specs.Run.{kinds_of, UsableRun};
 ghost use Rattle.entry.specs.Entries.{Leaves, ReadPromise, ReadWithPromise, ReadStoredPromise, ReadOfPromise, with_room, run_octets};
 
-use entry::{Reply, refused};
-use field_wire::Take;
+use entry::{Reply, refused, rejected};
+use field_read::Under;
 use stanza_judge::Outline;
 
 // Whether the octets are one whole wire name.
 fn is_name(p: &[u8]) -> bool
     ensures { result ≡ is_wire_name p.now }
 {
-    let t = field_wire::name(p, 0, p.len(), false);
-    match t {
-        Take::Missing => false,
-        Take::Fault => false,
-        Take::Took(w) => w == p.len(),
+    match field_wire::name(p, false) {
+        Ok(w) => w == p.len(),
+        Err(_) => false,
     }
 }
 
-// Reads a text under a run of a judged stanza, with the names of a catalogue; 13 if it is bad.
+// Reads a text under a run of a judged stanza, given by the codes of its fields, with the names of a catalogue; 13 if it is bad.
 fn read_listed(
     s: &[u8],
-    codes: &[u64; 64],
-    first: usize,
-    many: usize,
+    codes: &[u64],
     entries: &[u64],
     names: &[u8],
     origin: &[u8],
@@ -42,14 +38,18 @@ fn read_listed(
     out: &mut [u8],
     at: usize,
 ) -> Reply
-    requires { UsableRun s.now (fields_of codes.now) first many × (is_wire_name origin.now ≡ true) × (length t.now ≤ 1048576) }
-    ensures { Leaves result out.new (with_room out.old at (of_catalogue (catalogued names.now (entries_at entries.now)) (λ c. run_octets c (kinds_from s.now (fields_of codes.now) first many) origin.now t.now))) }
+    requires run { UsableRun s.now (fields_of codes.now) }
+    requires origin { is_wire_name origin.now ≡ true }
+    requires text { length t.now ≤ 1048576 }
+    ensures { Leaves result out.new (with_room out.old at (of_catalogue (catalogued names.now (entries_at entries.now)) (λ c. run_octets c (kinds_of s.now (fields_of codes.now)) origin.now t.now))) }
 {
-    let bad = catalogue_judge::judged(entries, names);
-    if 0 < bad {
-        return refused(13, bad as u32);
+    match catalogue_judge::judged(entries, names) {
+        Err(k) => refused(13, k as u32),
+        Ok(c) => {
+            let u = Under { s, c, origin };
+            entry_room::read_run(codes, &u, t, out, at)
+        }
     }
-    entry_room::read_run(s, codes, first, many, entries, names, origin, t, out, at)
 }
 
 // Reads a text under a description that is already judged, however it was lent, with a catalogue.
@@ -66,31 +66,22 @@ fn read_under(
     out: &mut [u8],
     at: usize,
 ) -> Reply
-    requires { ((l : Lent) × Outlined l s.now codes.now outline) × (outline.number ≡ 0 → length s.now ≤ 8192) × (length t.now ≤ 1048576) }
+    requires judged { (l : Lent) × Outlined l s.now codes.now outline }
+    requires short { outline.number ≡ 0 → length s.now ≤ 8192 }
+    requires text { length t.now ≤ 1048576 }
     ensures { (l : Lent) → Outlined l s.now codes.now outline → ReadOfPromise l first many (entries_at entries.now) names.now origin.now t.now out.old at result out.new }
 {
-    let n = outline.number;
-    if 0 < n {
-        return refused(n as u32, outline.line as u32);
+    if outline.number != 0 {
+        return rejected(outline);
     }
-    if entry::is_run(first, many, outline.count) {
-        if is_name(origin) {
-            return read_listed(
-                s,
-                codes,
-                first - 1,
-                many,
-                entries,
-                names,
-                origin,
-                t,
-                out,
-                at,
-            );
-        }
+    if !entry::is_run(first, many, outline.count) {
+        return refused(6, 0);
+    }
+    if !is_name(origin) {
         return refused(7, 0);
     }
-    refused(6, 0)
+    let run = &codes[first - 1..first - 1 + many];
+    read_listed(s, run, entries, names, origin, t, out, at)
 }
 
 // The same of a stanza, with no catalogue.
@@ -105,23 +96,11 @@ pub fn read_judged(
     out: &mut [u8],
     at: usize,
 ) -> Reply
-    requires { Outlined (as_file s.now) s.now codes.now outline × (length t.now ≤ 1048576) }
+    requires judged { Outlined (as_file s.now) s.now codes.now outline }
+    requires text { length t.now ≤ 1048576 }
     ensures { ReadPromise s.now first many origin.now t.now out.old at result out.new }
 {
-    let none = [0u64; 1];
-    read_under(
-        s,
-        outline,
-        codes,
-        first,
-        many,
-        &none[0..0],
-        &s[0..0],
-        origin,
-        t,
-        out,
-        at,
-    )
+    read_under(s, outline, codes, first, many, &[], b"", origin, t, out, at)
 }
 
 // Reads a text under `length` fields of a description, starting at `first`; names without a final dot are under the origin, and
@@ -184,13 +163,12 @@ pub fn read(
 ) -> Reply
     ensures { ReadPromise stanza.now first length origin.now text.now out.old at result out.new }
 {
-    let none = [0u64; 1];
     read_lent(
         stanza,
         first,
         length,
-        &none[0..0],
-        &stanza[0..0],
+        &[],
+        b"",
         origin,
         text,
         out,
@@ -213,13 +191,12 @@ pub fn read_stored(
 ) -> Reply
     ensures { ReadStoredPromise txt.now first length edition origin.now text.now out.old at result out.new }
 {
-    let none = [0u64; 1];
     read_lent(
         txt,
         first,
         length,
-        &none[0..0],
-        &txt[0..0],
+        &[],
+        b"",
         origin,
         text,
         out,

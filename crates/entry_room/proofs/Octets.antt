@@ -14,8 +14,8 @@ use Rattle.format.specs.Run.{Parts, refused, parts, max_rdata}
 use Rattle.format.specs.Entries.{done}
 use Rattle.buffer.specs.Writing.{Wrote}
 use Rattle.buffer.proofs.Laws.{wrote_length, wrote_text}
-use Rattle.run_read.specs.declared.RunRead.{RunRead}
-use Rattle.run_read.specs.declared.RunRead.TheVariants.{Refused, Done}
+use Rattle.std.specs.Prelude.{Ok}
+use Rattle.run_wire.specs.declared.Refusal.{Refusal}
 use Rattle.run_read.specs.Reading.{Stands, Reads}
 use Rattle.entry.specs.declared.Reply.{Reply}
 use Rattle.entry.specs.Entries.{Leaves, with_room, run_parts, run_octets, ReadsIn}
@@ -37,8 +37,8 @@ stands_short {before} {after} {m} {xs} s h = by (dec_le m max_rdata)
     by (no l) = absurd (omega (arith, s.over (omega arith)))
 
 -- the front of the array that holds them
-front_of : (before after : List ℕ) (m : ℕ) (xs : List ℕ) → Wrote before after 0 m xs → m ≤ length before → take (m - 0) after ≡ xs
-front_of before after m xs w h = let z : m - 0 ≡ m = omega arith in rw z (by xs w)
+front_of : (before after : List ℕ) (m : ℕ) (xs : List ℕ) → Wrote before after 0 m xs → m ≤ length before → take m after ≡ xs
+front_of before after m xs w h = by xs w
   where
     by : (ys : List ℕ) → Wrote before after 0 m ys → take m after ≡ ys
     by [] v = let z : m ≡ 0 = omega (arith, v.count) in rw z
@@ -49,51 +49,46 @@ front_of before after m xs w h = let z : m - 0 ≡ m = omega arith in rw z (by x
 octets_done : (ns : List TypeName) (ks : List Kind) (origin text : List ℕ) (ps : List (List ℕ)) → run_parts ns ks origin text ≡ parts ps → length (flat ps) ≤ max_rdata → run_octets ns ks origin text ≡ done (flat ps)
 octets_done ns ks origin text ps e h = rw (e, le-leb (length (flat ps)) max_rdata h)
 
-module _ (ns : List TypeName) (ks : List Kind) (origin text out : List ℕ) (at : ℕ) (before after : List ℕ) (r : RunRead) (v : Reads before after r (run_parts ns ks origin text)) where
-  given : (q : RunRead) → r ≡ q → Reads before after q (run_parts ns ks origin text)
-  given q e = subst (λ x. Reads before after x (run_parts ns ks origin text)) e v
-
+module _ (ns : List TypeName) (ks : List Kind) (origin text out : List ℕ) (at : ℕ) where
   -- the run refuses the text
-  pub refused_leaves : (reply : Reply) (n i : ℕ) → r ≡ Refused n i → reply.number ≡ n → reply.place ≡ i → Leaves reply out (with_room out at (run_octets ns ks origin text))
-  refused_leaves reply n i e = leaves_refused out at n i (run_octets ns ks origin text) reply (rw (given (Refused n i) e))
+  pub refused_leaves : (reply : Reply) (r : Refusal) → run_parts ns ks origin text ≡ refused r.number r.place → reply.number ≡ r.number → reply.place ≡ r.place → Leaves reply out (with_room out at (run_octets ns ks origin text))
+  refused_leaves reply r e = leaves_refused out at r.number r.place (run_octets ns ks origin text) reply (rw e)
 
-  module _ (m : ℕ) (e : r ≡ Done m) where
+  module _ (before after : List ℕ) (m : ℕ) (v : Reads before after (Ok m) (run_parts ns ks origin text)) where
     -- there are too many octets
     pub over_leaves : (reply : Reply) → max_rdata < m → reply.number ≡ 11 → reply.place ≡ 0 → Leaves reply out (with_room out at (run_octets ns ks origin text))
     over_leaves reply h =
-        let (ps, p, s) = given (Done m) e in
+        let (ps, p, s) = v in
         leaves_refused out at 11 0 (run_octets ns ks origin text) reply (rw (p, lt-leb (length (flat ps)) max_rdata (s.over h)))
 
     module _ (h : m ≤ max_rdata) where
       -- there is no room for them
       pub measured_leaves : (reply : Reply) → length out - at < m → reply.number ≡ 12 → reply.place ≡ m → Leaves reply out (with_room out at (run_octets ns ks origin text))
       measured_leaves reply l n i =
-          let (ps, p, s) = given (Done m) e in
+          let (ps, p, s) = v in
           let w = s.whole h in
           rw (octets_done ns ks origin text ps p (omega (arith, w.count))) (leaves_measured out out at m (flat ps) reply refl w.count l n i)
 
       -- there is room for them in the lent part
       pub reads_in : m ≤ length out - at → ReadsIn ns ks origin text (length out - at)
-      reads_in l = let (ps, p, s) = given (Done m) e in let w = s.whole h in record { fields = ps; reads = p; short = omega (arith, w.count); fits = omega (arith, w.count) }
+      reads_in l = let (ps, p, s) = v in let w = s.whole h in record { fields = ps; reads = p; short = omega (arith, w.count); fits = omega (arith, w.count) }
 
       -- there is room in the array too, and they are copied from its front
-      pub copied_leaves : (reply : Reply) (o ys : List ℕ) (a w : ℕ) → o ≡ out → a ≡ min at (length out) → m ≤ length out - at → m ≤ length after → Wrote (take (length o - a) (drop a o)) ys 0 w (take (m - 0) after)
+      pub copied_leaves : (reply : Reply) (o ys : List ℕ) (a w : ℕ) → o ≡ out → a ≡ min at (length out) → m ≤ length out - at → m ≤ length after → Wrote (take (length o - a) (drop a o)) ys 0 w (take m after)
           → reply.number ≡ 0 → reply.place ≡ w → Leaves reply (take a o ++ (ys ++ drop (length o - a) (drop a o))) (with_room out at (run_octets ns ks origin text))
       copied_leaves reply o ys a w q b l f u n i =
-          let (ps, p, s) = given (Done m) e in
+          let (ps, p, s) = v in
           let x = s.whole h in
           rw (octets_done ns ks origin text ps p (omega (arith, x.count)))
           (leaves_done o out ys at a w (flat ps) reply q b (omega (arith, x.count)) (wrote_text _ (flat ps) (front_of before after m (flat ps) x (omega (arith, wrote_length x))) u) n i)
 
 -- a second reading finds what the first found: it is not refused, and there is room for what it finds
-module _ {ns : List TypeName} {ks : List Kind} {origin text : List ℕ} {room : ℕ} (z : ReadsIn ns ks origin text room) (before after : List ℕ) (r : RunRead) (v : Reads before after r (run_parts ns ks origin text)) where
-  pub again_done : (n i : ℕ) → r ≡ Refused n i → ⊥
-  again_done n i e = not_refused _ z.fields n i z.reads (subst (λ x. Reads before after x (run_parts ns ks origin text)) e v)
+module _ {ns : List TypeName} {ks : List Kind} {origin text : List ℕ} {room : ℕ} (z : ReadsIn ns ks origin text room) where
+  pub again_done : (r : Refusal) → run_parts ns ks origin text ≡ refused r.number r.place → ⊥
+  again_done r e = not_refused _ z.fields r.number r.place z.reads e
 
-  pub again_wrote : (m : ℕ) → r ≡ Done m → Wrote before after 0 m (flat z.fields)
-  again_wrote m e =
-      let (qs, p, s) = subst (λ x. Reads before after x (run_parts ns ks origin text)) e v in
-      stands_short (subst (λ ps. Stands before after m (flat ps)) (one_reading _ z.fields qs z.reads p) s) z.short
+  pub again_wrote : (before after : List ℕ) (m : ℕ) → Reads before after (Ok m) (run_parts ns ks origin text) → Wrote before after 0 m (flat z.fields)
+  again_wrote before after m (qs, p, s) = stands_short (subst (λ ps. Stands before after m (flat ps)) (one_reading _ z.fields qs z.reads p) s) z.short
 
 pub again_leaves : {ns : List TypeName} {ks : List Kind} {origin text : List ℕ} (out ys : List ℕ) (at a w : ℕ) (reply : Reply) (z : ReadsIn ns ks origin text (length out - at)) → a ≡ min at (length out)
     → Wrote (take (length out - a) (drop a out)) ys 0 w (flat z.fields) → reply.number ≡ 0 → reply.place ≡ w

@@ -1,9 +1,7 @@
 // The public entries for C.
 #![tactic(auto)]
 
-ghost use Rattle.std.specs.Prelude.{◌≤◌, length, take};
 ghost use Rattle.entry.specs.Entries.{JudgePromise, JudgeStoredPromise, PrintPromise, PrintWithPromise, PrintStoredPromise, ReadPromise, ReadWithPromise, ReadStoredPromise, unpacked};
-ghost use Rattle.catalogue.specs.Entries.{entries_at};
 ghost use Rattle.catalogue_pack.specs.Packed.{entries_of};
 
 use catalogue_pack::Entry;
@@ -56,29 +54,6 @@ pub extern "C" fn extlang_read(
     entry::packed(r)
 }
 
-// Prints with the first n numbers of an array as a catalogue's entries: `entry_print::print_with`, its answer in 64 bits.
-fn print_of(
-    stanza: &[u8],
-    first: u64,
-    many: u64,
-    raw: &[u64; 513],
-    n: usize,
-    names: &[u8],
-    rdata: &[u8],
-    out: &mut [u8],
-    at: u64,
-) -> u64
-    requires { n ≤ length raw.now }
-    ensures { PrintWithPromise stanza.now first many (entries_at (take n raw.now)) names.now rdata.now out.old at (unpacked result) out.new }
-{
-    let s = &raw[..];
-    let from = first as usize;
-    let fields = many as usize;
-    let place = at as usize;
-    let r = entry_print::print_with(stanza, from, fields, &s[..n], names, rdata, out, place);
-    entry::packed(r)
-}
-
 // Prints RDATA with the names of types in a catalogue, a slice of structs and the text that they point into: `extlang_print`
 // where there is no entry.
 #[unsafe(no_mangle)]
@@ -94,42 +69,12 @@ pub extern "C" fn extlang_print_named(
 ) -> u64
     ensures { PrintWithPromise stanza.now first length (entries_of entries.now) names.now rdata.now out.old at (unpacked result) out.new }
 {
-    let mut raw = [0u64; 513];
+    let mut raw = [0; 513];
     let n = catalogue_pack::packed(entries, &mut raw);
-    print_of(stanza, first, length, &raw, n, names, rdata, out, at)
-}
-
-// Reads with the first n numbers of an array as a catalogue's entries: `entry_read::read_with`, its answer in 64 bits.
-fn read_of(
-    stanza: &[u8],
-    first: u64,
-    many: u64,
-    raw: &[u64; 513],
-    n: usize,
-    names: &[u8],
-    origin: &[u8],
-    text: &[u8],
-    out: &mut [u8],
-    at: u64,
-) -> u64
-    requires { n ≤ length raw.now }
-    ensures { ReadWithPromise stanza.now first many (entries_at (take n raw.now)) names.now origin.now text.now out.old at (unpacked result) out.new }
-{
-    let s = &raw[..];
     let from = first as usize;
-    let fields = many as usize;
+    let many = length as usize;
     let place = at as usize;
-    let r = entry_read::read_with(
-        stanza,
-        from,
-        fields,
-        &s[..n],
-        names,
-        origin,
-        text,
-        out,
-        place,
-    );
+    let r = entry_print::print_with(stanza, from, many, &raw[..n], names, rdata, out, place);
     entry::packed(r)
 }
 
@@ -148,9 +93,23 @@ pub extern "C" fn extlang_read_named(
 ) -> u64
     ensures { ReadWithPromise stanza.now first length (entries_of entries.now) names.now origin.now text.now out.old at (unpacked result) out.new }
 {
-    let mut raw = [0u64; 513];
+    let mut raw = [0; 513];
     let n = catalogue_pack::packed(entries, &mut raw);
-    read_of(stanza, first, length, &raw, n, names, origin, text, out, at)
+    let from = first as usize;
+    let many = length as usize;
+    let place = at as usize;
+    let r = entry_read::read_with(
+        stanza,
+        from,
+        many,
+        &raw[..n],
+        names,
+        origin,
+        text,
+        out,
+        place,
+    );
+    entry::packed(r)
 }
 
 // Judges a stored description: `entry::judge_stored`, its answer in 64 bits.

@@ -1,12 +1,11 @@
-use Rattle.entry_print.proofs.Printings.{surely}
-use mathlib.Core.Bool.{false}
 use mathlib.Core.Path.{◌≡◌, refl, sym, ap, ◌∙◌}
-use Rattle.stanza_form.proofs.Forms.{is_windows, shaped}
-use Rattle.stanza_form.specs.Code.{fields_of}
-use Rattle.stanza_form.proofs.Codes.{read_at}
-use native.Mathlib.Omega.{arith}
+use mathlib.Core.Bool.{false, true≢false}
 use Rattle.stanza_form.specs.declared.Shape.{Shape}
 use Rattle.stanza_form.specs.declared.Shape.TheVariants.{Octets, Labels, Counted, Strings, Rest, Windows}
+use Rattle.stanza_form.proofs.Forms.{is_windows, shaped}
+use Rattle.entry_print.proofs.Printings.{surely_coded}
+use native.Mathlib.Omega.{arith}
+use Rattle.entry_print.proofs.surely_fits.Goals.{in-Windows, in_default-matches}
 use Rattle.entry_print.proofs.surely_fits.Goals as goal
 
 -- a shape of another variant is not that of windows
@@ -20,8 +19,9 @@ no_windows Windows h = absurd (h refl)
 
 pub returns : goal.returns
 returns c =
-    λ e ns g s xs b n a. surely ns g s (fields_of c.args.codes.now) c.args.first c.args.many xs b a (omega arith)
-    c.field-d.result (read_at c.args.codes.now _ c.field-d.ensures)
-    ((shaped _ c.field-d.result.form).windows ∙ ap is_windows (sym c.layout_of-y.ensures.0)
-    ∙ no_windows c.layout_of-y.result.shape c.in_default.not-Windows)
-    c.args.room (omega arith)
+    λ e ns g s xs b n a. elim c.match-matches.branch [
+      | in-Windows w ↦ absurd (true≢false (sym (rw w.matches-is at e)))
+      | in_default-matches w ↦ surely_coded ns g s c.args.codes.now xs b a c.in-Some.code.now (sym c.in-Some.ensures.value) c.field-d.result c.field-d.ensures
+          ((shaped _ c.field-d.result.form).windows ∙ ap is_windows (sym c.layout_of-y.ensures.shape) ∙ no_windows c.layout_of-y.result.shape w.in_default-matches.not-Windows)
+          c.args.room (omega (arith, n, c.if-room-octets.false))
+    ]

@@ -1,54 +1,64 @@
-use Rattle.catalogue.specs.Entries.{entries_at}
-use mathlib.Core.Path.{sym, ◌∙◌}
+use mathlib.Core.Path.{◌≡◌, sym, ◌∙◌}
 use Rattle.format.specs.Entries.{read_of}
+use Rattle.catalogue.specs.Entries.{entries_at}
+use Rattle.entry.proofs.Laws.{accepted_count}
 use Rattle.entry.proofs.Rooms.{leaves_refused}
-use Rattle.entry.proofs.Runs.{from_one, usable_run}
+use Rattle.entry.proofs.Runs.{run_within, usable_run}
 use Rattle.entry_read.proofs.Readings.{read_rejected, read_no_run, read_no_origin, read_runs}
 use native.Mathlib.Omega.{arith}
+use borrow.Author.Rules.{rules}
 use Rattle.entry_read.proofs.read_under.Goals as goal
 
-pub returns-then-n-gt0 : goal.returns-then-n-gt0
+pub returns-then-outline-ne0 : goal.returns-then-outline-ne0
 unfolding read_of
-returns-then-n-gt0 c =
+returns-then-outline-ne0 c =
     λ l q. leaves_refused _ c.args.at _ _ _ _
-    (read_rejected l (entries_at c.args.entries.now) c.args.names.now q c.args.origin.now c.args.t.now c.requires.2 c.args.first c.args.many
-    c.if-n-gt0.true) c.refused.ensures.0 c.refused.ensures.1
+    (read_rejected l (entries_at c.args.entries.now) c.args.names.now q c.args.origin.now c.args.t.now c.requires.text c.args.first c.args.many
+    (omega (arith, c.if-outline-ne0.true))) c.rejected.ensures.number c.rejected.ensures.place
 
-pub overflow_sub-first : goal.overflow_sub-first
-overflow_sub-first c =
-    omega (
-      arith,
-      from_one c.args.first c.args.many _ (sym c.if-is_run.true ∙ c.is_run.ensures),
-    )
-
-pub read_listed-requires : goal.read_listed-requires
-read_listed-requires c = (
-  usable_run c.requires.0.0 c.requires.0.1 (omega (arith, c.if-n-gt0.false)) c.args.first c.args.many
-      (sym c.if-is_run.true ∙ c.is_run.ensures) (c.requires.1 (omega (arith, c.if-n-gt0.false))),
-  sym c.is_name.ensures ∙ c.if-is_name.true,
-  c.requires.2,
-)
-
-pub returns-then-is_name : goal.returns-then-is_name
+pub returns-then-not-is_run : goal.returns-then-not-is_run
 unfolding read_of
-returns-then-is_name c =
-    λ l q. rw
-    (read_runs l (entries_at c.args.entries.now) c.args.names.now q c.args.origin.now c.args.t.now c.requires.2 (omega (arith, c.if-n-gt0.false)) c.args.first
-    c.args.many (sym c.if-is_run.true ∙ c.is_run.ensures) (sym c.is_name.ensures ∙ c.if-is_name.true))
-    c.read_listed.ensures
-
-pub returns-then-is_run : goal.returns-then-is_run
-unfolding read_of
-returns-then-is_run c =
+returns-then-not-is_run c =
     λ l q. leaves_refused _ c.args.at _ _ _ _
-    (read_no_origin l (entries_at c.args.entries.now) c.args.names.now q c.args.origin.now c.args.t.now c.requires.2 (omega (arith, c.if-n-gt0.false))
-    c.args.first
-    c.args.many (sym c.if-is_run.true ∙ c.is_run.ensures)
-    (sym c.is_name.ensures ∙ c.if-is_name.false)) c.refused-then-is_run.ensures.0 c.refused-then-is_run.ensures.1
+    (read_no_run l (entries_at c.args.entries.now) c.args.names.now q c.args.origin.now c.args.t.now c.requires.text (omega (arith, c.if-outline-ne0.false)) c.args.first
+    c.args.many (sym c.if-not-is_run.true ∙ c.is_run.ensures)) c.refused.ensures.number c.refused.ensures.place
+
+pub returns-then-not-is_name : goal.returns-then-not-is_name
+unfolding read_of
+returns-then-not-is_name c =
+    λ l q. leaves_refused _ c.args.at _ _ _ _
+    (read_no_origin l (entries_at c.args.entries.now) c.args.names.now q c.args.origin.now c.args.t.now c.requires.text (omega (arith, c.if-outline-ne0.false))
+    c.args.first c.args.many (sym c.if-not-is_run.false ∙ c.is_run.ensures)
+    (sym c.is_name.ensures ∙ c.if-not-is_name.true)) c.refused-then-not-is_name.ensures.number c.refused-then-not-is_name.ensures.place
+
+pub offset_bounds-codes-first : goal.offset_bounds-codes-first
+offset_bounds-codes-first c =
+    let (l, q) = c.requires.judged in
+    let n : c.args.outline.number ≡ 0 = omega (arith, c.if-outline-ne0.false) in
+    omega (arith, run_within l q n (omega (arith, accepted_count l q n)) c.args.first c.args.many (sym c.if-not-is_run.false ∙ c.is_run.ensures))
+
+pub slice_bounds-run-end : goal.slice_bounds-run-end
+slice_bounds-run-end c =
+    let (l, q) = c.requires.judged in
+    let n : c.args.outline.number ≡ 0 = omega (arith, c.if-outline-ne0.false) in
+    let w = run_within l q n (omega (arith, accepted_count l q n)) c.args.first c.args.many (sym c.if-not-is_run.false ∙ c.is_run.ensures) in
+    search (rules, w)
+
+pub read_listed-requires-clause-run : goal.read_listed-requires-clause-run
+read_listed-requires-clause-run c =
+    let (l, q) = c.requires.judged in
+    let n : c.args.outline.number ≡ 0 = omega (arith, c.if-outline-ne0.false) in
+    usable_run l q n (omega (arith, accepted_count l q n)) c.args.first c.args.many
+    (sym c.if-not-is_run.false ∙ c.is_run.ensures) (c.requires.short n)
+
+pub read_listed-requires-clause-origin : goal.read_listed-requires-clause-origin
+read_listed-requires-clause-origin c = sym c.is_name.ensures ∙ c.if-not-is_name.false
 
 pub returns : goal.returns
 unfolding read_of
 returns c =
-    λ l q. leaves_refused _ c.args.at _ _ _ _
-    (read_no_run l (entries_at c.args.entries.now) c.args.names.now q c.args.origin.now c.args.t.now c.requires.2 (omega (arith, c.if-n-gt0.false)) c.args.first
-    c.args.many (sym c.if-is_run.false ∙ c.is_run.ensures)) c.refused-2.ensures.0 c.refused-2.ensures.1
+    λ l q. let n : c.args.outline.number ≡ 0 = omega (arith, c.if-outline-ne0.false) in
+    rw
+    (read_runs l (entries_at c.args.entries.now) c.args.names.now q c.args.origin.now c.args.t.now c.requires.text n c.args.first
+    c.args.many (sym c.if-not-is_run.false ∙ c.is_run.ensures) (omega (arith, accepted_count l q n)) (sym c.is_name.ensures ∙ c.if-not-is_name.false))
+    c.read_listed.ensures

@@ -4,4 +4,4 @@ use Rattle.extlang.proofs.extlang_judge.Goals as goal
 pub returns : goal.returns
 returns c =
     let j = c.judge-r.ensures in
-    record { numbers = c.packed.ensures.0 ∙ j.numbers; places = c.packed.ensures.1 ∙ j.places }
+    record { numbers = c.packed.ensures.number ∙ j.numbers; places = c.packed.ensures.place ∙ j.places }

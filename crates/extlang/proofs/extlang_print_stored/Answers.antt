@@ -4,4 +4,4 @@ use Rattle.extlang.proofs.extlang_print_stored.Goals as goal
 pub returns : goal.returns
 returns c =
     let a = c.print_stored-r.ensures in
-    record { numbers = c.packed.ensures.0 ∙ a.numbers; places = c.packed.ensures.1 ∙ a.places; octets = a.octets }
+    record { numbers = c.packed.ensures.number ∙ a.numbers; places = c.packed.ensures.place ∙ a.places; octets = a.octets }
