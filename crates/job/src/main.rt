@@ -3,14 +3,13 @@
 // is bad is told on standard error.
 #![tactic(auto)]
 
-ghost use Rattle.std.specs.Prelude.{◌≤◌, length};
 ghost use Rattle.job.specs.Room.{Enough};
 
-use buffer::least;
 use job_fault::fault::first_fault;
 use job_fault::words::put_words;
 use job_line::put_bad_job;
-use streams::{Input, Standard};
+use std::io;
+use streams::Standard;
 
 // One octet more than a job may have, so that a job that is too long is noticed.
 const LONGEST: usize = 65536;
@@ -18,79 +17,59 @@ const LONGEST: usize = 65536;
 // Twice the longest line, so that every turn but the last fills at least half of it.
 const ROOM: usize = 262148;
 
-// Writes the first n octets, and returns whether that went well.
-fn write(mut to: Standard, out: &[u8], n: usize) -> bool
-    requires { n ≤ length out.now }
-{
-    streams::write_all(&mut to.output, &mut to.error, b"job", &out[0..n])
+// Writes octets to standard output, or tells that they are lost.
+fn write(to: &mut Standard, xs: &[u8]) -> io::Result<()> {
+    streams::write_all(&mut to.output, &mut to.error, b"job", xs)
 }
 
 // Answers the job turn by turn, unless a write fails.
-fn answer(to: Standard, j: &[u8], out: &mut [u8; ROOM]) {
+fn answer(to: &mut Standard, j: &[u8], out: &mut [u8; ROOM]) -> io::Result<()> {
     let job = job_turns::begin(j);
-    let mut at = job.places.records;
-    let mut more = true;
-    while more {
-        let turn = job_turns::next(out, j, job, at);
-        if write(to, out, turn.taken) {
-            more = turn.more;
-            at = turn.at;
-        } else {
-            return;
-        }
+    let mut rest = Some(job_turns::first(&job));
+    while let Some(at) = rest {
+        let turn = job_turns::next(out, j, &job, at);
+        write(to, &out[..turn.taken])?;
+        rest = turn.rest;
     }
-}
-
-// Answers the job in the first n octets of a buffer that shows of any input whether it is too long for a job.
-fn answer_first(to: Standard, input: &[u8], n: usize, out: &mut [u8; ROOM])
-    requires { (n ≤ length input.now) × Enough input.now }
-{
-    answer(to, &input[0..n], out);
-    tell_fault(to, &input[0..n], out);
+    Ok(())
 }
 
 // Tells on standard error which line breaks the form, and why; of a job that has the form there is nothing to tell.
-fn tell_fault(to: Standard, j: &[u8], out: &mut [u8; ROOM]) {
-    let f = first_fault(j);
-    let n = put_words(out, 0, f);
-    say(to, out, least(n, ROOM));
-}
-
-// Writes the first n octets to standard error.
-fn say(mut to: Standard, out: &[u8], n: usize)
-    requires { n ≤ length out.now }
-{
-    streams::say(&mut to.error, &out[0..n]);
+fn tell_fault(to: &mut Standard, j: &[u8], out: &mut [u8; ROOM]) {
+    let n = put_words(out, 0, first_fault(j));
+    streams::say(&mut to.error, &out[..n.min(ROOM)]);
 }
 
 // Answers an input that could not be read.
-fn refuse(mut to: Standard, out: &mut [u8; ROOM]) {
+fn refuse(to: &mut Standard, out: &mut [u8; ROOM]) -> io::Result<()> {
     streams::unread(&mut to.error, b"job");
     let n = put_bad_job(out, 0);
-    write(to, out, n);
+    write(to, &out[..n])
 }
 
-// Reads standard input, and answers the job in it.
-fn run(mut to: Standard, input: &mut [u8; LONGEST], out: &mut [u8; ROOM]) {
-    let r = streams::read_all(&mut to.input, input);
-    match r {
-        Input::Failed => {
-            refuse(to, out);
+// Reads standard input, and answers the job in it. The buffer shows of any input whether it is too long for a job.
+fn run(to: &mut Standard, input: &mut [u8; LONGEST], out: &mut [u8; ROOM])
+    requires { Enough input.old }
+{
+    match streams::read_all(&mut to.input, input) {
+        Ok(n) => {
+            let _ = answer(to, &input[..n], out);
+            tell_fault(to, &input[..n], out);
         }
-        Input::Whole(n) => {
-            answer_first(to, input, n, out);
+        Err(_) => {
+            let _ = refuse(to, out);
         }
     }
 }
 
 // Lends the streams and the buffers to `run`.
 fn main(rt: HostRuntime) {
-    let to = Standard {
+    let mut to = Standard {
         input: rt.stdin(),
         output: rt.stdout(),
         error: rt.stderr(),
     };
     let mut input = [0u8; LONGEST];
     let mut out = [0u8; ROOM];
-    run(to, &mut input, &mut out);
+    run(&mut to, &mut input, &mut out);
 }

@@ -1,4 +1,3 @@
-mod Reasons
 mod Faults
 pub mod Lengths
 pub mod Law

@@ -1,11 +1,10 @@
 -- The line that tells a fault.
-use Rattle.std.specs.Prelude.{ℕ, cond, List, [], ◌++◌, eqb}
+use Rattle.std.specs.Prelude.{ℕ, List, [], ◌++◌, Option, None, Some}
 use Rattle.format.specs.Octets.{ascii}
 use Rattle.format.specs.Number.{decimal}
 use Rattle.job_fault.specs.declared.reason.Reason.{Reason}
 use Rattle.job_fault.specs.declared.reason.Reason.TheVariants.{TooLong, NoCount, ByteOrderMark, CarriageReturn, NotCount, TooFew, NotOneLine, NoLastDot, NotName, LineAfter}
 use Rattle.job_fault.specs.declared.fault.Fault.{Fault}
-use Rattle.job_fault.specs.declared.fault.Fault.TheVariants.{NoFault, At}
 
 -- why, in words
 abbrev pub reason_words : Reason → List ℕ
@@ -20,11 +19,12 @@ reason_words NoLastDot = ascii "the origin lacks its last dot"
 reason_words NotName = ascii "the origin is not one absolute name"
 reason_words LineAfter = ascii "nothing may follow the last section"
 
--- where: nothing is said of line 0
-abbrev pub line_words : ℕ → List ℕ
-line_words k = cond (eqb k 0) [] (ascii "line " ++ decimal k ++ ascii ": ")
+-- where: nothing is said of no line
+abbrev pub line_words : Option ℕ → List ℕ
+line_words None = []
+line_words (Some k) = ascii "line " ++ decimal k ++ ascii ": "
 
 -- one line, or nothing if there is no fault
-abbrev pub fault_words : Fault → List ℕ
-fault_words NoFault = []
-fault_words (At k r) = ascii "job: " ++ line_words k ++ reason_words r ++ ascii "\n"
+abbrev pub fault_words : Option Fault → List ℕ
+fault_words None = []
+fault_words (Some f) = ascii "job: " ++ line_words f.line ++ reason_words f.reason ++ ascii "\n"

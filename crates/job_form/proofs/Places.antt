@@ -1,31 +1,22 @@
 -- Laws of the lines of a job, by the place that was reached.
-use Prim.Native.Nat.{ℕ, zero, suc, ◌+◌, ◌-◌, ◌≤◌, ◌<◌}
+use Prim.Native.Nat.{ℕ, suc, ◌+◌, ◌-◌, ◌≤◌, ◌<◌}
 use mathlib.Core.Path.{◌≡◌, refl, sym, ap, ap₂, ◌∙◌}
 use mathlib.Core.List.{List, [], ◌∷◌, ◌++◌, map}
-use mathlib.Core.Option.{none}
+use Rattle.std.specs.Prelude.{Option, None, Some}
 use native.Mathlib.Omega.{arith}
 use native.Mathlib.Decide.{dec_le}
 use lib.ListN.{length, take, drop, get_or}
 use lib.Seq.{slice}
-use lib.Dec.{leb}
-use borrow.Author.Tests.{le-leb, lt-leb, eqb-true, not-false}
-use Rattle.format.specs.Lists.{◌>>=◌, provided}
-use Rattle.format.specs.Number.{decimal_of}
+use borrow.Author.Tests.{eqb-true, not-false}
 use Rattle.format.specs.Field.{Part}
 use Rattle.format.specs.Lines.{placed}
-use Rattle.format.specs.Job.{section, ended}
-use Rattle.octets.specs.Octets.{in_class, number_of, line_end}
+use Rattle.format.specs.Job.{ended}
+use Rattle.octets.specs.Octets.{in_class, line_end}
 use Rattle.octets.specs.declared.Class.TheVariants.{NotNewline}
-use Rattle.octets.specs.declared.Number.{Number}
-use Rattle.octets.specs.declared.Number.TheVariants.{Value, Fault}
 use Rattle.octets.proofs.Slices.{next, none as no-octet, front_within, front_rest, stopped}
 use Rattle.octets.proofs.Lines.{next_line, no_line}
-use Rattle.octets.proofs.Numbers.{number_none, number_some}
 use Rattle.octets.proofs.Blocks.{slice_append}
-use Rattle.job_form.specs.declared.lines.Skipped.{Skipped}
-use Rattle.job_form.specs.declared.lines.Skipped.TheVariants.{Short, To}
-use Rattle.job_form.specs.declared.lines.Section.TheVariants.{Lines}
-use Rattle.job_form.specs.Lines.{lines_at, NextLine, LinesTo, Skips, Sections}
+use Rattle.job_form.specs.Lines.{lines_at, NextLine, LinesTo, Skips}
 
 -- the texts of parts
 abbrev texts : List Part → List (List ℕ)
@@ -90,37 +81,12 @@ module _ {j : List ℕ} {m e : ℕ} (l : NextLine j m e) where
     within = s.within;
   }
 
-  skips_suc : (n : ℕ) (r : Skipped) → Skips j (e + 1) n r → Skips j m (suc n) r
-  skips_suc n Short h = omega (arith, ap length l.lines)
-  skips_suc n (To to) s = lines_on n to s
+  skips_suc : (n : ℕ) (r : Option ℕ) → Skips j (e + 1) n r → Skips j m (suc n) r
+  skips_suc n None h = omega (arith, ap length l.lines)
+  skips_suc n (Some to) s = lines_on n to s
 
-  pub skips_on : (left : ℕ) (r : Skipped) → 0 < left → Skips j (e + 1) (left - 1) r → Skips j m left r
-  skips_on zero r h s = absurd (omega arith)
-  skips_on (suc n) r h s = let q : suc n - 1 ≡ n = omega arith in skips_suc n r (rw q at s)
+  pub skips_on : (n i : ℕ) (r : Option ℕ) → i < n → Skips j (e + 1) (n - (i + 1)) r → Skips j m (n - i) r
+  skips_on n i r h s = let q : n - i ≡ suc (n - (i + 1)) = omega arith in rw q (skips_suc (n - (i + 1)) r s)
 
-pub skips_none : (j : List ℕ) (at : ℕ) → at ≤ length j + 1 → Skips j at 0 (To at)
+pub skips_none : (j : List ℕ) (at : ℕ) → at ≤ length j + 1 → Skips j at 0 (Some at)
 skips_none j at h = record { enough = omega arith; later = refl; text = λ w. sym (no-octet j at at (omega arith)); after = omega arith; within = h }
-
-pub skips_short : (j : List ℕ) (at n : ℕ) → length j ≤ at → 0 < n → Skips j at n Short
-skips_short j at n h k = omega (arith, ap length (no_lines j at h))
-
--- a section after its line count
-pub no_section : (j : List ℕ) (at : ℕ) → length j ≤ at → section (lines_at j at) ≡ none
-no_section j at h = ap section (no_lines j at h)
-
-module _ {j : List ℕ} {at e : ℕ} (l : NextLine j at e) (r : Number) (d : r ≡ number_of (decimal_of (slice at e j))) where
-  section_first : section (lines_at j at) ≡ (decimal_of (slice at e j) >>= λ n. provided (leb n (length (lines_at j (e + 1)))) (record { body = take n (lines_at j (e + 1)); later = drop n (lines_at j (e + 1)) }))
-  section_first = ap section l.lines
-
-  pub no_count : r ≡ Fault → section (lines_at j at) ≡ none
-  no_count f = rw (section_first, number_none (decimal_of (slice at e j)) (sym d ∙ f))
-
-  module _ (n : ℕ) (f : r ≡ Value n) where
-    section_counted : section (lines_at j at) ≡ provided (leb n (length (lines_at j (e + 1)))) (record { body = take n (lines_at j (e + 1)); later = drop n (lines_at j (e + 1)) })
-    section_counted = rw (section_first, number_some (decimal_of (slice at e j)) n (sym d ∙ f))
-
-    pub too_few : Skips j (e + 1) n Short → section (lines_at j at) ≡ none
-    too_few h = rw (section_counted, lt-leb n (length (lines_at j (e + 1))) h)
-
-    pub whole_section : (to : ℕ) → Skips j (e + 1) n (To to) → Sections j at (Lines (e + 1) to n)
-    whole_section to s = (rw (section_counted, le-leb n (length (lines_at j (e + 1))) s.enough, s.later), s)

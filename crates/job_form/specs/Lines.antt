@@ -1,13 +1,10 @@
 -- What the code's answers for lines and sections mean, by the definitions of document 01.
 use Rattle.std.specs.Prelude.{ℕ, ◌+◌, ◌≤◌, ◌<◌, ◌≡◌, List, ◌∷◌, ◌++◌, [], length, take, drop}
-use Rattle.std.proofs.Math.Option.{none, some}
+use Rattle.std.specs.Prelude.{Option, None, Some}
 use Rattle.std.proofs.Math.Seq.{slice}
 use Rattle.format.specs.Lines.{lines_of}
 use Rattle.format.specs.Job.{section, ended}
-use Rattle.job_form.specs.declared.lines.Skipped.{Skipped}
-use Rattle.job_form.specs.declared.lines.Skipped.TheVariants.{Short, To}
 use Rattle.job_form.specs.declared.lines.Section.{Section}
-use Rattle.job_form.specs.declared.lines.Section.TheVariants.{Bad, Lines}
 
 -- the lines from a place on
 abbrev pub lines_at : List ℕ → ℕ → List (List ℕ)
@@ -20,6 +17,11 @@ pub record NextLine (j : List ℕ) (at e : ℕ) : Type 0 where
   pub after : at ≤ e
   pub within : e ≤ length j
 
+-- the line that begins at a place, if one does
+abbrev pub SomeLine : List ℕ → ℕ → Option ℕ → Type 0
+SomeLine j at None = length j ≤ at
+SomeLine j at (Some e) = NextLine j at e
+
 -- The first n lines end before the place `to`, where the others begin. If the last of them has its LF, all of them have.
 pub record LinesTo (j : List ℕ) (at n to : ℕ) : Type 0 where
   pub enough : n ≤ length (lines_at j at)
@@ -28,11 +30,11 @@ pub record LinesTo (j : List ℕ) (at n to : ℕ) : Type 0 where
   pub after : at ≤ to
   pub within : to ≤ length j + 1
 
-abbrev pub Skips : List ℕ → ℕ → ℕ → Skipped → Type 0
-Skips j at n Short = length (lines_at j at) < n
-Skips j at n (To to) = LinesTo j at n to
+abbrev pub Skips : List ℕ → ℕ → ℕ → Option ℕ → Type 0
+Skips j at n None = length (lines_at j at) < n
+Skips j at n (Some to) = LinesTo j at n to
 
 -- a section's lines, and the lines after it
-abbrev pub Sections : List ℕ → ℕ → Section → Type 0
-Sections j at Bad = section (lines_at j at) ≡ none
-Sections j at (Lines from to n) = (section (lines_at j at) ≡ some (record { body = take n (lines_at j from); later = lines_at j to })) × LinesTo j from n to
+abbrev pub Sections : List ℕ → ℕ → Option Section → Type 0
+Sections j at None = section (lines_at j at) ≡ None
+Sections j at (Some s) = (section (lines_at j at) ≡ Some (record { body = take s.lines (lines_at j s.from); later = lines_at j s.to })) × LinesTo j s.from s.lines s.to

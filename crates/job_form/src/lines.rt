@@ -1,21 +1,13 @@
 // The lines of a job, and its sections.
 ghost use Rattle.std.specs.Prelude.{◌+◌, ◌≤◌, ◌<◌, length};
-ghost use Rattle.job_form.specs.Lines.{NextLine, Skips, Sections};
+ghost use Rattle.job_form.specs.Lines.{NextLine, SomeLine, Skips, Sections};
 
-use octets::Number;
-
-// The answer to skipping lines: there are too few; or the place after them.
+// A section: where its lines begin, the place after them, and their number.
 #[derive(Clone, Copy)]
-pub enum Skipped {
-    Short,
-    To(usize),
-}
-
-// A section: none; or where its lines begin, the place after them, and their number.
-#[derive(Clone, Copy)]
-pub enum Section {
-    Bad,
-    Lines(usize, usize, u64),
+pub struct Section {
+    pub from: usize,
+    pub to: usize,
+    pub lines: u64,
 }
 
 // The end of the line that begins at `at`.
@@ -26,41 +18,39 @@ pub fn line_end(j: &[u8], at: usize) -> usize
     octets::line_end(j, at)
 }
 
-// Skips n lines from `at` on.
-fn skip_lines(j: &[u8], at: usize, n: u64) -> Skipped
+// The same, or none if no line begins there.
+pub fn next_line(j: &[u8], at: usize) -> Option<usize>
+    ensures { SomeLine j.now at result }
+{
+    if j.len() <= at {
+        return None;
+    }
+    Some(line_end(j, at))
+}
+
+// The place after n lines, the first of which begins at `at`; none if there are too few.
+fn skip_lines(j: &[u8], at: usize, n: u64) -> Option<usize>
     requires { at ≤ length j.now + 1 }
     ensures { Skips j.now at n result }
 {
     let mut m = at;
-    let mut left = n;
-    while 0 < left {
-        if j.len() <= m {
-            return Skipped::Short;
-        }
-        let e = line_end(j, m);
-        m = e + 1;
-        left = left - 1;
+    for _ in 0..n {
+        m = next_line(j, m)? + 1;
     }
-    Skipped::To(m)
+    Some(m)
 }
 
 // The section whose line count is the line that begins at `at`.
-pub fn read_section(j: &[u8], at: usize) -> Section
+#[tactic(auto, using(octets::proofs::Slices::lent))]
+pub fn read_section(j: &[u8], at: usize) -> Option<Section>
     ensures { Sections j.now at result }
 {
-    if j.len() <= at {
-        return Section::Bad;
-    }
-    let e = line_end(j, at);
-    let x = octets::decimal(j, at, e);
-    match x {
-        Number::Fault => Section::Bad,
-        Number::Value(n) => {
-            let s = skip_lines(j, e + 1, n);
-            match s {
-                Skipped::Short => Section::Bad,
-                Skipped::To(to) => Section::Lines(e + 1, to, n),
-            }
-        }
-    }
+    let e = next_line(j, at)?;
+    let lines = octets::decimal(&j[at..e])?;
+    let to = skip_lines(j, e + 1, lines)?;
+    Some(Section {
+        from: e + 1,
+        to,
+        lines,
+    })
 }

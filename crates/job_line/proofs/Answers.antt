@@ -27,11 +27,7 @@ abbrev pub Short : Answer → Type 0
 Short (done t) = length t ≤ 65535
 Short (refusal n i) = Unit {0}
 
--- "no octets give `ok` alone"
-pub ok_alone : (xs : List ℕ) → length xs ≡ 0 → ascii "ok\n" ≡ answer_line (done xs)
-ok_alone [] h = refl
-ok_alone (x ∷ xs) h = absurd (omega arith)
-
+-- octets follow `ok`
 pub ok_octets : (xs : List ℕ) → (length xs ≡ 0 → ⊥) → ascii "ok " ++ hex_text xs ++ ascii "\n" ≡ answer_line (done xs)
 ok_octets [] h = absurd (h refl)
 ok_octets (x ∷ xs) h = refl

@@ -44,11 +44,10 @@ module _ (a : Answer) (h : Short a) (out : List ℕ) (big : 65535 ≤ length out
     pub done_short : place ≤ 65535
     done_short = omega (arith, done_place, few)
 
-    pub done_octets : take (place - 0) after ≡ t
+    pub done_octets : take place after ≡ t
     done_octets =
         let f : after ≡ stored out 0 t = rw (e, fits) at s in
-        let z : place - 0 ≡ length t = omega (arith, done_place) in
-        rw (f, z) (take_at t (drop (0 + length t) out) (length t) refl)
+        rw (f, done_place) (take_at t (drop (0 + length t) out) (length t) refl)
 
 -- Under a judged stanza, the number of fields that were counted gives each record's answer.
 pub counted_answer : {s codes : List ℕ} {o : Outline} → Outlined (as_file s) s codes o → (origin t : List ℕ) → length t ≤ 1048576 → reading s 1 o.count origin t ≡ reading s 1 (field_count (judged s)) origin t
@@ -85,7 +84,7 @@ module _ {s codes : List ℕ} {o : Outline} (h : Outlined (as_file s) s codes o)
   pub record_place : r.number ≡ 0 → r.place ≤ 65535
   record_place z = done_short answer short out big r.place after (found z).0 (found z).1 leaves.places leaves.octets
 
-  pub record_done : r.number ≡ 0 → answer_line (done (take (r.place - 0) after)) ≡ line_under s origin t
+  pub record_done : r.number ≡ 0 → answer_line (done (take r.place after)) ≡ line_under s origin t
   record_done z =
       let e = done_octets answer short out big r.place after (found z).0 (found z).1 leaves.places leaves.octets in
       ap (λ xs. answer_line (done xs)) e ∙ ap answer_line (sym (found z).1 ∙ told)

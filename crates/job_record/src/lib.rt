@@ -21,15 +21,15 @@ pub fn put_record(
     t: &[u8],
     rdata: &mut [u8],
 ) -> usize
-    requires { (at < 2 ^ 31) × Outlined (as_file s.now) s.now codes.now outline × (length t.now ≤ 1048576) × (65535 ≤ length rdata.old) }
+    requires place { at < 2 ^ 31 }
+    requires judged { Outlined (as_file s.now) s.now codes.now outline }
+    requires text { length t.now ≤ 1048576 }
+    requires room { 65535 ≤ length rdata.old }
     ensures { Wrote out.old out.new at result (line_under s.now origin.now t.now) }
 {
     let r = entry_read::read_judged(s, outline, codes, 1, outline.count, origin, t, rdata, 0);
-    let number = r.number;
-    let place = r.place;
-    if number == 0 {
-        let m = place as usize;
-        return put_ok(out, at, &rdata[0..m]);
+    if r.number == 0 {
+        return put_ok(out, at, &rdata[..r.place as usize]);
     }
-    put_no(out, at, number, place)
+    put_no(out, at, r.number, r.place)
 }

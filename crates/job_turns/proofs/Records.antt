@@ -2,24 +2,22 @@
 use Prim.Native.Nat.{ℕ, ◌+◌, ◌≤◌}
 use mathlib.Core.Path.{◌≡◌, ap, ◌∙◌}
 use mathlib.Core.List.{List, [], ◌++◌}
-use mathlib.Core.Option.{none}
+use Rattle.std.specs.Prelude.{None}
 use lib.ListN.{length}
 use lib.Seq.{slice}
 use Rattle.format.specs.Lists.{flat_map}
 use Rattle.format.specs.Job.{record_line, written, job}
 use Rattle.job_form.specs.Lines.{lines_at, NextLine}
-use Rattle.job_form.specs.declared.form.JobForm.TheVariants.{Bad, Good}
 use Rattle.job_form.specs.declared.form.Places.{Places}
-use Rattle.job_form.specs.Form.{job_at, Forms}
+use Rattle.job_form.specs.Form.{job_within, job_at, Formed}
 use Rattle.job_form.proofs.Places.{no_lines}
 use Rattle.job_form.proofs.Forms.{job_written}
 
-module _ (j buffer : List ℕ) where
-  pub bad_written : Forms j buffer Bad → job j ≡ written none
-  bad_written f = job_written j ∙ ap written f
+pub bad_written : (j : List ℕ) → job_within j ≡ None → job j ≡ written None
+bad_written j f = job_written j ∙ ap written f
 
-  pub good_written : (p : Places) → Forms j buffer (Good p) → job j ≡ flat_map (record_line (job_at j buffer p)) (lines_at j p.records)
-  good_written p f = job_written j ∙ ap written f.job
+pub good_written : (j buffer : List ℕ) (p : Places) → Formed j buffer p → job j ≡ flat_map (record_line (job_at j buffer p)) (lines_at j p.records)
+good_written j buffer p f = job_written j ∙ ap written f.job
 
 -- the lines of the records from a place on: the next one, then those after it; or none
 module _ (f : List ℕ → List ℕ) (j : List ℕ) (at : ℕ) where

@@ -1,9 +1,8 @@
 -- Laws of a job that is answered in turns.
 use Prim.Native.Nat.{ℕ, suc, ◌+◌, ◌-◌, ◌*◌, ◌≤◌, ◌<◌}
 use mathlib.Core.Path.{◌≡◌, refl, sym, ap, ◌∙◌}
-use mathlib.Core.Bool.{Bool, true, false, cond, true≢false}
 use mathlib.Core.List.{List, [], ◌++◌, append_assoc}
-use mathlib.Core.Option.{none}
+use Rattle.std.specs.Prelude.{Option, None, Some}
 use native.Mathlib.Omega.{arith}
 use lib.ListN.{length, take, drop}
 use lib.Seq.{slice, sets-eq, take_at}
@@ -16,23 +15,12 @@ use Rattle.stanza_judge.specs.Stanza.{Outlined}
 use Rattle.buffer.specs.Writing.{Wrote}
 use Rattle.buffer.proofs.Laws.{wrote_none, wrote_append, wrote_length}
 use Rattle.job_form.specs.Lines.{lines_at, NextLine}
-use Rattle.job_form.specs.Form.{Forms, Formed}
 use Rattle.job_record.specs.Answer.{line_under}
-use Rattle.job_form.specs.declared.form.Places.{Places}
-use Rattle.job_form.specs.declared.form.JobForm.{JobForm}
-use Rattle.job_form.specs.declared.form.JobForm.TheVariants.{Bad, Good}
 use Rattle.job_turns.specs.declared.Job.{Job}
 use Rattle.job_turns.specs.declared.Turn.{Turn}
-use Rattle.job_turns.specs.Job.{form_of, Begins, left_at, Turns, AllTurns, last, before_others, TurnsJob}
+use Rattle.job_turns.specs.Job.{Begins, first_at, left_at, Turns, AllTurns, last, before_others, TurnsJob}
 use Rattle.job_line.proofs.Answers.{record_most}
 use Rattle.job_turns.proofs.Records.{bad_written, good_written, next_written, none_written}
-
--- the form that was found
-pub form_good : {j buffer : List ℕ} {f : JobForm} {p : Places} → Forms j buffer f → f ≡ Good p → Formed j buffer p
-form_good {j} {buffer} {f} {p} h e = rw e at h
-
-pub form_bad : (j buffer : List ℕ) {f : JobForm} → Forms j buffer f → f ≡ Bad → Forms j buffer Bad
-form_bad j buffer {f} h e = rw e at h
 
 -- the parts of a job that are lent to a call
 pub outlined_part : (j : List ℕ) (from to : ℕ) (codes : List ℕ) (o : Outline) → from ≤ to → Outlined (as_file (take (to - from) (drop from j))) (take (to - from) (drop from j)) codes o → Outlined (as_file (slice from to j)) (slice from to j) codes o
@@ -41,9 +29,9 @@ outlined_part j from to codes o h q = rw (lent j from to h) at q
 pub outlined_lent : (j : List ℕ) (from to : ℕ) (codes : List ℕ) (o : Outline) → from ≤ to → Outlined (as_file (slice from to j)) (slice from to j) codes o → Outlined (as_file (take (to - from) (drop from j))) (take (to - from) (drop from j)) codes o
 outlined_lent j from to codes o h q = rw (lent j from to h) q
 
-pub line_lent : (j g : List ℕ) (from to end m e : ℕ) → from ≤ to → m ≤ e
-    → line_under (take (to - from) (drop from j)) (take (end - 0) (drop 0 g)) (take (e - m) (drop m j)) ≡ line_under (slice from to j) (take end g) (slice m e j)
-line_lent j g from to end m e h k = let z : end - 0 ≡ end = omega arith in rw (lent j from to h, lent j m e k, z)
+pub line_lent : (j origin : List ℕ) (from to m e : ℕ) → from ≤ to → m ≤ e
+    → line_under (take (to - from) (drop from j)) origin (take (e - m) (drop m j)) ≡ line_under (slice from to j) origin (slice m e j)
+line_lent j origin from to m e h k = rw (lent j from to h, lent j m e k)
 
 -- A turn has reached m: the text so far, of at most the longest line for each record, and the lines of the records from m on are what was to be written.
 pub record Reached (f : List ℕ → List ℕ) (j : List ℕ) (at : ℕ) (before now : List ℕ) (m n : ℕ) : Type 0 where
@@ -73,75 +61,59 @@ module _ (stanza origin : List ℕ) {j : List ℕ} {at : ℕ} {before now : List
         few = omega (arith, w.count, r.few, r.after, l.after);
       }
 
--- a job that keeps the form
-module _ (j : List ℕ) (b : Job) (g : b.good ≡ true) where
-  pub formed : Begins j b → Formed j b.origin b.places
-  formed h = let f : Forms j b.origin (form_of b) = h.form in rw g at f
+-- the end of a turn of a job that keeps the form: no record is left, or no room for the longest line
+module _ (j : List ℕ) (b : Job) {at : ℕ} {before now : List ℕ} {m n : ℕ} (r : Reached (line_under (slice b.places.from b.places.to j) (take b.places.origin b.origin)) j at before now m n) where
+  pub turn_last : length j ≤ m → Turns j (Some b) at before now (record { taken = n; rest = None })
+  turn_last h = record {
+    text = r.text;
+    wrote = r.wrote;
+    fits = r.fits;
+    rest = ap (λ t. r.text ++ t) (sym (none_written _ j m h)) ∙ r.rest;
+    further = λ k e. cc;
+  }
 
-  left_good : (m : ℕ) → left_at j b m ≡ flat_map (line_under (slice b.places.from b.places.to j) (take b.places.origin b.origin)) (lines_at j m)
-  left_good m = rw g
-
-  -- the end of a turn: no record is left, or no room for the longest line
-  module _ {at : ℕ} {before now : List ℕ} {m n : ℕ} (r : Reached (line_under (slice b.places.from b.places.to j) (take b.places.origin b.origin)) j at before now m n) where
-    pub turn_last : length j ≤ m → Turns j b at before now (record { taken = n; more = false; at = m })
-    turn_last h = record {
-      text = r.text;
-      wrote = r.wrote;
-      fits = r.fits;
-      rest = ap (λ t. r.text ++ t) (sym (none_written _ j m h)) ∙ r.rest ∙ sym (left_good at);
-      further = λ f. absurd (true≢false (sym f));
-    }
-
-    pub turn_full : m < length j → 131074 ≤ length before → length now - n < 131074 → Turns j b at before now (record { taken = n; more = true; at = m })
-    turn_full h k f = record {
-      text = r.text;
-      wrote = r.wrote;
-      fits = r.fits;
-      rest = ap (λ t. r.text ++ t) (left_good m) ∙ r.rest ∙ sym (left_good at);
-      further = λ _. (omega (arith, r.after, r.few, wrote_length r.wrote), h);
-    }
+  pub turn_full : m < length j → 131074 ≤ length before → length now - n < 131074 → Turns j (Some b) at before now (record { taken = n; rest = Some m })
+  turn_full h k f = record {
+    text = r.text;
+    wrote = r.wrote;
+    fits = r.fits;
+    rest = r.rest;
+    further = λ i e. let q : m ≡ i = cc in rw (← q) (omega (arith, r.after, r.few, wrote_length r.wrote), h);
+  }
 
 -- `bad job`
-pub turn_bad : (j : List ℕ) (b : Job) (at : ℕ) (before after : List ℕ) (n : ℕ) → b.good ≡ false → Wrote before after 0 n (written none) → 131074 ≤ length before
-    → Turns j b at before after (record { taken = n; more = false; at = at })
-turn_bad j b at before after n g w h = record {
-  text = written none;
-  wrote = w;
-  fits = omega (arith, w.count);
-  rest = rw g;
-  further = λ f. absurd (true≢false (sym f));
-}
+pub turn_bad : (j : List ℕ) (at : ℕ) (before after : List ℕ) (n : ℕ) → Wrote before after 0 n (written None) → 131074 ≤ length before
+    → Turns j None at before after (record { taken = n; rest = None })
+turn_bad j at before after n w h = record { text = written None; wrote = w; fits = omega (arith, w.count); rest = refl; further = λ k e. cc }
 
 -- a turn keeps the buffer's length, and each but the last goes on to a later record
-pub turn_kept : {j : List ℕ} {b : Job} {at : ℕ} {before after : List ℕ} {r : Turn} → Turns j b at before after r → length after ≡ length before
+pub turn_kept : {j : List ℕ} {b : Option Job} {at : ℕ} {before after : List ℕ} {r : Turn} → Turns j b at before after r → length after ≡ length before
 turn_kept t = wrote_length t.wrote
 
-abbrev pub turns_left : List ℕ → ℕ → Bool → ℕ
-turns_left j at more = cond more (suc (length j - at)) 0
+abbrev pub turns_left : List ℕ → Option ℕ → ℕ
+turns_left j None = 0
+turns_left j (Some at) = suc (length j - at)
 
-pub turn_less : {j : List ℕ} {b : Job} {at : ℕ} {before after : List ℕ} {r : Turn} → Turns j b at before after r → (more : Bool) → more ≡ true → turns_left j r.at r.more < turns_left j at more
-turn_less {j} {b} {at} {before} {after} {r} t more h = rw h (by r.more t.further)
+pub turn_less : {j : List ℕ} {b : Option Job} {at : ℕ} {before after : List ℕ} {r : Turn} → Turns j b at before after r → turns_left j r.rest < turns_left j (Some at)
+turn_less {j} {b} {at} {before} {after} {r} t = by r.rest t.further
   where
-    by : (again : Bool) → (again ≡ true → (at < r.at) × (r.at < length j)) → cond again (suc (length j - r.at)) 0 < suc (length j - at)
-    by true f = omega (arith, f refl)
-    by false f = omega arith
+    by : (o : Option ℕ) → ((m : ℕ) → o ≡ Some m → (at < m) × (m < length j)) → turns_left j o < suc (length j - at)
+    by None f = omega arith
+    by (Some m) f = omega (arith, f m refl)
 
 -- What all turns write, one after another.
-pub left_first : (j : List ℕ) (b : Job) → Begins j b → left_at j b b.places.records ≡ job j
-left_first j b h = by b.good refl
-  where
-    by : (g : Bool) → b.good ≡ g → left_at j b b.places.records ≡ job j
-    by true g = left_good j b g b.places.records ∙ sym (good_written j b.origin b.places (formed j b g h))
-    by false g = let f : Forms j b.origin (form_of b) = h.form in rw g (sym (bad_written j b.origin (rw g at f)))
+pub left_first : (j : List ℕ) (b : Option Job) → Begins j b → left_at j b (first_at b) ≡ job j
+left_first j None h = sym (bad_written j h)
+left_first j (Some b) h = sym (good_written j b.origin b.places h.form)
 
-turn_text : {j : List ℕ} {b : Job} {at : ℕ} {before after : List ℕ} {r : Turn} (t : Turns j b at before after r) → take r.taken after ≡ t.text
+turn_text : {j : List ℕ} {b : Option Job} {at : ℕ} {before after : List ℕ} {r : Turn} (t : Turns j b at before after r) → take r.taken after ≡ t.text
 turn_text {before = before} {r = r} t =
     let z : r.taken ≡ length t.text = omega (arith, t.wrote.count) in
     rw (t.wrote.octets, sets-eq t.text before 0 (omega (arith, t.fits, z))) (take_at t.text (drop (0 + length t.text) before) r.taken (sym z))
 
-turns_left_lem : {j : List ℕ} {b : Job} {at : ℕ} {ws : List (List ℕ)} → AllTurns j b at ws → flat ws ≡ left_at j b at
+turns_left_lem : {j : List ℕ} {b : Option Job} {at : ℕ} {ws : List (List ℕ)} → AllTurns j b at ws → flat ws ≡ left_at j b at
 turns_left_lem (last {r = r} t f) = ap (λ x. x ++ []) (turn_text t) ∙ rw f at t.rest
-turns_left_lem {j} {b} (before_others {r = r} t f os) = let q : t.text ++ left_at j b r.at ≡ _ = rw f at t.rest in rw (turn_text t, turns_left_lem os) q
+turns_left_lem {j} {b} (before_others {m = m} {r = r} t f os) = let q : t.text ++ left_at j b m ≡ _ = rw f at t.rest in rw (turn_text t, turns_left_lem os) q
 
 pub turns_job : TurnsJob
 turns_job j b h ws os = turns_left_lem os ∙ left_first j b h

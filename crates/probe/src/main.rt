@@ -19,11 +19,11 @@
 // lack its LF. If a read fails, the line that is not whole has no answer.
 #![tactic(auto)]
 
-ghost use Rattle.std.specs.Prelude.{◌≤◌, length};
-ghost use Rattle.probe_request.specs.Words.{Within};
+ghost use Rattle.std.specs.Prelude.{◌≤◌, IfOk, IfSome, length};
 
 use probe_request::Request;
-use streams::{Read, Standard};
+use std::io;
+use streams::Standard;
 
 // The most octets that one read takes.
 const PIECE: usize = 65536;
@@ -43,189 +43,123 @@ const ROOM: usize = 2097176;
 // The room for a turn of a job.
 const LINES: usize = 262148;
 
-// Between two reads: how many octets are kept of a line that is not whole yet, and whether answering goes on.
-#[derive(Clone, Copy)]
-struct State {
-    kept: usize,
-    going: bool,
+// Writes octets to standard output, or tells that answers are lost.
+fn write(to: &mut Standard, out: &[u8]) -> io::Result<()> {
+    streams::write_all(&mut to.output, &mut to.error, b"probe", out)
 }
 
-// Writes the first n octets, and returns whether that went well.
-fn write(mut to: Standard, out: &[u8], n: usize) -> bool
-    requires { n ≤ length out.now }
+// Writes the lines of a turn in hex, '-' for none.
+fn write_octets(to: &mut Standard, lines: &[u8], out: &mut [u8; ROOM]) -> io::Result<()>
+    requires { length lines.now ≤ 1048576 }
 {
-    streams::write_all(&mut to.output, &mut to.error, b"probe", &out[0..n])
+    let end = probe_reply::line::put_octets(out, 0, lines);
+    write(to, &out[..end])
 }
 
-// Writes the first n octets of a turn in hex, '-' for none.
-fn write_octets(to: Standard, lines: &[u8], n: usize, out: &mut [u8; ROOM]) -> bool
-    requires { (n ≤ length lines.now) × (length lines.now ≤ 1048576) }
-{
-    let end = probe_reply::line::put_octets(out, 0, &lines[0..n]);
-    write(to, out, end)
-}
-
-// Writes the turns of a job, unless a write fails.
-fn write_turns(to: Standard, j: &[u8], lines: &mut [u8], out: &mut [u8; ROOM]) -> bool
-    requires { (131074 ≤ length lines.old) × (length lines.old ≤ 1048576) }
-{
-    let job = job_turns::begin(j);
-    let mut at = job.places.records;
-    let mut more = true;
-    while more {
-        let turn = job_turns::next(lines, j, job, at);
-        if write_octets(to, lines, turn.taken, out) {
-            more = turn.more;
-            at = turn.at;
-        } else {
-            return false;
-        }
-    }
-    true
-}
-
-// Writes the turns of a job and an LF.
+// Writes the turns of a job and an LF, unless a write fails.
 fn write_job(
-    mut to: Standard,
-    octets: &[u8],
-    q: Request,
-    text: &mut [u8],
+    to: &mut Standard,
+    j: &[u8],
+    text: &mut [u8; TEXT],
     out: &mut [u8; ROOM],
-) -> bool
-    requires { Within (length octets.now) q × (262148 ≤ length text.old) }
-{
-    let a = q.stanza.from;
-    let b = q.stanza.to;
-    let n = buffer::least(LINES, text.len());
-    if write_turns(to, &octets[a..b], &mut text[0..n], out) {
-        return streams::write_all(&mut to.output, &mut to.error, b"probe", b"\n");
+) -> io::Result<()> {
+    let job = job_turns::begin(j);
+    let mut rest = Some(job_turns::first(&job));
+    while let Some(at) = rest {
+        let turn = job_turns::next(&mut text[..LINES], j, &job, at);
+        write_octets(to, &text[..turn.taken], out)?;
+        rest = turn.rest;
     }
-    false
+    write(to, b"\n")
 }
 
-// Writes the answer to a line without its LF, and returns whether that went well.
+// Writes the answer to a line without its LF.
 fn answer(
-    to: Standard,
+    to: &mut Standard,
     line: &[u8],
     octets: &mut [u8; OCTETS],
     text: &mut [u8; TEXT],
     out: &mut [u8; ROOM],
-) -> bool {
-    let q = probe_request::read(line, octets);
-    if q.letter == b'W' {
-        return write_job(to, octets, q, text, out);
+) -> io::Result<()> {
+    let request = probe_request::read(line, octets);
+    if let Some(Request::Job(job)) = request {
+        return write_job(to, job.of(octets), text, out);
     }
-    let n = probe_reply::put_answer(octets, q, text, out);
-    write(to, out, n)
+    let n = probe_reply::put_answer(octets, request, text, out);
+    write(to, &out[..n])
 }
 
-// Answers the whole lines in buf, whose first `kept` octets have no LF, and keeps the start of the next line.
+// Answers the whole lines in buf, whose first `kept` octets have no LF, and returns how many octets it keeps of the next line.
 fn answer_lines(
-    to: Standard,
+    to: &mut Standard,
     buf: &mut [u8],
     kept: usize,
     octets: &mut [u8; OCTETS],
     text: &mut [u8; TEXT],
     out: &mut [u8; ROOM],
-) -> State
+) -> io::Result<usize>
     requires { kept ≤ length buf.old }
-    ensures { result.kept ≤ 2200001 }
+    ensures { IfOk result (λ n. n ≤ 2200001) }
 {
     let mut start = 0;
     let mut end = probe_request::line_end(buf, kept);
     while end < buf.len() {
-        if answer(to, &buf[start..end], octets, text, out) {
-            start = end + 1;
-            end = probe_request::line_end(buf, start);
-        } else {
-            return over();
-        }
+        answer(to, &buf[start..end], octets, text, out)?;
+        start = end + 1;
+        end = probe_request::line_end(buf, start);
     }
-    State {
-        kept: probe_request::keep(buf, start),
-        going: true,
-    }
+    Ok(probe_request::keep(buf, start))
 }
 
-// The state in which answering is over.
-fn over() -> State
-    ensures { result.kept ≤ 2200001 }
-{
-    State {
-        kept: 0,
-        going: false,
-    }
-}
-
-// Answers the last line, if it has no LF.
-fn finish(
-    to: Standard,
-    line: &[u8],
-    octets: &mut [u8; OCTETS],
-    text: &mut [u8; TEXT],
-    out: &mut [u8; ROOM],
-) -> State
-    ensures { result.kept ≤ 2200001 }
-{
-    if line.len() > 0 {
-        answer(to, line, octets, text, out);
-    }
-    over()
-}
-
-// Reads once, after the octets that are kept, and answers the lines that are whole by then.
+// Reads once, after the octets that are kept, and answers the lines that are whole by then, or at the end of the input the last
+// line, which may have no LF. Returns how many octets are kept after that, or none where answering is over.
 fn turn(
-    mut to: Standard,
-    buf: &mut [u8],
+    to: &mut Standard,
+    buf: &mut [u8; SPACE],
     kept: usize,
     octets: &mut [u8; OCTETS],
     text: &mut [u8; TEXT],
     out: &mut [u8; ROOM],
-) -> State
-    requires { (kept ≤ 2200001) × (2265537 ≤ length buf.old) }
-    ensures { result.kept ≤ 2200001 }
+) -> Option<usize>
+    requires { kept ≤ 2200001 }
+    ensures { IfSome result (λ n. n ≤ 2200001) }
 {
-    let r = streams::read_once(&mut to.input, buf, kept, kept + PIECE);
-    match r {
-        Read::End => finish(to, &buf[0..kept], octets, text, out),
-        Read::Failed => {
-            streams::unread(&mut to.error, b"probe");
-            over()
+    match streams::read_once(&mut to.input, &mut buf[kept..kept + PIECE]) {
+        Ok(Some(n)) => answer_lines(to, &mut buf[..kept + n], kept, octets, text, out).ok(),
+        Ok(None) => {
+            if kept > 0 {
+                let _ = answer(to, &buf[..kept], octets, text, out);
+            }
+            None
         }
-        Read::Got(n) => {
-            let end = kept + n;
-            answer_lines(to, &mut buf[0..end], kept, octets, text, out)
+        Err(_) => {
+            streams::unread(&mut to.error, b"probe");
+            None
         }
     }
 }
 
-// Answers all lines. A proved loop must end, and nothing says that the input does: so the loop counts its turns down, from a
-// number that no run uses up.
+// Answers all lines. A proved loop must end, and nothing says that the input does: so the turns are counted, up to a number that
+// no run reaches.
 fn run(
-    to: Standard,
+    to: &mut Standard,
     buf: &mut [u8; SPACE],
     octets: &mut [u8; OCTETS],
     text: &mut [u8; TEXT],
     out: &mut [u8; ROOM],
 ) {
-    let mut state = State {
-        kept: 0,
-        going: true,
-    };
-    let mut turns = u64::MAX;
-    while turns > 0 {
-        state = turn(to, buf, state.kept, octets, text, out);
-        if state.going {
-            turns = turns - 1;
-        } else {
-            return;
+    let mut kept = 0;
+    for _ in 0..u64::MAX {
+        match turn(to, buf, kept, octets, text, out) {
+            Some(n) => kept = n,
+            None => return,
         }
     }
 }
 
 // Lends the streams and the buffers to `run`.
 fn main(rt: HostRuntime) {
-    let to = Standard {
+    let mut to = Standard {
         input: rt.stdin(),
         output: rt.stdout(),
         error: rt.stderr(),
@@ -234,5 +168,5 @@ fn main(rt: HostRuntime) {
     let mut octets = [0u8; OCTETS];
     let mut text = [0u8; TEXT];
     let mut out = [0u8; ROOM];
-    run(to, &mut buf, &mut octets, &mut text, &mut out);
+    run(&mut to, &mut buf, &mut octets, &mut text, &mut out);
 }

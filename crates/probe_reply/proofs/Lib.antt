@@ -1,4 +1,3 @@
 pub mod Replies
-pub mod Numbers
-pub mod Results
-pub mod Asking
+mod Numbers
+mod Results

@@ -1,24 +1,13 @@
 -- The lengths of the answers.
 use Prim.Native.Nat.{ℕ, ◌+◌, ◌*◌, ◌≤◌}
-use mathlib.Core.Path.{◌≡◌, refl}
 use mathlib.Core.List.{List, [], ◌∷◌, ◌++◌}
 use native.Mathlib.Omega.{arith}
 use lib.ListN.{length, length-append}
 use Rattle.format.specs.Octets.{ascii}
 use Rattle.format.specs.Number.{decimal}
-use Rattle.format.specs.Hex.{hex_text}
 use Rattle.format.proofs.Number.{decimal_10}
 use Rattle.format.proofs.Hex.{hex_length}
 use Rattle.probe_reply.specs.Replies.{octets_text, numbers_text, judged_line, result_line}
-
--- no octets, and some
-pub no_octets : (xs : List ℕ) → length xs ≡ 0 → ascii "-" ≡ octets_text xs
-no_octets [] h = refl
-no_octets (x ∷ xs) h = absurd (omega arith)
-
-pub some_octets : (xs : List ℕ) → (length xs ≡ 0 → ⊥) → hex_text xs ≡ octets_text xs
-some_octets [] h = absurd (h refl)
-some_octets (x ∷ xs) h = refl
 
 pub octets_most : (xs : List ℕ) → length (octets_text xs) ≤ length xs * 2 + 1
 octets_most [] = omega arith

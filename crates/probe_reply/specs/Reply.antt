@@ -1,12 +1,14 @@
 -- The lines that answer requests.
 use Rattle.std.specs.Prelude.{ℕ, min, cond, List, [], ◌++◌, length, take, eqb}
 use Prim.Native.Char.{code}
-use Rattle.std.proofs.Math.Option.{Option, none, some}
+use Rattle.std.specs.Prelude.{Option, None, Some}
 use Rattle.format.specs.Octets.{ascii}
 use Rattle.format.specs.Entries.{Answer, done, refusal, max_text, printing_of, reading_of, if_room, Outcome, judge_of}
 use Rattle.format.specs.Stored.{Lent, as_file, as_stored}
 use Rattle.format.specs.Job.{job}
 use Rattle.probe_request.specs.Request.{Asked}
+use Rattle.probe_request.specs.declared.Request.{Request}
+use Rattle.probe_request.specs.declared.Request.TheVariants.{Judge, Print, Read, Job}
 use Rattle.probe_reply.specs.Entries.{entries_in}
 use Rattle.probe_reply.specs.Replies.{octets_text, judged_line, result_line, unknown_line}
 
@@ -46,9 +48,17 @@ line_of a =
 
 -- "A line that is no request .. answers '?'."
 abbrev pub reply_to : Option Asked → List ℕ
-reply_to none = unknown_line
-reply_to (some a) = line_of a
+reply_to None = unknown_line
+reply_to (Some a) = line_of a
 
 -- the octets of a result, which stand at the start of a buffer
 abbrev pub result_of : ℕ → ℕ → List ℕ → List ℕ
 result_of n i xs = cond (eqb n 0) (take i xs) []
+
+-- a request that one line answers, or none
+abbrev pub NoJob : Option Request → Type 0
+NoJob None = Unit {0}
+NoJob (Some (Judge d)) = Unit {0}
+NoJob (Some (Print r)) = Unit {0}
+NoJob (Some (Read r)) = Unit {0}
+NoJob (Some (Job s)) = ⊥

@@ -1,31 +1,28 @@
 // The entries of a catalogue as numbers, from the octets of a line's word.
-ghost use Rattle.std.specs.Prelude.{◌+◌, ◌≤◌, ◌≡◌, length, take, drop};
+ghost use Rattle.std.specs.Prelude.{◌≡◌, length, take};
 ghost use Rattle.catalogue.specs.Entries.{entry_at, entries_at};
 ghost use Rattle.probe_reply.specs.Entries.{entry_of, entries_in};
 
-use octets::integer::two;
+// The most entries that are looked at.
+const MOST: usize = 513;
 
-// The number of the entry in the 8 octets from `at` on.
-fn number(xs: &[u8], at: usize) -> u64
-    requires { at + 8 ≤ length xs.now }
-    ensures { entry_at result ≡ entry_of (drop at xs.now) }
+// The number of the entry in 8 octets.
+fn number(entry: &[u8]) -> u64
+    requires { length entry.now ≡ 8 }
+    ensures { entry_at result ≡ entry_of entry.now }
 {
-    let n = octets::integer::number(xs, at, at + 4);
-    let start = two(xs, at + 4);
-    let size = two(xs, at + 6);
-    n * 4294967296 + start * 65536 + size
+    let mut octets = [0u8; 8];
+    octets.copy_from_slice(entry);
+    u64::from_be_bytes(octets)
 }
 
-// Stores the numbers of the whole entries in xs, 513 at most; the answer is how many.
-pub fn numbers(xs: &[u8], raw: &mut [u64; 513]) -> usize
-    requires { length raw.old ≡ 513 }
-    ensures { (result ≤ length raw.new) × (entries_at (take result raw.new) ≡ take 513 (entries_in xs.now)) }
+// Stores the numbers of the whole entries in xs, 513 at most, and returns those.
+pub fn numbers<'a>(xs: &[u8], raw: &'a mut [u64; MOST]) -> &'a [u64]
+    ensures { entries_at result.now ≡ take 513 (entries_in xs.now) }
 {
-    let n = buffer::least(xs.len() / 8, 513);
-    let mut i = 0;
-    while i < n {
-        raw[i] = number(xs, i * 8);
-        i = i + 1;
+    let count = (xs.len() / 8).min(MOST);
+    for i in 0..count {
+        raw[i] = number(&xs[i * 8..i * 8 + 8]);
     }
-    n
+    &raw[..count]
 }

@@ -2,5 +2,3 @@ mod Words
 mod Spelling
 mod Numbers
 mod Requests
-mod Lines
-mod Moved

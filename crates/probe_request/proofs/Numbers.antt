@@ -1,65 +1,41 @@
 -- Laws of the number that a word spells, read digit by digit.
-use Prim.Native.Nat.{ℕ, ◌+◌, ◌*◌, ◌-◌, ◌^◌, ◌≤◌, ◌<◌}
-use mathlib.Core.Path.{◌≡◌, refl, sym, ap, ◌∙◌}
-use mathlib.Core.Bool.{Bool}
-use mathlib.Core.List.{List, [], ◌∷◌}
-use mathlib.Core.Option.{Option, none, some}
-use native.Mathlib.Omega.{arith}
-use native.Mathlib.Decide.{dec_le}
-use lib.ListN.{length, get_or}
-use lib.Seq.{slice}
-use lib.Dec.{ltb}
-use borrow.Author.Tests.{lt-ltb, le-ltb}
-use Rattle.format.specs.Lists.{◌>>=◌, provided}
-use Rattle.format.specs.Digits.{digit_value}
+use Rattle.std.proofs.Common.{◌≡◌, ℕ, ◌+◌, ◌*◌, ◌-◌, ◌^◌, ◌≤◌, ◌<◌, List, [], ◌∷◌, length, drop, get_or, arith, refl, sym, ◌∙◌, ap}
+use Rattle.std.specs.Prelude.{Option, None, Some}
+use borrow.Author.Tests.{lt-ltb, le-ltb, le-leb}
+use Rattle.format.specs.Lists.{◌>>=◌, cons_both, each_of}
+use Rattle.format.specs.Digits.{number_from, digit_value}
 use Rattle.format.specs.Number.{below}
-use Rattle.octets.proofs.Numbers.{value_in, value_from, value_each, digit_on, digit_low, digit_high, nothing_left}
-use Rattle.octets.proofs.Slices.{next, none as no-octet}
-use Rattle.probe_request.specs.Request.{number_of, said}
-use Rattle.probe_request.specs.declared.Span.{Span}
-use Rattle.probe_request.specs.Words.{text_at, words_at, NextWord, Counts}
-use Rattle.probe_request.proofs.Words.{word_says}
+use Rattle.format.proofs.Lists.{drop_next, drop_none}
+use Rattle.probe_request.specs.Request.{number_of}
+
+-- the number of digits that are v so far and go on with these
+abbrev pub number_on : ℕ → List ℕ → Option ℕ
+number_on v xs = below (2 ^ 64) (each_of (digit_value 10) xs >>= λ ds. Some (number_from 10 v ds))
+
+-- the first of them; or it is none, and there is no number
+digit_step : (v x : ℕ) (xs : List ℕ) → 48 ≤ x → x ≤ 57 → number_on v (x ∷ xs) ≡ number_on (v * 10 + (x - 48)) xs
+digit_step v x xs l h = let k : x - 48 < 10 = omega arith in rw (le-leb 48 x l, le-leb x 57 h, lt-ltb (x - 48) 10 k) (by (each_of (digit_value 10) xs))
+  where
+    by : (o : Option (List ℕ)) → below (2 ^ 64) (cons_both (Some (x - 48)) o >>= λ ds. Some (number_from 10 v ds)) ≡ below (2 ^ 64) (o >>= λ ds. Some (number_from 10 (v * 10 + (x - 48)) ds))
+    by None = refl
+    by (Some ds) = refl
 
 -- a value that is too large stays so, whatever digits follow
-too_great : (m v : ℕ) (xs : List ℕ) → m ≤ v → below m (value_from v xs) ≡ none
-unfolding value_in
-too_great m v [] h = rw (le-ltb v m h)
-too_great m v (x ∷ xs) h = by (digit_value 10 x) (λ d. too_great m (v * 10 + d) xs (omega arith))
+grows : (v : ℕ) (ds : List ℕ) → v ≤ number_from 10 v ds
+grows v [] = omega arith
+grows v (d ∷ ds) = omega (arith, grows (v * 10 + d) ds)
+
+too_great : (v : ℕ) (xs : List ℕ) → 2 ^ 64 ≤ v → number_on v xs ≡ None
+too_great v xs h = by (each_of (digit_value 10) xs)
   where
-    by : (o : Option ℕ) → ((d : ℕ) → below m (value_from (v * 10 + d) xs) ≡ none) → below m (o >>= λ d. value_from (v * 10 + d) xs) ≡ none
-    by none ih = refl
-    by (some d) ih = ih d
+    by : (o : Option (List ℕ)) → below (2 ^ 64) (o >>= λ ds. Some (number_from 10 v ds)) ≡ None
+    by None = refl
+    by (Some ds) = rw (le-ltb (number_from 10 v ds) (2 ^ 64) (omega (arith, grows v ds)))
 
 -- The digits before i make v, and those from i on are still to be read.
-module _ (l : List ℕ) (from to i v : ℕ) (t : to ≤ length l) (h : value_from v (slice i to l) ≡ value_from 0 (slice from to l)) where
-  number_left : from < to → number_of (slice from to l) ≡ below (2 ^ 64) (value_from v (slice i to l))
-  number_left f = rw (next l from to f t) (ap (below (2 ^ 64)) (sym (h ∙ ap (value_from 0) (next l from to f t) ∙ value_each 10 0 (get_or l from 0 ∷ slice (from + 1) to l))))
+module _ (t : List ℕ) (i v : ℕ) (h : number_on v (drop i t) ≡ number_of t) where
+  pub great : i < length t → 48 ≤ get_or t i 0 → get_or t i 0 ≤ 57 → 2 ^ 64 ≤ v * 10 + (get_or t i 0 - 48) → number_of t ≡ None
+  great k a b g = sym h ∙ ap (number_on v) (drop_next t i k) ∙ digit_step v (get_or t i 0) (drop (i + 1) t) a b ∙ too_great (v * 10 + (get_or t i 0 - 48)) (drop (i + 1) t) g
 
-  pub number_all : to ≤ i → v < 2 ^ 64 → number_of (slice from to l) ≡ provided (ltb from to) v
-  number_all e s = by (dec_le to from)
-    where
-      by : Dec (to ≤ from) → number_of (slice from to l) ≡ provided (ltb from to) v
-      by (yes f) = rw (no-octet l from to f, le-ltb from to f)
-      by (no f) =
-          number_left (omega arith) ∙ ap (λ xs. below (2 ^ 64) (value_from v xs)) (no-octet l i to e)
-          ∙ rw (nothing_left v, lt-ltb v (2 ^ 64) s, lt-ltb from to (omega arith))
-
-  module _ (f : from ≤ i) (k : i < to) where
-    cut : number_of (slice from to l) ≡ below (2 ^ 64) (value_from v (get_or l i 0 ∷ slice (i + 1) to l))
-    cut = number_left (omega arith) ∙ ap (λ xs. below (2 ^ 64) (value_from v xs)) (next l i to k t)
-
-    pub low : get_or l i 0 < 48 → number_of (slice from to l) ≡ none
-    low b = cut ∙ ap (below (2 ^ 64)) (digit_low v (get_or l i 0) (slice (i + 1) to l) b)
-
-    pub high : 48 ≤ get_or l i 0 → 57 < get_or l i 0 → number_of (slice from to l) ≡ none
-    high a b = cut ∙ ap (below (2 ^ 64)) (digit_high v (get_or l i 0) (slice (i + 1) to l) a b)
-
-    module _ (a : 48 ≤ get_or l i 0) (b : get_or l i 0 ≤ 57) where
-      pub on : value_from (v * 10 + (get_or l i 0 - 48)) (slice (i + 1) to l) ≡ value_from 0 (slice from to l)
-      on = sym (digit_on v (get_or l i 0) (slice (i + 1) to l) a b) ∙ ap (value_from v) (sym (next l i to k t)) ∙ h
-
-      pub great : 2 ^ 64 ≤ v * 10 + (get_or l i 0 - 48) → number_of (slice from to l) ≡ none
-      great g = cut ∙ ap (below (2 ^ 64)) (digit_on v (get_or l i 0) (slice (i + 1) to l) a b) ∙ too_great (2 ^ 64) (v * 10 + (get_or l i 0 - 48)) (slice (i + 1) to l) g
-
-pub counts : (l : List ℕ) (end : ℕ) (w : Span) (g : Bool) (v : ℕ) → NextWord l end w → number_of (text_at l w) ≡ provided g v → Counts (said number_of (words_at l end)) l end (record { good = g; value = v; end = w.to })
-counts l end w g v h e = record { reads = word_says l number_of refl end w h g v e; after = omega (arith, h.after, h.ordered); within = h.within }
+  pub all_read : length t ≤ i → v < 2 ^ 64 → number_of t ≡ Some v
+  all_read k s = sym h ∙ ap (number_on v) (drop_none t i k) ∙ rw (lt-ltb v (2 ^ 64) s)

@@ -12,7 +12,7 @@
 --     W JOB
 use Rattle.std.specs.Prelude.{ℕ, ◌^◌, ◌%◌, Bool, cond, List, [], ◌∷◌, length, leb, eqb}
 use Prim.Native.Char.{code}
-use Rattle.std.proofs.Math.Option.{Option, none, some}
+use Rattle.std.specs.Prelude.{Option, None, Some}
 use Rattle.format.specs.Lists.{◌>>=◌, provided, each_of, null}
 use Rattle.format.specs.Octets.{ascii, among, split_on}
 use Rattle.format.specs.Digits.{number, digit_value}
@@ -21,14 +21,14 @@ use Rattle.format.specs.Hex.{from_hex}
 
 -- "Octets are in hex of either case, '-' for none"
 abbrev pub octets_of : List ℕ → Option (List ℕ)
-octets_of [] = none
+octets_of [] = None
 octets_of (x ∷ []) = provided (eqb x (code "-")) []
 octets_of (x ∷ y ∷ t) = from_hex (x ∷ y ∷ t)
 
 -- "numbers decimal, of at most 64 bits"
 abbrev pub number_of : List ℕ → Option ℕ
-number_of [] = none
-number_of (x ∷ t) = below (2 ^ 64) (each_of (digit_value 10) (x ∷ t) >>= λ ds. some (number 10 ds))
+number_of [] = None
+number_of (x ∷ t) = below (2 ^ 64) (each_of (digit_value 10) (x ∷ t) >>= λ ds. Some (number 10 ds))
 
 -- What a word says, and the words after it.
 pub record Said (A : Type 0) : Type 0 where
@@ -37,8 +37,8 @@ pub record Said (A : Type 0) : Type 0 where
 
 -- what the first word says; there must be one
 abbrev pub said : {A : Type 0} → (List ℕ → Option A) → List (List ℕ) → Option (Said A)
-said f [] = none
-said f (w ∷ ws) = f w >>= λ v. some (record { value = v; later = ws })
+said f [] = None
+said f (w ∷ ws) = f w >>= λ v. Some (record { value = v; later = ws })
 
 -- A request, by its letter. What it does not name is empty or 0, and so is a catalogue: a request does not tell P from PC. TXT and a job stand in
 -- the place of a stanza; the entries are the octets of CATALOGUE.
@@ -65,7 +65,7 @@ marks_stored mark = eqb mark (code "S")
 
 -- only JS, PS and RS name an edition
 abbrev pub edition_word : ℕ → List (List ℕ) → Option (Said ℕ)
-edition_word mark ws = cond (marks_stored mark) (said number_of ws) (some (record { value = 0; later = ws }))
+edition_word mark ws = cond (marks_stored mark) (said number_of ws) (Some (record { value = 0; later = ws }))
 
 -- J, JC, JS and W
 abbrev pub whole_words : ℕ → ℕ → List (List ℕ) → Option Asked
@@ -100,11 +100,11 @@ whole_catalogue ws = do
 
 -- only PC and RC name one
 abbrev pub catalogue_words : ℕ → List (List ℕ) → Option (Said Catalogue)
-catalogue_words mark ws = cond (eqb mark (code "C")) (whole_catalogue ws) (some (record { value = record { entries = []; names = [] }; later = ws }))
+catalogue_words mark ws = cond (eqb mark (code "C")) (whole_catalogue ws) (Some (record { value = record { entries = []; names = [] }; later = ws }))
 
 -- only R, RC and RS have an origin
 abbrev pub origin_word : ℕ → List (List ℕ) → Option (Said (List ℕ))
-origin_word x ws = cond (eqb x (code "R")) (said octets_of ws) (some (record { value = []; later = ws }))
+origin_word x ws = cond (eqb x (code "R")) (said octets_of ws) (Some (record { value = []; later = ws }))
 
 -- P and R, PC and RC, PS and RS
 abbrev pub run_words : ℕ → ℕ → List (List ℕ) → Option Asked
@@ -136,15 +136,15 @@ abbrev pub whole_letters : ℕ → List ℕ
 whole_letters mark = cond (eqb mark (code " ")) (ascii "JW") (ascii "J")
 
 abbrev pub by_letter : ℕ → ℕ → List (List ℕ) → Option Asked
-by_letter mark x ws = cond (among x (whole_letters mark)) (whole_words mark x ws) (cond (among x (ascii "PR")) (run_words mark x ws) none)
+by_letter mark x ws = cond (among x (whole_letters mark)) (whole_words mark x ws) (cond (among x (ascii "PR")) (run_words mark x ws) None)
 
 abbrev pub of_words : List (List ℕ) → Option Asked
-of_words [] = none
-of_words ([] ∷ ws) = none
+of_words [] = None
+of_words ([] ∷ ws) = None
 of_words ((x ∷ []) ∷ ws) = by_letter (code " ") x ws
-of_words ((x ∷ y ∷ []) ∷ ws) = cond (among y marks) (by_letter y x ws) none
-of_words ((x ∷ y ∷ z ∷ t) ∷ ws) = none
+of_words ((x ∷ y ∷ []) ∷ ws) = cond (among y marks) (by_letter y x ws) None
+of_words ((x ∷ y ∷ z ∷ t) ∷ ws) = None
 
 -- A line "that is no request, or has more than 2,200,000 octets", is none.
 unfoldable pub request_of : List ℕ → Option Asked
-request_of l = cond (leb (length l) 2200000) (of_words (split_on (code " ") l)) none
+request_of l = cond (leb (length l) 2200000) (of_words (split_on (code " ") l)) None

@@ -1,111 +1,175 @@
 -- What the code's answers mean, by the definitions of requests.
-use Rattle.std.specs.Prelude.{ℕ, ◌+◌, ◌*◌, ◌≤◌, ◌<◌, ◌≡◌, cond, true, List, [], ◌∷◌, length, drop, leb, eqb}
+use Rattle.std.specs.Prelude.{ℕ, ◌+◌, ◌*◌, ◌≤◌, ◌≡◌, Bool, true, false, List, [], ◌∷◌, length}
 use Prim.Native.Char.{code}
-use Rattle.std.proofs.Math.Option.{Option, none, some}
+use Rattle.std.specs.Prelude.{Option, None, Some}
 use Rattle.std.proofs.Math.Seq.{slice}
-use Rattle.format.specs.Lists.{◌>>=◌, provided}
+use Rattle.format.specs.Lists.{◌>>=◌}
 use Rattle.format.specs.Octets.{split_on}
 use Rattle.buffer.specs.Writing.{Wrote}
-use Rattle.probe_request.specs.Request.{octets_of, number_of, Said, said, Asked, edition_word, catalogue_words}
+use Rattle.probe_request.specs.Request.{octets_of, Said, said, Asked, edition_word, catalogue_words, marks_stored, by_letter, of_words}
 use Rattle.probe_request.specs.declared.Span.{Span}
-use Rattle.probe_request.specs.declared.Spelled.{Spelled}
-use Rattle.probe_request.specs.declared.Count.{Count}
+use Rattle.probe_request.specs.declared.Description.{Description}
+use Rattle.probe_request.specs.declared.Catalogue.{Catalogue}
 use Rattle.probe_request.specs.declared.Run.{Run}
-use Rattle.probe_request.specs.declared.Listed.{Listed}
 use Rattle.probe_request.specs.declared.Request.{Request}
+use Rattle.probe_request.specs.declared.Request.TheVariants.{Judge, Print, Read, Job}
+use Rattle.probe_request.specs.declared.Mark.{Mark}
+use Rattle.probe_request.specs.declared.Mark.TheVariants.{Space, Catalogue as Named, Stored}
 
-abbrev pub Inside : ℕ → Span → Type 0
-Inside n s = (s.from ≤ s.to) × (s.to ≤ n)
-
--- a stored description has no catalogue beside it
-abbrev pub Alone : Request → Type 0
-Alone r = r.stored ≡ true → (r.entries.from ≡ r.entries.to) × (r.names.from ≡ r.names.to)
-
--- every text of a request lies in a buffer of n octets
-abbrev pub Within : ℕ → Request → Type 0
-Within n r = Inside n r.stanza × Inside n r.entries × Inside n r.names × Inside n r.origin × Inside n r.octets × Alone r
+-- a part of a buffer of n octets
+pub record Inside (n : ℕ) (s : Span) : Type 0 where
+  pub ordered : s.from ≤ s.to
+  pub within : s.to ≤ n
 
 abbrev pub text_at : List ℕ → Span → List ℕ
 text_at xs s = slice s.from s.to xs
 
--- A request whose texts stand in a buffer; with the letter 0 there is none.
-abbrev pub named : Request → List ℕ → Asked
-named r xs = record {
-  letter = r.letter;
-  stored = r.stored;
-  stanza = text_at xs r.stanza;
-  edition = r.edition;
+-- a stored description has an edition, and no other has
+abbrev pub stored_by : Option ℕ → Bool
+stored_by None = false
+stored_by (Some e) = true
+
+abbrev pub edition_by : Option ℕ → ℕ
+edition_by None = 0
+edition_by (Some e) = e
+
+-- a stored description has no catalogue beside it
+pub record Alone (r : Run) : Type 0 where
+  pub entries : r.catalogue.entries.from ≡ r.catalogue.entries.to
+  pub names : r.catalogue.names.from ≡ r.catalogue.names.to
+
+-- every text of a run lies in a buffer of n octets
+pub record RunWithin (n : ℕ) (r : Run) : Type 0 where
+  pub text : Inside n r.lent.text
+  pub entries : Inside n r.catalogue.entries
+  pub names : Inside n r.catalogue.names
+  pub origin : Inside n r.origin
+  pub octets : Inside n r.octets
+  pub alone : stored_by r.lent.edition ≡ true → Alone r
+
+-- and every text of a request
+abbrev pub Within : ℕ → Request → Type 0
+Within n (Judge d) = Inside n d.text
+Within n (Print r) = RunWithin n r
+Within n (Read r) = RunWithin n r
+Within n (Job s) = Inside n s
+
+-- A request whose texts stand in a buffer, by its letter.
+abbrev pub whole_named : ℕ → Description → List ℕ → Asked
+whole_named x d xs = record {
+  letter = x;
+  stored = stored_by d.edition;
+  stanza = text_at xs d.text;
+  edition = edition_by d.edition;
+  first = 0;
+  many = 0;
+  entries = [];
+  names = [];
+  origin = [];
+  octets = [];
+  room = 0;
+}
+
+abbrev pub run_named : ℕ → Run → List ℕ → Asked
+run_named x r xs = record {
+  letter = x;
+  stored = stored_by r.lent.edition;
+  stanza = text_at xs r.lent.text;
+  edition = edition_by r.lent.edition;
   first = r.first;
   many = r.many;
-  entries = text_at xs r.entries;
-  names = text_at xs r.names;
+  entries = text_at xs r.catalogue.entries;
+  names = text_at xs r.catalogue.names;
   origin = text_at xs r.origin;
   octets = text_at xs r.octets;
   room = r.room;
 }
 
-abbrev pub asked : Request → List ℕ → Option Asked
-asked r xs = cond (eqb r.letter 0) none (some (named r xs))
+-- a job is no description, and has no edition
+abbrev pub in_file : Span → Description
+in_file s = record { text = s; edition = None }
 
--- the words after the one that ends at `end`, at a space or the end of the line
-abbrev pub words_at : List ℕ → ℕ → List (List ℕ)
-words_at l end = cond (leb (length l) end) [] (split_on (code " ") (drop (end + 1) l))
+abbrev pub named : Request → List ℕ → Asked
+named (Judge d) xs = whole_named (code "J") d xs
+named (Print r) xs = run_named (code "P") r xs
+named (Read r) xs = run_named (code "R") r xs
+named (Job s) xs = whole_named (code "W") (in_file s) xs
 
--- The first of them; if there is none, an empty one at the end of the line.
-pub record NextWord (l : List ℕ) (end : ℕ) (w : Span) : Type 0 where
-  pub words : end < length l → words_at l end ≡ text_at l w ∷ words_at l w.to
-  pub after : end ≤ w.from
-  pub ordered : w.from ≤ w.to
-  pub within : w.to ≤ length l
+-- what is named, if anything is
+abbrev pub asked : Option Request → List ℕ → Option Asked
+asked o xs = o >>= λ r. Some (named r xs)
 
--- What is said from `end` on, up to the end of the last word: its octets stand from n on.
-pub record Spells (o : Option (Said (List ℕ))) (l : List ℕ) (end : ℕ) (before after : List ℕ) (n : ℕ) (r : Spelled) : Type 0 where
+abbrev pub whole_asked : ℕ → Option Description → List ℕ → Option Asked
+whole_asked x o xs = o >>= λ d. Some (whole_named x d xs)
+
+abbrev pub job_asked : Option Span → List ℕ → Option Asked
+job_asked o xs = o >>= λ s. Some (whole_named (code "W") (in_file s) xs)
+
+abbrev pub run_asked : ℕ → Option Run → List ℕ → Option Asked
+run_asked x o xs = o >>= λ r. Some (run_named x r xs)
+
+-- the octet of a mark
+abbrev pub code_of : Mark → ℕ
+code_of Space = code " "
+code_of Named = code "C"
+code_of Stored = code "S"
+
+-- The words in what follows a word: nothing, or a space and the next words.
+abbrev pub words_of : List ℕ → List (List ℕ)
+words_of [] = []
+words_of (x ∷ t) = split_on (code " ") t
+
+-- the first of them, and what follows it
+pub record NextWord (rest word later : List ℕ) : Type 0 where
+  pub words : words_of rest ≡ word ∷ words_of later
+  pub octets : length rest ≡ 1 + length word + length later
+
+-- a value is said, and what follows it is left
+pub record Says {A : Type 0} (o : Option (Said A)) (rest : List ℕ) (v : A) (later : List ℕ) : Type 0 where
+  pub reads : o ≡ Some (record { value = v; later = words_of later })
+  pub shorter : length later ≤ length rest
+
+-- Octets are said: they stand from n on.
+pub record Spells (o : Option (Said (List ℕ))) (rest : List ℕ) (before after : List ℕ) (n to : ℕ) (later : List ℕ) : Type 0 where
   pub octets : List ℕ
-  pub reads : o ≡ provided r.good (record { value = octets; later = words_at l r.end })
-  pub wrote : r.good ≡ true → Wrote before after n r.to octets
-  pub from : n ≤ r.to
-  pub fits : 2 * r.to + end ≤ 2 * n + r.end
-  pub within : r.end ≤ length l
+  pub reads : o ≡ Some (record { value = octets; later = words_of later })
+  pub wrote : Wrote before after n to octets
+  pub fits : 2 * to + length later ≤ 2 * n + length rest
 
--- the number that is said from `end` on
-pub record Counts (o : Option (Said ℕ)) (l : List ℕ) (end : ℕ) (r : Count) : Type 0 where
-  pub reads : o ≡ provided r.good (record { value = r.value; later = words_at l r.end })
-  pub after : end ≤ r.end
-  pub within : r.end ≤ length l
-
--- the words of P and R up to the run of fields
-pub record Front : Type 0 where
+-- a description, and its edition
+pub record Lent : Type 0 where
   pub stanza : List ℕ
   pub edition : ℕ
-  pub first : ℕ
-  pub many : ℕ
-  pub later : List (List ℕ)
 
-abbrev pub front_of : ℕ → List (List ℕ) → Option Front
-front_of mark ws = do
+abbrev pub description_words : ℕ → List (List ℕ) → Option (Said Lent)
+description_words mark ws = do
   s ← said octets_of ws
   e ← edition_word mark s.later
-  f ← said number_of e.later
-  m ← said number_of f.later
-  some (record { stanza = s.value; edition = e.value; first = f.value; many = m.value; later = m.later })
+  Some (record { value = record { stanza = s.value; edition = e.value }; later = e.later })
 
--- these words are read from `end` on, and the stanza stands at the start of the buffer
-pub record Runs (mark : ℕ) (l : List ℕ) (end : ℕ) (before after : List ℕ) (r : Run) : Type 0 where
+-- a description is said: it stands at the start of the buffer
+pub record Described (mark : ℕ) (rest : List ℕ) (before after : List ℕ) (d : Description) (later : List ℕ) : Type 0 where
   pub octets : List ℕ
-  pub reads : front_of mark (words_at l end)
-      ≡ provided r.good (record { stanza = octets; edition = r.edition; first = r.first; many = r.many; later = words_at l r.end })
-  pub wrote : r.good ≡ true → Wrote before after 0 r.to octets
-  pub fits : 2 * r.to + end ≤ r.end
-  pub within : r.end ≤ length l
+  pub reads : description_words mark (words_of rest) ≡ Some (record { value = record { stanza = octets; edition = edition_by d.edition }; later = words_of later })
+  pub stored : stored_by d.edition ≡ marks_stored mark
+  pub start : d.text.from ≡ 0
+  pub wrote : Wrote before after 0 d.text.to octets
+  pub fits : 2 * d.text.to + length later ≤ length rest
 
--- A catalogue is read from `end` on, or none is named: its entries stand from n on, and its names after them.
-pub record Lists (mark : ℕ) (l : List ℕ) (end : ℕ) (before after : List ℕ) (n : ℕ) (r : Listed) : Type 0 where
+-- A catalogue is said, or none is named: its entries stand from n on, and its names after them.
+pub record Lists (mark : ℕ) (rest : List ℕ) (before after : List ℕ) (n : ℕ) (c : Catalogue) (later : List ℕ) : Type 0 where
   pub entries : List ℕ
   pub names : List ℕ
   pub between : List ℕ
-  pub reads : catalogue_words mark (words_at l end) ≡ provided r.good (record { value = record { entries = entries; names = names }; later = words_at l r.end })
-  pub wrote : r.good ≡ true → Wrote before between n r.middle entries × Wrote between after r.middle r.to names
-  pub from : n ≤ r.middle
-  pub on : r.middle ≤ r.to
-  pub fits : 2 * r.to + end ≤ 2 * n + r.end
-  pub within : r.end ≤ length l
+  pub reads : catalogue_words mark (words_of rest) ≡ Some (record { value = record { entries = entries; names = names }; later = words_of later })
+  pub start : c.entries.from ≡ n
+  pub middle : c.names.from ≡ c.entries.to
+  pub wrote_entries : Wrote before between n c.entries.to entries
+  pub wrote_names : Wrote between after c.entries.to c.names.to names
+  pub fits : 2 * c.names.to + length later ≤ 2 * n + length rest
+  pub none : marks_stored mark ≡ true → (entries ≡ []) × (names ≡ [])
+
+-- A line has a letter, a mark and a space, and then the words.
+pub record Begins (line : List ℕ) (x : ℕ) (m : Mark) (rest : List ℕ) : Type 0 where
+  pub reads : of_words (split_on (code " ") line) ≡ by_letter (code_of m) x (words_of rest)
+  pub shorter : length rest ≤ length line

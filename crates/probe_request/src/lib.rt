@@ -1,406 +1,335 @@
 // The request lines of the program probe, and their words.
 #![tactic(auto)]
 
-ghost use Rattle.std.specs.Prelude.{◌≡◌, false, cond, ◌-◌, ◌^◌, ◌<◌, ◌≤◌, min, length, take, drop};
-ghost use Rattle.std.proofs.Math.Seq.{slice};
-ghost use Rattle.format.specs.Octets.{among};
+ghost use Rattle.std.specs.Prelude.{◌≡◌, ◌-◌, ◌^◌, ◌≤◌, true, false, MatchOption, IfSome, [], min, not, eqb, length, take, drop, take_while};
+ghost use Rattle.format.specs.Lists.{null};
+ghost use Rattle.format.specs.Octets.{split_on};
 ghost use Rattle.octets.specs.Octets.{line_end};
 ghost use Rattle.buffer.specs.Writing.{Values};
-ghost use Rattle.probe_request.specs.Request.{octets_of, number_of, said, edition_word, whole_words, origin_word, run_words, by_letter, marks, request_of};
-ghost use Rattle.probe_request.specs.Words.{Within, asked, words_at, NextWord, Spells, Counts, Runs, Lists};
-
-use buffer::{Value, least};
+ghost use Rattle.probe_request.specs.Request.{octets_of, number_of, said, marks_stored, of_words, edition_word, origin_word, catalogue_words, whole_words, run_words, by_letter, request_of};
+ghost use Rattle.probe_request.specs.Words.{Inside, RunWithin, Within, text_at, code_of, edition_by, stored_by, asked, whole_asked, job_asked, run_asked, words_of, NextWord, Says, Spells, Described, description_words, Lists, Begins};
 
 // The longest line that may be a request, without its LF.
 const LONGEST: usize = 2200000;
 
-// Where a word stands in its line, or where the octets that it spells stand in a buffer.
+// Where the octets that a word spells stand in a buffer.
 #[derive(Clone, Copy)]
 pub struct Span {
     pub from: usize,
     pub to: usize,
 }
 
-// What a line asks for, by its letter, which is 0 if it is no request. A stored description and a job stand in the place of a
-// stanza; the entries of a catalogue are the octets of their word.
+impl Span {
+    // The octets that stand there.
+    pub fn of(self, xs: &[u8]) -> &[u8]
+        requires { Inside (length xs.now) self }
+        ensures { result.now ≡ text_at xs.now self }
+    {
+        &xs[self.from..self.to]
+    }
+}
+
+// A description: a stanza in a file, or a text that the DNS stores, with its edition.
 #[derive(Clone, Copy)]
-pub struct Request {
-    pub letter: u8,
-    pub stored: bool,
-    pub stanza: Span,
-    pub edition: usize,
-    pub first: usize,
-    pub many: usize,
+pub struct Description {
+    pub text: Span,
+    pub edition: Option<usize>,
+}
+
+// What a line lends of a catalogue: the octets of its entries, and the text of the names; a line that names none lends none.
+#[derive(Clone, Copy)]
+pub struct Catalogue {
     pub entries: Span,
     pub names: Span,
+}
+
+// A run of the fields of a description, and what is printed or read under it; only a request to read has an origin.
+#[derive(Clone, Copy)]
+pub struct Run {
+    pub lent: Description,
+    pub first: usize,
+    pub many: usize,
+    pub catalogue: Catalogue,
     pub origin: Span,
     pub octets: Span,
     pub room: usize,
 }
 
-// Where the octets that a word spells end in the buffer, and where the word ends.
+// What a line asks for, by its letter.
 #[derive(Clone, Copy)]
-struct Spelled {
-    good: bool,
-    to: usize,
-    end: usize,
+pub enum Request {
+    Judge(Description),
+    Print(Run),
+    Read(Run),
+    Job(Span),
 }
 
-// The number that a word spells, and where the word ends.
-#[derive(Clone, Copy)]
-struct Count {
-    good: bool,
-    value: usize,
-    end: usize,
+// What follows a line's letter: a space; or C, where a catalogue may be named; or S, where the description is stored.
+#[derive(Clone, Copy, PartialEq, Eq)]
+enum Mark {
+    Space,
+    Catalogue,
+    Stored,
 }
 
-// The words of a request up to its run of fields, and where they end; the stanza's octets end at `to`.
-#[derive(Clone, Copy)]
-struct Run {
-    good: bool,
-    to: usize,
-    edition: usize,
-    first: usize,
-    many: usize,
-    end: usize,
-}
-
-// The words of a catalogue, and where they end; its entries' octets end at `middle`, and its names' at `to`.
-#[derive(Clone, Copy)]
-struct Listed {
-    good: bool,
-    middle: usize,
-    to: usize,
-    end: usize,
-}
-
-// The word after the one that ends at `end`; an empty one if the line ends there.
-fn next_word(line: &[u8], end: usize) -> Span
-    requires { end ≤ length line.now }
-    ensures { NextWord line.now end result }
+// How many octets stand before the first space.
+fn before_space(xs: &[u8]) -> usize
+    ensures { result ≡ length (take_while (λ b. not (eqb b 32)) xs.now) }
 {
-    if end == line.len() {
-        return Span { from: end, to: end };
-    }
-    let from = end + 1;
-    let mut to = from;
-    while to < line.len() {
-        if line[to] == b' ' {
-            return Span { from: from, to: to };
-        }
-        to = to + 1;
-    }
-    Span { from: from, to: to }
+    xs.iter().take_while(|b| **b != b' ').count()
 }
 
-// Reads the octets that the word from i to e spells; '-' spells none.
-fn word_octets(out: &mut [u8], at: usize, t: &[u8], i: usize, e: usize) -> Value
-    requires { (at ≤ 2 ^ 30) × (i ≤ e) × (e ≤ length t.now) × (length t.now ≤ 2 ^ 24) }
-    ensures { Values out.old out.new at result (octets_of (slice i e t.now)) }
+// The next word, and what follows it; there is none at the end of the line.
+fn next_word(rest: &[u8]) -> Option<(&[u8], &[u8])>
+    ensures { MatchOption result (rest.now ≡ []) (λ r. NextWord rest.now r.0.now r.1.now) }
 {
-    if e - i < 1 {
-        return Value::Fault;
-    }
-    if e - i < 2 {
-        if t[i] == b'-' {
-            return Value::Upto(at);
-        }
-        return Value::Fault;
-    }
-    // no octet has the number 100, so none is left out
-    base_group::lettered(out, at, t, i, e, 100, 4, 16, 8, 4)
+    let (_, words) = rest.split_first()?;
+    Some(words.split_at(before_space(words)))
 }
 
-// Reads the octets that the next word spells, and stores them from `at` on.
-fn next_octets(line: &[u8], end: usize, out: &mut [u8], at: usize) -> Spelled
-    requires { (end ≤ length line.now) × (length line.now ≤ 2 ^ 24) × (at ≤ 2 ^ 30) }
-    ensures { Spells (said octets_of (words_at line.now end)) line.now end out.old out.new at result }
+// Reads the octets that a word spells; '-' spells none.
+fn word_octets(out: &mut [u8], at: usize, word: &[u8]) -> Option<usize>
+    requires place { at ≤ 2 ^ 30 }
+    requires short { length word.now ≤ 2 ^ 24 }
+    ensures { Values out.old out.new at result (octets_of word.now) }
 {
-    let word = next_word(line, end);
-    let from = word.from;
-    let to = word.to;
-    let v = word_octets(out, at, line, from, to);
-    match v {
-        Value::Fault => Spelled {
-            good: false,
-            to: at,
-            end: to,
-        },
-        Value::Upto(m) => Spelled {
-            good: true,
-            to: m,
-            end: to,
-        },
+    match word {
+        [] => None,
+        [b'-'] => Some(at),
+        [_] => None,
+        // no octet has the number 100, so none is left out
+        _ => base_group::lettered::<4, 8>(out, at, word, 100),
     }
 }
 
-// The answer for a word that is no number.
-fn no_number(end: usize) -> Count
-    ensures { result ≡ record { good = false; value = 0; end = end } }
+// Reads the octets that the next word spells, and stores them from `at` on: where they end, and what follows the word.
+fn next_octets<'a>(rest: &'a [u8], out: &mut [u8], at: usize) -> Option<(usize, &'a [u8])>
+    requires short { length rest.now ≤ 2 ^ 24 }
+    requires place { at ≤ 2 ^ 30 }
+    ensures { MatchOption result (said octets_of (words_of rest.now) ≡ None) (λ r. Spells (said octets_of (words_of rest.now)) rest.now out.old out.new at r.0 r.1.now) }
 {
-    Count {
-        good: false,
-        value: 0,
-        end: end,
-    }
+    let (word, rest) = next_word(rest)?;
+    let end = word_octets(out, at, word)?;
+    Some((end, rest))
 }
 
-// Reads the number, of at most 64 bits, that the digits of the next word spell.
-fn next_number(line: &[u8], end: usize) -> Count
-    requires { end ≤ length line.now }
-    ensures { Counts (said number_of (words_at line.now end)) line.now end result }
+// The number, of at most 64 bits, that the digits of a word spell.
+fn number(word: &[u8]) -> Option<usize>
+    ensures { result ≡ number_of word.now }
 {
-    let word = next_word(line, end);
-    let from = word.from;
-    let to = word.to;
+    if word.is_empty() {
+        return None;
+    }
     let mut value: usize = 0;
-    let mut i = from;
-    while i < to {
-        let b = line[i];
-        if b < b'0' {
-            return no_number(to);
+    for b in word {
+        if !b.is_ascii_digit() {
+            return None;
         }
-        if b'9' < b {
-            return no_number(to);
-        }
-        let d = (b - b'0') as usize;
-        if (usize::MAX - d) / 10 < value {
-            return no_number(to);
-        }
-        value = value * 10 + d;
-        i = i + 1;
+        value = value.checked_mul(10)?.checked_add(usize::from(*b - b'0'))?;
     }
-    Count {
-        good: from < to,
-        value: value,
-        end: to,
-    }
+    Some(value)
+}
+
+// Reads the number that the next word spells.
+fn next_number(rest: &[u8]) -> Option<(usize, &[u8])>
+    ensures { MatchOption result (said number_of (words_of rest.now) ≡ None) (λ r. Says (said number_of (words_of rest.now)) rest.now r.0 r.1.now) }
+{
+    let (word, rest) = next_word(rest)?;
+    Some((number(word)?, rest))
 }
 
 // Reads the edition, which only the line of a stored description names.
-fn next_edition(line: &[u8], mark: u8, end: usize) -> Count
-    requires { end ≤ length line.now }
-    ensures { Counts (edition_word mark (words_at line.now end)) line.now end result }
+fn next_edition(rest: &[u8], mark: Mark) -> Option<(Option<usize>, &[u8])>
+    ensures reads { MatchOption result (edition_word (code_of mark) (words_of rest.now) ≡ None) (λ r. Says (edition_word (code_of mark) (words_of rest.now)) rest.now (edition_by r.0) r.1.now) }
+    ensures stored { IfSome result (λ r. stored_by r.0 ≡ marks_stored (code_of mark)) }
 {
-    if mark == b'S' {
-        return next_number(line, end);
+    if mark == Mark::Stored {
+        let (edition, rest) = next_number(rest)?;
+        return Some((Some(edition), rest));
     }
-    Count {
-        good: true,
-        value: 0,
-        end: end,
-    }
+    Some((None, rest))
+}
+
+// Reads a description, and its edition if it is stored; its octets stand at the start of the buffer.
+fn next_description<'a>(
+    rest: &'a [u8],
+    mark: Mark,
+    octets: &mut [u8],
+) -> Option<(Description, &'a [u8])>
+    requires { length rest.now ≤ 2200000 }
+    ensures { MatchOption result (description_words (code_of mark) (words_of rest.now) ≡ None) (λ r. Described (code_of mark) rest.now octets.old octets.new r.0 r.1.now) }
+{
+    let (to, rest) = next_octets(rest, octets, 0)?;
+    let (edition, rest) = next_edition(rest, mark)?;
+    let text = Span { from: 0, to };
+    Some((Description { text, edition }, rest))
 }
 
 // Reads a catalogue, if the line may name one: whole entries, of 8 octets each, and the text of the names.
-fn next_catalogue(line: &[u8], mark: u8, end: usize, out: &mut [u8], at: usize) -> Listed
-    requires { (end ≤ length line.now) × (length line.now ≤ 2 ^ 22) × (at ≤ 2 ^ 22) }
-    ensures { Lists mark line.now end out.old out.new at result }
+fn next_catalogue<'a>(
+    rest: &'a [u8],
+    mark: Mark,
+    out: &mut [u8],
+    at: usize,
+) -> Option<(Catalogue, &'a [u8])>
+    requires short { length rest.now ≤ 2 ^ 22 }
+    requires place { at ≤ 2 ^ 22 }
+    ensures { MatchOption result (catalogue_words (code_of mark) (words_of rest.now) ≡ None) (λ r. Lists (code_of mark) rest.now out.old out.new at r.0 r.1.now) }
 {
-    if mark == b'C' {
-        let e = next_octets(line, end, out, at);
-        let n = next_octets(line, e.end, out, e.to);
-        let whole = (e.to - at) % 8 == 0;
-        return Listed {
-            good: e.good & n.good & whole,
-            middle: e.to,
-            to: n.to,
-            end: n.end,
+    if mark == Mark::Catalogue {
+        let (middle, rest) = next_octets(rest, out, at)?;
+        let (to, rest) = next_octets(rest, out, middle)?;
+        if (middle - at) % 8 != 0 {
+            return None;
+        }
+        let entries = Span {
+            from: at,
+            to: middle,
         };
+        let names = Span { from: middle, to };
+        return Some((Catalogue { entries, names }, rest));
     }
-    Listed {
-        good: true,
-        middle: at,
-        to: at,
-        end: end,
-    }
+    let none = Span { from: at, to: at };
+    let catalogue = Catalogue {
+        entries: none,
+        names: none,
+    };
+    Some((catalogue, rest))
 }
 
 // Reads the origin's octets, which only a request to read has.
-fn next_origin(line: &[u8], letter: u8, end: usize, out: &mut [u8], at: usize) -> Spelled
-    requires { (end ≤ length line.now) × (length line.now ≤ 2 ^ 24) × (at ≤ 2 ^ 30) }
-    ensures { Spells (origin_word letter (words_at line.now end)) line.now end out.old out.new at result }
+fn next_origin<'a>(
+    rest: &'a [u8],
+    letter: u8,
+    out: &mut [u8],
+    at: usize,
+) -> Option<(usize, &'a [u8])>
+    requires short { length rest.now ≤ 2 ^ 24 }
+    requires place { at ≤ 2 ^ 30 }
+    ensures { MatchOption result (origin_word letter (words_of rest.now) ≡ None) (λ r. Spells (origin_word letter (words_of rest.now)) rest.now out.old out.new at r.0 r.1.now) }
 {
     if letter == b'R' {
-        return next_octets(line, end, out, at);
+        return next_octets(rest, out, at);
     }
-    Spelled {
-        good: true,
-        to: at,
-        end: end,
-    }
+    Some((at, rest))
 }
 
-// The letter of a good request, else 0.
-fn letter_if(good: bool, letter: u8) -> u8
-    ensures { result ≡ cond good letter 0 }
+// Refuses words after the last one of a request.
+fn no_more(rest: &[u8]) -> Option<()>
+    ensures { MatchOption result (null (words_of rest.now) ≡ false) (λ _. null (words_of rest.now) ≡ true) }
 {
-    if good { letter } else { 0 }
+    if rest.is_empty() { Some(()) } else { None }
 }
 
-// Reads a request to judge, or a job, whose first word ends at `end`.
-fn read_whole(line: &[u8], end: usize, mark: u8, octets: &mut [u8], letter: u8) -> Request
-    requires { (end ≤ length line.now) × (length line.now ≤ 2200000) × (1100000 ≤ length octets.old) × (0 < letter) }
-    ensures { Within (length octets.old) result × (asked result octets.new ≡ whole_words mark letter (words_at line.now end)) }
+// Reads a request to judge, after its first word.
+fn read_whole(rest: &[u8], mark: Mark, octets: &mut [u8]) -> Option<Description>
+    requires short { length rest.now ≤ 2200000 }
+    requires room { 1100000 ≤ length octets.old }
+    ensures within { IfSome result (λ d. Inside (length octets.old) d.text) }
+    ensures request { whole_asked 74 result octets.new ≡ whole_words (code_of mark) 74 (words_of rest.now) }
 {
-    let word = next_octets(line, end, octets, 0);
-    let edition = next_edition(line, mark, word.end);
-    let good = word.good & edition.good;
-    Request {
-        letter: letter_if(good & (edition.end == line.len()), letter),
-        stored: mark == b'S',
-        stanza: Span {
-            from: 0,
-            to: word.to,
-        },
-        edition: edition.value,
-        first: 0,
-        many: 0,
-        entries: Span { from: 0, to: 0 },
-        names: Span { from: 0, to: 0 },
-        origin: Span { from: 0, to: 0 },
-        octets: Span { from: 0, to: 0 },
-        room: 0,
-    }
+    let (description, rest) = next_description(rest, mark, octets)?;
+    no_more(rest)?;
+    Some(description)
 }
 
-// Reads the stanza, or a stored description and its edition, and the run of a request.
-fn next_run(line: &[u8], mark: u8, end: usize, octets: &mut [u8]) -> Run
-    requires { (end ≤ length line.now) × (length line.now ≤ 2200000) }
-    ensures { Runs mark line.now end octets.old octets.new result }
+// Reads a job, after its first word.
+fn read_job(rest: &[u8], octets: &mut [u8]) -> Option<Span>
+    requires short { length rest.now ≤ 2200000 }
+    requires room { 1100000 ≤ length octets.old }
+    ensures within { IfSome result (λ s. Inside (length octets.old) s) }
+    ensures request { job_asked result octets.new ≡ whole_words 32 87 (words_of rest.now) }
 {
-    let s = next_octets(line, end, octets, 0);
-    let edition = next_edition(line, mark, s.end);
-    let first = next_number(line, edition.end);
-    let many = next_number(line, first.end);
-    Run {
-        good: s.good & edition.good & first.good & many.good,
-        to: s.to,
-        edition: edition.value,
-        first: first.value,
-        many: many.value,
-        end: many.end,
-    }
+    let (to, rest) = next_octets(rest, octets, 0)?;
+    no_more(rest)?;
+    Some(Span { from: 0, to })
 }
 
-// Reads a request to print or to read, whose first word ends at `end`.
-fn read_run(line: &[u8], end: usize, mark: u8, octets: &mut [u8], letter: u8) -> Request
-    requires { (end ≤ length line.now) × (length line.now ≤ 2200000) × (1100000 ≤ length octets.old) × (0 < letter) }
-    ensures { Within (length octets.old) result × (asked result octets.new ≡ run_words mark letter (words_at line.now end)) }
+// Reads a request to print or to read, after its first word.
+fn read_run(rest: &[u8], mark: Mark, octets: &mut [u8], letter: u8) -> Option<Run>
+    requires short { length rest.now ≤ 2200000 }
+    requires room { 1100000 ≤ length octets.old }
+    ensures within { IfSome result (λ r. RunWithin (length octets.old) r) }
+    ensures request { run_asked letter result octets.new ≡ run_words (code_of mark) letter (words_of rest.now) }
 {
-    let run = next_run(line, mark, end, octets);
-    let c = next_catalogue(line, mark, run.end, octets, run.to);
-    let o = next_origin(line, letter, c.end, octets, c.to);
-    let t = next_octets(line, o.end, octets, o.to);
-    let room = next_number(line, t.end);
-    let good = run.good & c.good & o.good & t.good & room.good;
-    Request {
-        letter: letter_if(good & (room.end == line.len()), letter),
-        stored: mark == b'S',
-        stanza: Span {
-            from: 0,
-            to: run.to,
-        },
-        edition: run.edition,
-        first: run.first,
-        many: run.many,
-        entries: Span {
-            from: run.to,
-            to: c.middle,
-        },
-        names: Span {
-            from: c.middle,
-            to: c.to,
-        },
+    let (lent, rest) = next_description(rest, mark, octets)?;
+    let (first, rest) = next_number(rest)?;
+    let (many, rest) = next_number(rest)?;
+    let (catalogue, rest) = next_catalogue(rest, mark, octets, lent.text.to)?;
+    let start = catalogue.names.to;
+    let (middle, rest) = next_origin(rest, letter, octets, start)?;
+    let (to, rest) = next_octets(rest, octets, middle)?;
+    let (room, rest) = next_number(rest)?;
+    no_more(rest)?;
+    Some(Run {
+        lent,
+        first,
+        many,
+        catalogue,
         origin: Span {
-            from: c.to,
-            to: o.to,
+            from: start,
+            to: middle,
         },
-        octets: Span {
-            from: o.to,
-            to: t.to,
-        },
-        room: room.value,
-    }
+        octets: Span { from: middle, to },
+        room,
+    })
 }
 
-// The answer for a line that is no request.
-fn no_request() -> Request
-    ensures { Within 0 result × (result.letter ≡ 0) }
+// Reads a request by its letter and the mark after it.
+fn read_by(letter: u8, mark: Mark, rest: &[u8], octets: &mut [u8]) -> Option<Request>
+    requires short { length rest.now ≤ 2200000 }
+    requires room { 1100000 ≤ length octets.old }
+    ensures within { IfSome result (λ r. Within (length octets.old) r) }
+    ensures request { asked result octets.new ≡ by_letter (code_of mark) letter (words_of rest.now) }
 {
-    Request {
-        letter: 0,
-        stored: false,
-        stanza: Span { from: 0, to: 0 },
-        edition: 0,
-        first: 0,
-        many: 0,
-        entries: Span { from: 0, to: 0 },
-        names: Span { from: 0, to: 0 },
-        origin: Span { from: 0, to: 0 },
-        octets: Span { from: 0, to: 0 },
-        room: 0,
+    match letter {
+        b'J' => Some(Request::Judge(read_whole(rest, mark, octets)?)),
+        b'P' => Some(Request::Print(read_run(rest, mark, octets, letter)?)),
+        b'R' => Some(Request::Read(read_run(rest, mark, octets, letter)?)),
+        b'W' if mark == Mark::Space => Some(Request::Job(read_job(rest, octets)?)),
+        _ => None,
     }
 }
 
-// Reads a request by its letter and the mark after it; `end` is where its first word ends.
-fn read_by(line: &[u8], end: usize, mark: u8, octets: &mut [u8], letter: u8) -> Request
-    requires { (end ≤ length line.now) × (length line.now ≤ 2200000) × (1100000 ≤ length octets.old) }
-    ensures { Within (length octets.old) result × (asked result octets.new ≡ by_letter mark letter (words_at line.now end)) }
+// The letter of a line, the mark after it, and what follows them from the space on.
+fn first_word(line: &[u8]) -> Option<(u8, Mark, &[u8])>
+    ensures { MatchOption result (of_words (split_on 32 line.now) ≡ None) (λ r. Begins line.now r.0 r.1 r.2.now) }
 {
-    if letter == b'J' {
-        return read_whole(line, end, mark, octets, letter);
+    let (letter, rest) = line.split_first()?;
+    let (mark, later) = rest.split_first()?;
+    if *mark == b' ' {
+        return Some((*letter, Mark::Space, rest));
     }
-    if letter == b'P' {
-        return read_run(line, end, mark, octets, letter);
+    if !later.starts_with(b" ") {
+        return None;
     }
-    if letter == b'R' {
-        return read_run(line, end, mark, octets, letter);
+    match *mark {
+        b'C' => Some((*letter, Mark::Catalogue, later)),
+        b'S' => Some((*letter, Mark::Stored, later)),
+        _ => None,
     }
-    if mark != b' ' {
-        return no_request();
-    }
-    if letter == b'W' {
-        return read_whole(line, end, mark, octets, letter);
-    }
-    no_request()
 }
 
-// Whether an octet after a letter marks a line.
-fn is_mark(b: u8) -> bool
-    ensures { result ≡ among b marks }
-{
-    (b == b'C') | (b == b'S')
-}
-
-// Reads what a line, without its LF, asks for. The octets of its words are stored one after another.
-pub fn read(line: &[u8], octets: &mut [u8]) -> Request
+// Reads what a line, without its LF, asks for, if it is a request. The octets of its words are stored one after another.
+#[tactic(auto, unfolding(crate::specs::Request::request_of))]
+pub fn read(line: &[u8], octets: &mut [u8]) -> Option<Request>
     requires { 1100000 ≤ length octets.old }
-    ensures { Within (length octets.old) result × (asked result octets.new ≡ request_of line.now) }
+    ensures within { IfSome result (λ r. Within (length octets.old) r) }
+    ensures request { asked result octets.new ≡ request_of line.now }
 {
-    if line.len() < 3 {
-        return no_request();
+    if line.len() > LONGEST {
+        return None;
     }
-    if LONGEST < line.len() {
-        return no_request();
-    }
-    let mark = line[1];
-    if mark == b' ' {
-        return read_by(line, 1, mark, octets, line[0]);
-    }
-    if line[2] != b' ' {
-        return no_request();
-    }
-    if is_mark(mark) {
-        return read_by(line, 2, mark, octets, line[0]);
-    }
-    no_request()
+    let (letter, mark, rest) = first_word(line)?;
+    read_by(letter, mark, rest, octets)
 }
 
 // The place of the first LF from i on, or the length if there is none.
 pub fn line_end(xs: &[u8], i: usize) -> usize
     requires { i ≤ length xs.now }
-    ensures { (i ≤ result) × (result ≤ length xs.now) × (result ≡ line_end xs.now i) }
+    ensures from { i ≤ result }
+    ensures within { result ≤ length xs.now }
+    ensures end { result ≡ line_end xs.now i }
 {
     octets::line_end(xs, i)
 }
@@ -410,16 +339,14 @@ pub fn line_end(xs: &[u8], i: usize) -> usize
 // line, which comes in many pieces, is not copied again with each piece.
 pub fn keep(buf: &mut [u8], start: usize) -> usize
     requires { start ≤ length buf.old }
-    ensures { (result ≡ min (length buf.old - start) 2200001) × (result ≤ length buf.old) × (result ≤ 2200001) × (take result buf.new ≡ take result (drop start buf.old)) }
+    ensures count { result ≡ min (length buf.old - start) 2200001 }
+    ensures within { result ≤ length buf.old }
+    ensures few { result ≤ 2200001 }
+    ensures kept { take result buf.new ≡ take result (drop start buf.old) }
 {
-    let n = least(buf.len() - start, LONGEST + 1);
-    if start == 0 {
-        return n;
-    }
-    let mut i = 0;
-    while i < n {
-        buf[i] = buf[start + i];
-        i = i + 1;
+    let n = (buf.len() - start).min(LONGEST + 1);
+    if start > 0 {
+        buf.copy_within(start..start + n, 0);
     }
     n
 }

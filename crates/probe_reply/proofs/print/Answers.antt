@@ -1,23 +1,15 @@
-use Rattle.format.specs.Stored.{as_file}
+use Rattle.std.proofs.Common.{arith}
 use Rattle.buffer.proofs.Laws.{wrote_text}
-use Rattle.probe_reply.specs.Entries.{entries_in}
-use Rattle.probe_reply.proofs.Numbers.{lent_entries}
-use Rattle.probe_reply.proofs.Results.{print_within, print_answered, all_printed}
-use native.Mathlib.Omega.{arith}
+use Rattle.probe_request.specs.Words.{run_named}
+use Rattle.probe_reply.specs.Reply.{asked_printing}
+use Rattle.probe_reply.proofs.Results.{answered, answer_fits, place_within, printing_told}
 use Rattle.probe_reply.proofs.print.Goals as goal
 
-pub slice_bounds-print_with-end : goal.slice_bounds-print_with-end
-slice_bounds-print_with-end c = omega (arith, c.numbers-n.ensures.0)
-
-pub put_reply-requires : goal.put_reply-requires
-put_reply-requires c = (
-  λ z. print_within (as_file _) c.args.first c.args.many (entries_in c.args.catalogue.now) _ _ _ c.print_with-reply.result _
-      (all_printed _ c.args.first c.args.many (entries_in c.args.catalogue.now) _ _ (lent_entries _ c.numbers-n.result _ c.numbers-n.ensures.1) _ _ c.print_with-reply.result _ c.print_with-reply.ensures) z,
-  omega (arith, c.requires),
-)
+pub put_reply-requires-clause-within : goal.put_reply-requires-clause-within
+put_reply-requires-clause-within c = place_within _ (printing_told (run_named 80 c.args.run c.args.octets.now)) c.args.text.now c.printed-reply.ensures
 
 pub returns : goal.returns
 returns c =
-    wrote_text _ _ (print_answered (as_file _) c.args.first c.args.many (entries_in c.args.catalogue.now) _ _ _ c.print_with-reply.result _
-    (all_printed _ c.args.first c.args.many (entries_in c.args.catalogue.now) _ _ (lent_entries _ c.numbers-n.result _ c.numbers-n.ensures.1) _ _ c.print_with-reply.result _ c.print_with-reply.ensures))
-    c.put_reply.ensures
+    let e = answered _ (printing_told (run_named 80 c.args.run c.args.octets.now)) c.args.text.now c.printed-reply.ensures in
+    let w = wrote_text _ _ e c.put_reply.ensures in
+    record { line = w; fits = omega (arith, w.count, answer_fits _ (asked_printing (run_named 80 c.args.run c.args.octets.now)) c.requires.room) }

@@ -1,23 +1,15 @@
-use Rattle.format.specs.Stored.{as_file}
+use Rattle.std.proofs.Common.{arith}
 use Rattle.buffer.proofs.Laws.{wrote_text}
-use Rattle.probe_reply.specs.Entries.{entries_in}
-use Rattle.probe_reply.proofs.Numbers.{lent_entries}
-use Rattle.probe_reply.proofs.Results.{read_within, read_answered, all_read}
-use native.Mathlib.Omega.{arith}
+use Rattle.probe_request.specs.Words.{run_named}
+use Rattle.probe_reply.specs.Reply.{asked_reading}
+use Rattle.probe_reply.proofs.Results.{answered, answer_fits, place_within, reading_told}
 use Rattle.probe_reply.proofs.read.Goals as goal
 
-pub slice_bounds-read_with-end : goal.slice_bounds-read_with-end
-slice_bounds-read_with-end c = omega (arith, c.numbers-n.ensures.0)
-
-pub put_reply-requires : goal.put_reply-requires
-put_reply-requires c = (
-  λ z. read_within (as_file _) c.args.first c.args.many (entries_in c.args.catalogue.now) _ _ _ c.read_with-reply.result _ _
-      (all_read _ c.args.first c.args.many (entries_in c.args.catalogue.now) _ _ (lent_entries _ c.numbers-n.result _ c.numbers-n.ensures.1) _ _ c.read_with-reply.result _ _ c.read_with-reply.ensures) z,
-  omega (arith, c.requires),
-)
+pub put_reply-requires-clause-within : goal.put_reply-requires-clause-within
+put_reply-requires-clause-within c = place_within _ (reading_told (run_named 82 c.args.run c.args.octets.now)) c.args.rdata.now c.taken-reply.ensures
 
 pub returns : goal.returns
 returns c =
-    wrote_text _ _ (read_answered (as_file _) c.args.first c.args.many (entries_in c.args.catalogue.now) _ _ _ c.read_with-reply.result _ _
-    (all_read _ c.args.first c.args.many (entries_in c.args.catalogue.now) _ _ (lent_entries _ c.numbers-n.result _ c.numbers-n.ensures.1) _ _ c.read_with-reply.result _ _ c.read_with-reply.ensures))
-    c.put_reply.ensures
+    let e = answered _ (reading_told (run_named 82 c.args.run c.args.octets.now)) c.args.rdata.now c.taken-reply.ensures in
+    let w = wrote_text _ _ e c.put_reply.ensures in
+    record { line = w; fits = omega (arith, w.count, answer_fits _ (asked_reading (run_named 82 c.args.run c.args.octets.now)) c.requires.room) }

@@ -1,37 +1,11 @@
-use Rattle.job_fault.proofs.Faults.{no_section, enough, not_one, has_line, bad_name, good_name}
-use native.Mathlib.Omega.{arith}
+use Rattle.std.proofs.Common.{arith, ◌∙◌}
+use Rattle.job_fault.proofs.Faults.{not_one, bad_name}
 use Rattle.job_fault.proofs.fault.origin_fault.Goals as goal
 
-pub returns-then-n-ne1 : goal.returns-then-n-ne1
-returns-then-n-ne1 c =
-    not_one c.args.j.now c.args.at c.args.k c.read_section-s.result c.read_section-s.ensures _ _ _
-    c.in-Lines.is (λ q. omega (arith, c.if-n-ne1.true))
+pub returns-then-s-ne1 : goal.returns-then-s-ne1
+returns-then-s-ne1 c =
+    c.at_line-then-s-ne1.ensures ∙ not_one _ _ c.args.k _ c.in-Some.ensures (λ q. omega (arith, c.if-s-ne1.true))
 
-pub read_origin-v-requires : goal.read_origin-v-requires
-read_origin-v-requires c = (
-  c.requires.0,
-  enough c.args.j.now c.args.at c.args.k c.read_section-s.result c.read_section-s.ensures _ _
-      _ c.in-Lines.is,
-)
-
-pub line_end-e-requires : goal.line_end-e-requires
-line_end-e-requires c =
-    has_line c.args.j.now c.args.at c.args.k c.read_section-s.result c.read_section-s.ensures _ _ _
-    c.in-Lines.is c.if-n-ne1.false
-
-pub returns-in-Bad : goal.returns-in-Bad
-returns-in-Bad c =
-    no_section c.args.j.now c.args.at c.args.k c.read_section-s.result c.read_section-s.ensures
-    c.in-Bad.is _ _ c.section_reason.ensures
-
-pub returns-in-Fault : goal.returns-in-Fault
-returns-in-Fault c =
-    bad_name c.args.j.now c.args.at c.args.k c.read_section-s.result c.read_section-s.ensures _ _ _
-    c.in-Lines.is _ _ c.read_origin-v.result c.read_origin-v.ensures c.if-n-ne1.false c.in-Fault.is _
-    c.line_end-e.ensures _ c.name_reason.ensures
-
-pub returns-in-Upto : goal.returns-in-Upto
-returns-in-Upto c =
-    good_name c.args.j.now c.args.at c.args.k c.read_section-s.result c.read_section-s.ensures _ _ _
-    c.in-Lines.is _ _ c.read_origin-v.result c.read_origin-v.ensures _ c.in-Upto.is _
-    c.records_fault.ensures
+pub returns-in-None : goal.returns-in-None
+returns-in-None c =
+    c.at_line-in-None.ensures ∙ bad_name c.args.j.now c.args.at c.args.k c.in-Some.s c.in-Some.ensures c.if-s-ne1.false c.in-None.ensures _ c.line_end-e.ensures _ c.name_reason.ensures

@@ -1,16 +1,10 @@
-use Rattle.job_form.proofs.Origins.{root_wire, other_wire, absolute_value}
-use borrow.Author.Rules.{rules}
+use Rattle.job_form.proofs.Origins.{absolute_value, relative_value}
 use Rattle.job_form.proofs.origin.absolute_name.Goals as goal
 
-pub name-x-requires : goal.name-x-requires
-name-x-requires c =
-    (search rules, search rules, search rules, c.requires, other_wire)
+pub returns-then-x-y : goal.returns-then-x-y
+returns-then-x-y c =
+    absolute_value c.args.t.now _ _ _ _ c.in_ok-x.x c.in_ok-y.y c.in_ok-x.ensures c.in_ok-y.ensures c.if-x-y.true
 
-pub name-y-requires : goal.name-y-requires
-name-y-requires c =
-    (search rules, search rules, search rules, c.requires, root_wire)
-
-pub returns : goal.returns
-returns c =
-    absolute_value c.args.t.now _ _ _ _ c.name-x.result c.name-y.result c.same_end.result c.name-x.ensures
-    c.name-y.ensures c.same_end.ensures
+pub returns-else-x-y : goal.returns-else-x-y
+returns-else-x-y c =
+    relative_value c.args.t.now _ _ _ _ c.in_ok-x.x c.in_ok-y.y c.in_ok-x.ensures c.in_ok-y.ensures c.if-x-y.false

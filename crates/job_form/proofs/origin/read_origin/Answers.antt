@@ -6,11 +6,11 @@ use Rattle.job_form.proofs.origin.read_origin.Goals as goal
 
 pub returns-then-n-ne1 : goal.returns-then-n-ne1
 returns-then-n-ne1 c =
-    not_one (lines_at c.args.j.now c.args.at) _ c.requires.1 (λ q. omega (arith, c.if-n-ne1.true))
+    not_one (lines_at c.args.j.now c.args.at) _ c.requires.lines (λ q. omega (arith, c.if-n-ne1.true))
 
 pub line_end-e-requires : goal.line_end-e-requires
 line_end-e-requires c =
-    some_lines c.args.j.now c.args.at (omega (arith, c.requires.1, c.if-n-ne1.false))
+    some_lines c.args.j.now c.args.at (omega (arith, c.requires.lines, c.if-n-ne1.false))
 
 pub returns : goal.returns
 returns c =

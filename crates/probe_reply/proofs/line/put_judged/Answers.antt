@@ -5,7 +5,7 @@ use Rattle.probe_reply.proofs.line.put_judged.Goals as goal
 
 pub put_octet-requires : goal.put_octet-requires
 put_octet-requires c =
-    omega (arith, c.put_numbers-end.ensures.count, numbers_most c.args.number c.args.place)
+    omega (arith, c.put_numbers-end.ensures.count, numbers_most c.args.reply.number c.args.reply.place)
 
 pub returns : goal.returns
 returns c =

@@ -5,13 +5,11 @@ use Rattle.probe_reply.proofs.line.put_result.Goals as goal
 
 pub put_octet-blank-requires : goal.put_octet-blank-requires
 put_octet-blank-requires c =
-    omega (arith, c.put_numbers-end.ensures.count, numbers_most c.args.number c.args.place)
+    omega (arith, c.put_numbers-end.ensures.count, numbers_most c.args.reply.number c.args.reply.place)
 
-pub put_octets-last-requires : goal.put_octets-last-requires
-put_octets-last-requires c = (
-  omega (arith, c.put_octet-blank.ensures.count, c.put_numbers-end.ensures.count, numbers_most c.args.number c.args.place),
-  omega (arith, c.requires),
-)
+pub put_octets-last-requires-clause-place : goal.put_octets-last-requires-clause-place
+put_octets-last-requires-clause-place c =
+    omega (arith, c.put_octet-blank.ensures.count, c.put_numbers-end.ensures.count, numbers_most c.args.reply.number c.args.reply.place)
 
 pub put_octet-requires : goal.put_octet-requires
 put_octet-requires c =
@@ -20,7 +18,7 @@ put_octet-requires c =
       c.put_octets-last.ensures.count,
       c.put_octet-blank.ensures.count,
       c.put_numbers-end.ensures.count,
-      numbers_most c.args.number c.args.place,
+      numbers_most c.args.reply.number c.args.reply.place,
       octets_most c.args.octets.now,
       c.requires,
     )
