@@ -171,7 +171,7 @@ fn token(t: &[u8], i: usize, q: u8) -> Next
     ended(t, i, j, q)
 }
 
-// The next token from i on, if one is left.
+// The next token from i on, if one is left. The scan is called with each quote written out, so that it is compiled for it.
 pub fn next_token(t: &[u8], i: usize) -> Option<Next>
     requires place { i ≤ length t.now }
     requires text { length t.now ≤ 1048576 }
@@ -180,8 +180,11 @@ pub fn next_token(t: &[u8], i: usize) -> Option<Next>
 {
     let a = i + octets::skip(&t[i..], Class::Blank);
     let b = *t.get(a)?;
-    if b == b'"' || b == b'\'' {
-        return Some(token(t, a + 1, b));
+    if b == b'"' {
+        return Some(token(t, a + 1, b'"'));
+    }
+    if b == b'\'' {
+        return Some(token(t, a + 1, b'\''));
     }
     Some(token(t, a, 0))
 }

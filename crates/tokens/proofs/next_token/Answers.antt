@@ -1,4 +1,4 @@
-use mathlib.Core.Path.{◌≡◌, ap, ◌∙◌}
+use mathlib.Core.Path.{◌≡◌, refl, ap, ◌∙◌}
 use Prim.Native.Nat.{◌+◌, ◌≤◌, ◌<◌}
 use lib.ListN.{length, get_or}
 use borrow.Author.Rules.{rules}
@@ -8,7 +8,7 @@ use Rattle.format.specs.Lists.{span}
 use Rattle.format.specs.Octets.{blank}
 use Rattle.octets.proofs.Slices.{front_within}
 use Rattle.octets.proofs.Blocks.{last_part}
-use Rattle.tokens.proofs.Scans.{no_token_lem, quoted_first, bare_first, quoted_within, bare_within, a_quote}
+use Rattle.tokens.proofs.Scans.{no_token_lem, quoted_first, bare_first, quoted_within, bare_within}
 use Rattle.tokens.proofs.next_token.Goals as goal
 
 pub overflow_add-a : goal.overflow_add-a
@@ -26,14 +26,25 @@ pub returns-then-b-eq34-clause-tokens : goal.returns-then-b-eq34-clause-tokens
 returns-then-b-eq34-clause-tokens c =
     let e = ap (λ k. c.args.i + k) (c.skip.ensures ∙ ap (λ s. length (span blank s).front) (last_part c.args.t.now c.args.i c.requires.place)) in
     let h : c.args.i + c.skip.result < length c.args.t.now = search rules in
-    let b : get_or c.args.t.now (c.args.i + c.skip.result) 0 ≡ c.in_ok-b.field-0.now = search rules in
-    c.token.ensures.tokens ∙ quoted_first c.args.t.now c.args.i _ c.requires.place e _ h b (a_quote _ c.then-b-eq34.either)
+    let b : get_or c.args.t.now (c.args.i + c.skip.result) 0 ≡ 34 = search (rules, c.if-b-eq34.true) in
+    c.token.ensures.tokens ∙ quoted_first c.args.t.now c.args.i _ c.requires.place e 34 h b refl
 
 pub returns-then-b-eq34-clause-within : goal.returns-then-b-eq34-clause-within
 returns-then-b-eq34-clause-within c =
     let e = ap (λ k. c.args.i + k) (c.skip.ensures ∙ ap (λ s. length (span blank s).front) (last_part c.args.t.now c.args.i c.requires.place)) in
-    let q : 1 ≤ c.in_ok-b.field-0.now = search rules in
-    quoted_within c.args.t.now c.args.i _ c.requires.place e _ c.token.result q c.token.ensures.from
+    quoted_within c.args.t.now c.args.i _ c.requires.place e 34 c.token.result (omega arith) c.token.ensures.from
+
+pub returns-then-b-eq39-clause-tokens : goal.returns-then-b-eq39-clause-tokens
+returns-then-b-eq39-clause-tokens c =
+    let e = ap (λ k. c.args.i + k) (c.skip.ensures ∙ ap (λ s. length (span blank s).front) (last_part c.args.t.now c.args.i c.requires.place)) in
+    let h : c.args.i + c.skip.result < length c.args.t.now = search rules in
+    let b : get_or c.args.t.now (c.args.i + c.skip.result) 0 ≡ 39 = search (rules, c.if-b-eq39.true) in
+    c.token-then-b-eq39.ensures.tokens ∙ quoted_first c.args.t.now c.args.i _ c.requires.place e 39 h b refl
+
+pub returns-then-b-eq39-clause-within : goal.returns-then-b-eq39-clause-within
+returns-then-b-eq39-clause-within c =
+    let e = ap (λ k. c.args.i + k) (c.skip.ensures ∙ ap (λ s. length (span blank s).front) (last_part c.args.t.now c.args.i c.requires.place)) in
+    quoted_within c.args.t.now c.args.i _ c.requires.place e 39 c.token-then-b-eq39.result (omega arith) c.token-then-b-eq39.ensures.from
 
 pub returns-clause-tokens : goal.returns-clause-tokens
 returns-clause-tokens c =
