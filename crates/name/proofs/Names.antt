@@ -8,7 +8,7 @@ use native.Mathlib.Omega.{arith}
 use lib.Dec.{leb, eqb}
 use lib.ListN.{length, drop, get_or, set, length-append, length-drop}
 use borrow.Author.Tests.{le-leb, lt-leb}
-use Rattle.std.proofs.lemmas.List.{get_or-drop, drop-drop}
+use Rattle.std.proofs.lemmas.List.{drop-drop}
 use Rattle.format.specs.Lists.{◌>>=◌, provided, cons_both, null, cons_first, split}
 use Rattle.format.specs.Token.{Item, plain, escape, octet_of, slash, unescaped_from, unescaped}
 use Rattle.format.specs.Text.{with_count}
@@ -16,11 +16,11 @@ use Rattle.format.specs.Name.{is_dot, label_before, wire_name}
 use Rattle.format.proofs.Lists.{split_some, map_some, map_first, drop_next, drop_none}
 use Rattle.format.proofs.Token.{none_left as nothing-unescaped}
 use Rattle.buffer.specs.Writing.{Wrote, Values, after}
-use Rattle.buffer.proofs.Laws.{wrote_one, wrote_append, wrote_before}
+use Rattle.buffer.proofs.Laws.{wrote_none, wrote_one, wrote_append, wrote_before}
 use Rattle.escape.specs.Escapes.{items_after, Within}
 use Rattle.name.specs.Name.{labels_of, spelled, limited, OneItem, BeforeDot, BeforeOrigin, Finished}
 use Rattle.buffer.proofs.Values.{Begun, begun_piece, begun_rest}
-use Rattle.escape.proofs.Escapes.{plain_unescaped, slash_unescaped, items_later}
+use Rattle.escape.proofs.Escapes.{plain_unescaped, slash_unescaped}
 
 -- the pieces, item by item
 octet_first : (i : Item) (is : List Item) → is_dot i ≡ false → labels_of (i ∷ is) ≡ cons_first (octet_of i) (labels_of is)
@@ -115,67 +115,66 @@ module _ (o : List ℕ) where
   unfolding wire_name unescaped_from
   spelled_none = refl
 
--- the octet that begins a text, plain or escaped
-pub one_plain : (t : List ℕ) → 0 < length t → eqb (get_or t 0 0) 92 ≡ false → OneItem t (Some (get_or t 0 0, 1))
-one_plain [] h f = absurd (omega arith)
-one_plain (x ∷ xs) h f = (plain x, refl, refl, omega arith, omega arith, plain_unescaped x xs (rw f))
+-- the octet at a place, plain or escaped
+module _ (t : List ℕ) (j : ℕ) (h : j < length t) where
+  plain_item : eqb (get_or t j 0) 92 ≡ false → unescaped (drop j t) ≡ cons_both (Some (plain (get_or t j 0))) (unescaped (drop (j + 1) t))
+  plain_item f = ap unescaped (drop_next t j h) ∙ plain_unescaped (get_or t j 0) (drop (j + 1) t) (rw f)
 
-module _ (t : List ℕ) (h : 0 < length t) (f : get_or t 0 0 ≡ 92) where
-  slash_items : unescaped t ≡ unescaped_from slash (drop 1 t)
-  slash_items = by t h f
-    where
-      by : (s : List ℕ) → 0 < length s → get_or s 0 0 ≡ 92 → unescaped s ≡ unescaped_from slash (drop 1 s)
-      by [] g e = absurd (omega arith)
-      by (x ∷ xs) g e = ap (λ y. unescaped (y ∷ xs)) e ∙ slash_unescaped xs
+  pub one_plain : eqb (get_or t j 0) 92 ≡ false → OneItem t j (Some (get_or t j 0, j + 1))
+  one_plain f = (plain (get_or t j 0), refl, refl, omega arith, omega arith, plain_item f)
 
-  pub no_escape_read : unescaped_from slash (drop 1 t) ≡ None → unescaped t ≡ None
-  no_escape_read q = slash_items ∙ q
+  module _ (f : get_or t j 0 ≡ 92) where
+    slash_items : unescaped (drop j t) ≡ unescaped_from slash (drop (j + 1) t)
+    slash_items = ap unescaped (drop_next t j h ∙ ap (λ x. x ∷ drop (j + 1) t) f) ∙ slash_unescaped (drop (j + 1) t)
 
-  pub one_escape : (r : Option (ℕ × ℕ)) (x n : ℕ) → r ≡ Some (x, n) → unescaped_from slash (drop 1 t) ≡ items_after (drop 1 t) r → Within (drop 1 t) r → OneItem t (Some (x, n + 1))
-  one_escape r x n e q w =
-      let v : Within (drop 1 t) (Some (x, n)) = rw e at w in
-      (escape x, refl, rw f, omega arith, omega (arith, v.1, length-drop 1 t), slash_items ∙ q ∙ items_later t r x n e)
+    pub no_escape_read : unescaped_from slash (drop (j + 1) t) ≡ None → unescaped (drop j t) ≡ None
+    no_escape_read q = slash_items ∙ q
 
--- The octets of a label, the first j of the text, stand in the buffer from n + 1 to m: with them, the rest spells what the whole text does.
-pub record Part (o₀ o : List ℕ) (n m : ℕ) (t : List ℕ) (j : ℕ) : Type 0 where
+    pub one_escape : (x n : ℕ) → unescaped_from slash (drop (j + 1) t) ≡ items_after (drop (j + 1) t) (Some (x, n)) → Within (drop (j + 1) t) (Some (x, n)) → OneItem t j (Some (x, j + 1 + n))
+    one_escape x n q w =
+        (escape x, refl, rw f, omega arith, omega (arith, w.1, length-drop (j + 1) t), slash_items ∙ q ∙ ap (λ s. cons_both (Some (escape x)) (unescaped s)) (drop-drop n (j + 1) t))
+
+-- The octets of a label, from i to j in the text, stand in the buffer from n + 1 to m: with them, the text from j on spells what it does from i on.
+pub record Part (o₀ o : List ℕ) (n m : ℕ) (t : List ℕ) (i j : ℕ) : Type 0 where
   pub octets : List ℕ
   pub wrote : Wrote o₀ o (n + 1) m octets
-  pub same : (origin : List ℕ) → spelled origin t ≡ named origin octets (unescaped (drop j t))
+  pub same : (origin : List ℕ) → spelled origin (drop i t) ≡ named origin octets (unescaped (drop j t))
 
-module _ {o₀ o : List ℕ} {n m : ℕ} {t : List ℕ} {j : ℕ} (p : Part o₀ o n m t j) where
+pub part_none : (o : List ℕ) (n : ℕ) (t : List ℕ) (i : ℕ) → Part o o n (n + 1) t i i
+part_none o n t i = record { octets = []; wrote = wrote_none o (n + 1); same = λ origin. sym (named_none origin (unescaped (drop i t))) }
+
+module _ {o₀ o : List ℕ} {n m : ℕ} {t : List ℕ} {i j : ℕ} (p : Part o₀ o n m t i j) where
+  pub part_fault : unescaped (drop j t) ≡ None → (origin : List ℕ) → spelled origin (drop i t) ≡ None
+  part_fault f origin = p.same origin ∙ ap (named origin p.octets) f
+
   -- one more octet
-  module _ (b k : ℕ) (d : eqb (get_or t j 0) 46 ≡ false) (g : OneItem (drop j t) (Some (b, k))) where
-    with_octet : (origin : List ℕ) → spelled origin t ≡ named origin (p.octets ++ b ∷ []) (unescaped (drop (j + k) t))
+  module _ (b k : ℕ) (d : eqb (get_or t j 0) 46 ≡ false) (g : OneItem t j (Some (b, k))) where
+    with_octet : (origin : List ℕ) → spelled origin (drop i t) ≡ named origin (p.octets ++ b ∷ []) (unescaped (drop k t))
     with_octet origin =
-        p.same origin ∙ ap (named origin p.octets) (g.5 ∙ ap (λ s. cons_both (Some g.0) (unescaped s)) (drop-drop k j t))
-        ∙ named_octet origin p.octets g.0 (unescaped (drop (j + k) t)) (g.2 ∙ ap (λ x. eqb x 46) first ∙ d)
-        ∙ ap (λ x. named origin (p.octets ++ x ∷ []) (unescaped (drop (j + k) t))) g.1
-      where
-        first : get_or (drop j t) 0 0 ≡ get_or t j 0
-        first = get_or-drop j t 0 0 ∙ ap (λ i. get_or t i 0) (omega arith)
+        p.same origin ∙ ap (named origin p.octets) g.5 ∙ named_octet origin p.octets g.0 (unescaped (drop k t)) (g.2 ∙ d)
+        ∙ ap (λ x. named origin (p.octets ++ x ∷ []) (unescaped (drop k t))) g.1
 
-    pub part_octet : (o' : List ℕ) → o' ≡ set o m b → Part o₀ o' n (m + 1) t (j + k)
+    pub part_octet : (o' : List ℕ) → o' ≡ set o m b → Part o₀ o' n (m + 1) t i k
     part_octet o' q = record { octets = p.octets ++ b ∷ []; wrote = wrote_append p.wrote (wrote_one o o' m b q); same = with_octet }
 
-    pub part_long : n + 63 < m → (origin : List ℕ) → spelled origin t ≡ None
-    part_long h origin = with_octet origin ∙ named_long origin (p.octets ++ b ∷ []) (unescaped (drop (j + k) t)) (omega (arith, p.wrote.count, length-append p.octets (b ∷ [])))
+    pub part_long : n + 63 < m → (origin : List ℕ) → spelled origin (drop i t) ≡ None
+    part_long h origin = with_octet origin ∙ named_long origin (p.octets ++ b ∷ []) (unescaped (drop k t)) (omega (arith, p.wrote.count, length-append p.octets (b ∷ [])))
 
   -- a dot
   module _ (h : j < length t) (d : get_or t j 0 ≡ 46) where
-    at_dot : (origin : List ℕ) → spelled origin t ≡ (spelled origin (drop (j + 1) t) >>= label_before p.octets)
+    at_dot : (origin : List ℕ) → spelled origin (drop i t) ≡ (spelled origin (drop (j + 1) t) >>= label_before p.octets)
     at_dot origin =
-        p.same origin ∙ ap (named origin p.octets) (ap unescaped (drop_next t j h) ∙ plain_unescaped (get_or t j 0) (drop (j + 1) t) (rw d))
-        ∙ named_dot origin p.octets (plain (get_or t j 0)) (unescaped (drop (j + 1) t)) (rw d)
+        p.same origin ∙ ap (named origin p.octets) (plain_item t j h (rw d)) ∙ named_dot origin p.octets (plain (get_or t j 0)) (unescaped (drop (j + 1) t)) (rw d)
 
-    pub part_empty : m ≤ n + 1 → (origin : List ℕ) → spelled origin t ≡ None
+    pub part_empty : m ≤ n + 1 → (origin : List ℕ) → spelled origin (drop i t) ≡ None
     part_empty k origin = at_dot origin ∙ by p.octets p.wrote.count
       where
         by : (s : List ℕ) → m ≡ n + 1 + length s → (spelled origin (drop (j + 1) t) >>= label_before s) ≡ None
         by [] q = empty_bind (spelled origin (drop (j + 1) t))
         by (x ∷ s) q = absurd (omega arith)
 
-    pub part_dot : (o' : List ℕ) → n + 1 < m → m ≤ n + 64 → o' ≡ set o n (m - (n + 1)) → BeforeDot o₀ o' n t (j + 1) m
-    part_dot o' b c q =
+    pub part_dot : (o' : List ℕ) → i ≤ j → n + 1 < m → m ≤ n + 64 → o' ≡ set o n (m - (n + 1)) → BeforeDot o₀ o' n t i (j + 1) m
+    part_dot o' a b c q =
         let s : m - (n + 1) ≡ length p.octets = omega (arith, p.wrote.count) in
         record {
           label = with_count p.octets;
@@ -187,7 +186,7 @@ module _ {o₀ o : List ℕ} {n m : ℕ} {t : List ℕ} {j : ℕ} (p : Part o₀
         }
 
   -- the end
-  pub part_last : (o' : List ℕ) → length t ≤ j → n + 1 < m → m ≤ n + 64 → o' ≡ set o n (m - (n + 1)) → BeforeOrigin o₀ o' n t m
+  pub part_last : (o' : List ℕ) → length t ≤ j → n + 1 < m → m ≤ n + 64 → o' ≡ set o n (m - (n + 1)) → BeforeOrigin o₀ o' n t i m
   part_last o' a b c q =
       let s : m - (n + 1) ≡ length p.octets = omega (arith, p.wrote.count) in
       record {
@@ -209,11 +208,10 @@ limited_value o₀ o n m v (xs, f, w) = let q : m - n ≡ length xs = omega (ari
 
 -- the labels, one after another
 module _ {o₀ o : List ℕ} {n m : ℕ} {all : Option (List ℕ)} (origin t : List ℕ) (j : ℕ) (b : Begun o₀ o n m all (spelled origin (drop j t))) where
-  pub dot_begun : {o' : List ℕ} {k z : ℕ} → BeforeDot o o' m (drop j t) k z → Begun o₀ o' n z all (spelled origin (drop (j + k) t))
-  dot_begun {k = k} g =
-      begun_piece g.label (spelled origin (drop (j + k) t)) b g.wrote (g.same origin ∙ ap (λ s. spelled origin s >>= λ w. Some (g.label ++ w)) (drop-drop k j t))
+  pub dot_begun : {o' : List ℕ} {k z : ℕ} → BeforeDot o o' m t j k z → Begun o₀ o' n z all (spelled origin (drop k t))
+  dot_begun {k = k} g = begun_piece g.label (spelled origin (drop k t)) b g.wrote (g.same origin)
 
-  pub with_origin : {o' o'' : List ℕ} {z : ℕ} {r : Option ℕ} → BeforeOrigin o o' m (drop j t) z → Finished o' o'' n z origin r → Values o₀ o'' n r (limited all)
+  pub with_origin : {o' o'' : List ℕ} {z : ℕ} {r : Option ℕ} → BeforeOrigin o o' m t j z → Finished o' o'' n z origin r → Values o₀ o'' n r (limited all)
   with_origin {o'' = o''} {z = z} g (y, w, q) = rw q (limited_value o₀ o'' n y all (begun_rest o'' (Some y) b (g.label ++ origin, g.same origin, wrote_append g.wrote w)))
 
   pub with_zero : {o' : List ℕ} {r : Option ℕ} → length t ≤ j → Finished o o' n m (0 ∷ []) r → Values o₀ o' n r (limited all)

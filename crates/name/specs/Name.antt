@@ -21,31 +21,31 @@ spelled origin t = unescaped t >>= λ is. wire_name (Some origin) (labels_of is)
 abbrev pub limited : Option (List ℕ) → Option (List ℕ)
 limited o = o >>= λ w. provided (leb (length w) 255) w
 
--- the octet that begins a text, plain or escaped, and how many octets it takes
-abbrev pub OneItem : List ℕ → Option (ℕ × ℕ) → Type 0
-OneItem t None = unescaped t ≡ None
-OneItem t (Some (x, n)) = (i : Item) × (octet_of i ≡ x) × (is_dot i ≡ eqb (get_or t 0 0) (code ".")) × (0 < n) × (n ≤ length t) × (unescaped t ≡ cons_both (Some i) (unescaped (drop n t)))
+-- the octet at a place of a text, plain or escaped, and the place after it
+abbrev pub OneItem : List ℕ → ℕ → Option (ℕ × ℕ) → Type 0
+OneItem t j None = unescaped (drop j t) ≡ None
+OneItem t j (Some (x, k)) = (i : Item) × (octet_of i ≡ x) × (is_dot i ≡ eqb (get_or t j 0) (code ".")) × (j < k) × (k ≤ length t) × (unescaped (drop j t) ≡ cons_both (Some i) (unescaped (drop k t)))
 
--- The label that begins t stands in the buffer from n to m, after its count. The name goes on after k octets of t, the label's
--- and the dot; or the origin follows.
-pub record BeforeDot (before after : List ℕ) (n : ℕ) (t : List ℕ) (k m : ℕ) : Type 0 where
+-- The label that begins at i stands in the buffer from n to m, after its count. The name goes on at k, after the dot; or the
+-- origin follows.
+pub record BeforeDot (before after : List ℕ) (n : ℕ) (t : List ℕ) (i k m : ℕ) : Type 0 where
   pub label : List ℕ
   pub wrote : Wrote before after n m label
   pub small : m ≤ n + 64
-  pub on : 0 < k
+  pub on : i < k
   pub within : k ≤ length t
-  pub same : (origin : List ℕ) → spelled origin t ≡ (spelled origin (drop k t) >>= λ w. Some (label ++ w))
+  pub same : (origin : List ℕ) → spelled origin (drop i t) ≡ (spelled origin (drop k t) >>= λ w. Some (label ++ w))
 
-pub record BeforeOrigin (before after : List ℕ) (n : ℕ) (t : List ℕ) (m : ℕ) : Type 0 where
+pub record BeforeOrigin (before after : List ℕ) (n : ℕ) (t : List ℕ) (i m : ℕ) : Type 0 where
   pub label : List ℕ
   pub wrote : Wrote before after n m label
   pub small : m ≤ n + 64
-  pub same : (origin : List ℕ) → spelled origin t ≡ Some (label ++ origin)
+  pub same : (origin : List ℕ) → spelled origin (drop i t) ≡ Some (label ++ origin)
 
-abbrev pub Labelled : List ℕ → List ℕ → ℕ → List ℕ → Option LabelEnd → Type 0
-Labelled before after n t None = (origin : List ℕ) → spelled origin t ≡ None
-Labelled before after n t (Some (Dot k m)) = BeforeDot before after n t k m
-Labelled before after n t (Some (Last m)) = BeforeOrigin before after n t m
+abbrev pub Labelled : List ℕ → List ℕ → ℕ → List ℕ → ℕ → Option LabelEnd → Type 0
+Labelled before after n t i None = (origin : List ℕ) → spelled origin (drop i t) ≡ None
+Labelled before after n t i (Some (Dot k m)) = BeforeDot before after n t i k m
+Labelled before after n t i (Some (Last m)) = BeforeOrigin before after n t i m
 
 -- "a final unescaped dot makes it absolute, else the origin is appended"
 abbrev pub name_end : Bool → List ℕ → List ℕ

@@ -8,8 +8,8 @@ ghost use Rattle.name.specs.Name.{spelled, limited, OneItem, Labelled, name_end,
 use buffer::{put, put_all, put_octet};
 use octets::is_alone;
 
-// How a label ends: at a dot, with how many octets it takes of the text, the dot too, and the place after the label in the
-// buffer; or at the end of the text, with the place after the label in the buffer.
+// How a label ends: at a dot, with the places after the dot in the text and after the label in the buffer; or at the end of the
+// text, with the place after the label in the buffer.
 #[derive(Clone, Copy)]
 enum LabelEnd {
     Dot(usize, usize),
@@ -27,27 +27,28 @@ fn limited_end(at: usize, m: usize) -> Option<usize>
     Some(m)
 }
 
-// The octet that begins t, or that of the escape that begins there, and how many octets of t it takes.
-fn octet(t: &[u8]) -> Option<(u8, usize)>
-    requires { 0 < length t.now }
-    ensures { OneItem t.now result }
+// The octet at j, or that of the escape that begins there, and the place after it.
+fn octet(t: &[u8], j: usize) -> Option<(u8, usize)>
+    requires { j < length t.now }
+    ensures { OneItem t.now j result }
 {
-    let b = t[0];
+    let b = t[j];
     if b == b'\\' {
-        let (x, n) = escape::read::read(&t[1..])?;
-        return Some((x, n + 1));
+        let (x, n) = escape::read::read(&t[j + 1..])?;
+        return Some((x, j + 1 + n));
     }
-    Some((b, 1))
+    Some((b, j + 1))
 }
 
-// Reads the label that begins t: stores its octets, and then its count before them.
-fn label(out: &mut [u8], at: usize, t: &[u8]) -> Option<LabelEnd>
+// Reads the label that begins at i: stores its octets, and then its count before them. It works on places in the whole text:
+// a part lent at each octet makes short labels slow.
+fn label(out: &mut [u8], at: usize, t: &[u8], i: usize) -> Option<LabelEnd>
     requires place { at < 2 ^ 31 }
-    requires text { 0 < length t.now }
-    ensures { Labelled out.old out.new at t.now result }
+    requires text { i < length t.now }
+    ensures { Labelled out.old out.new at t.now i result }
 {
     let mut m = at + 1;
-    let mut j = 0;
+    let mut j = i;
     while j < t.len() {
         if t[j] == b'.' {
             if m <= at + 1 {
@@ -56,13 +57,13 @@ fn label(out: &mut [u8], at: usize, t: &[u8]) -> Option<LabelEnd>
             put(out, at, (m - (at + 1)) as u8);
             return Some(LabelEnd::Dot(j + 1, m));
         }
-        let (b, n) = octet(&t[j..])?;
+        let (b, k) = octet(t, j)?;
         if at + 63 < m {
             return None;
         }
         put(out, m, b);
         m += 1;
-        j += n;
+        j = k;
     }
     put(out, at, (m - (at + 1)) as u8);
     Some(LabelEnd::Last(m))
@@ -90,7 +91,7 @@ fn labels(out: &mut [u8], at: usize, t: &[u8], origin: &[u8]) -> Option<usize>
     let mut m = at;
     let mut j = 0;
     while j < t.len() {
-        match label(out, m, &t[j..])? {
+        match label(out, m, t, j)? {
             LabelEnd::Last(r) => {
                 return finish(out, at, r, origin, false);
             }
@@ -98,7 +99,7 @@ fn labels(out: &mut [u8], at: usize, t: &[u8], origin: &[u8]) -> Option<usize>
                 if 255 < r - at {
                     return None;
                 }
-                j += k;
+                j = k;
                 m = r;
             }
         }
