@@ -3,7 +3,8 @@
 
 pub mod integer;
 
-ghost use Rattle.std.specs.Prelude.{◌+◌, ◌-◌, ◌≤◌, length, take, leb, ◌&&◌, [], ◌∷◌, ◌≡◌};
+ghost use Rattle.std.specs.Prelude.{◌+◌, ◌-◌, ◌≤◌, length, leb, ◌&&◌, [], ◌∷◌, ◌≡◌};
+ghost use Rattle.std.proofs.Math.Seq.{slice};
 ghost use Rattle.format.specs.Lists.{span, all_of};
 ghost use Rattle.format.specs.Octets.{letter, lowered, same_octets};
 ghost use Rattle.format.specs.Number.{decimal_of};
@@ -96,11 +97,12 @@ fn all_in(xs: &[u8], c: Class) -> bool
     all
 }
 
-// Whether there are at least 16 octets and the first 16 are all in the class.
-fn goes_on(xs: &[u8], c: Class) -> bool
-    ensures { result ≡ leb 16 (length xs.now) && all_of (in_class c) (take 16 xs.now) }
+// Whether at least 16 octets are left from i on and the first 16 are all in the class.
+fn goes_on(xs: &[u8], i: usize, c: Class) -> bool
+    requires { i ≤ length xs.now }
+    ensures { result ≡ leb 16 (length xs.now - i) && all_of (in_class c) (slice i (i + 16) xs.now) }
 {
-    16 <= xs.len() && all_in(&xs[..16], c)
+    16 <= xs.len() - i && all_in(&xs[i..i + 16], c)
 }
 
 // A place in the same line as i: 8 octets on if none of them is LF, else i.
@@ -116,17 +118,32 @@ fn eight_on(xs: &[u8], i: usize) -> usize
     i
 }
 
-// The end of the line that i is in: the place of its LF, or the end of the octets.
+// The place of the next LF from i on, or the end of the octets.
+fn next_lf(xs: &[u8], i: usize) -> usize
+    requires { i ≤ length xs.now }
+    ensures { result ≡ line_end xs.now i }
+{
+    for j in i..xs.len() {
+        if xs[j] == b'\n' {
+            return j;
+        }
+    }
+    xs.len()
+}
+
+// The end of the line that i is in: the place of its LF, or the end of the octets. An empty line is seen at once.
 pub fn line_end(xs: &[u8], i: usize) -> usize
     requires { i ≤ length xs.now }
     ensures { result ≡ line_end xs.now i }
 {
+    if i < xs.len() && xs[i] == b'\n' {
+        return i;
+    }
     let mut j = i;
-    while goes_on(&xs[j..], Class::NotNewline) {
+    while goes_on(xs, j, Class::NotNewline) {
         j += 16;
     }
-    let k = eight_on(xs, j);
-    k + skip(&xs[k..], Class::NotNewline)
+    next_lf(xs, eight_on(xs, j))
 }
 
 // Whether the octets, at least 16, are all free text. The last 16 are tested at once, though some may have been tested before.
@@ -135,7 +152,7 @@ fn long_free(xs: &[u8]) -> bool
     ensures { result ≡ all_of (in_class FreeText) xs.now }
 {
     let mut j = 0;
-    while goes_on(&xs[j..], Class::FreeText) {
+    while goes_on(xs, j, Class::FreeText) {
         j += 16;
     }
     xs.len() - j < 16 && all_in(&xs[xs.len() - 16..], Class::FreeText)
