@@ -54,7 +54,15 @@ fn same_octet(ignoring: bool, x: u8, y: u8) -> bool
 pub fn same(ignoring: bool, s: &[u8], t: &[u8]) -> bool
     ensures { result ≡ same_by ignoring s.now t.now }
 {
-    s.len() == t.len() && s.iter().zip(t).all(|(x, y)| same_octet(ignoring, *x, *y))
+    if s.len() != t.len() {
+        return false;
+    }
+    for i in 0..s.len() {
+        if !same_octet(ignoring, s[i], t[i]) {
+            return false;
+        }
+    }
+    true
 }
 
 // The same for texts of one length. The loop never stops early, so that it takes many octets at once.
