@@ -115,9 +115,11 @@ impl Numbered<'_> {
         let h = self.hashes[k];
         let name = catalogue::spelled(self.names, self.entries[k]);
         for j in 0..k {
-            let other = catalogue::spelled(self.names, self.entries[j]);
-            if self.hashes[j] == h && stanza_words::same_long(true, other, name) {
-                return true;
+            if self.hashes[j] == h {
+                let other = catalogue::spelled(self.names, self.entries[j]);
+                if stanza_words::same_long(true, other, name) {
+                    return true;
+                }
             }
         }
         false
@@ -149,7 +151,9 @@ impl Numbered<'_> {
     }
 }
 
-// How many entries come before the first bad one.
+// How many entries come before the first bad one. Not inlined: its array and that of `first_again` take 8 KiB of stack, which a
+// call without a catalogue does not need.
+#[inline(never)]
 fn good_before(entries: &[u64], names: &[u8]) -> usize
     ensures few { result ≤ 512 }
     ensures stopped { catalogued names.now (entries_at entries.now) ≡ stopped_at result names.now entries.now }

@@ -3,7 +3,7 @@ use native.Mathlib.Omega.{arith}
 use lib.ListN.{get_or}
 use Rattle.catalogue_judge.specs.Judging.{same_as}
 use Rattle.catalogue_judge.proofs.Marks.{any_found, none_next, names_other, spelled_same}
-use Rattle.catalogue_judge.proofs.Numbered.exact_again.Goals.{else-self-j-via-then-self-j+else-same_long, else-self-j-via-else-self-j}
+use Rattle.catalogue_judge.proofs.Numbered.exact_again.Goals.{then-self-j+else-same_long, else-self-j}
 use Rattle.catalogue_judge.proofs.Numbered.exact_again.Goals as goal
 
 pub spelled-name-requires : goal.spelled-name-requires
@@ -25,11 +25,11 @@ loop-j-preserved c =
     let s = c.args.self.now in
     let v = get_or s.entries.now c.loop-j.j 0 in
     let w = get_or s.entries.now c.args.k 0 in
-    elim c.else-self-j.branch [
-      | else-self-j-via-then-self-j+else-same_long b ↦
+    elim c.if-self-j.branch [
+      | then-self-j+else-same_long b ↦
           none_next (same_as s.names.now w) s.entries.now c.args.k c.loop-j.j c.loop-j-test.true (omega (arith, c.requires, s.within)) _
-          (spelled_same s.names.now v w _ _ _ c.spelled-other.ensures c.spelled-name.ensures b.same_long.ensures) c.loop-j.invariant b.if-same_long.false
-      | else-self-j-via-else-self-j b ↦
+          (spelled_same s.names.now v w _ _ _ b.spelled-other.ensures c.spelled-name.ensures b.same_long.ensures) c.loop-j.invariant b.if-same_long.false
+      | else-self-j b ↦
           none_next (same_as s.names.now w) s.entries.now c.args.k c.loop-j.j c.loop-j-test.true (omega (arith, c.requires, s.within)) _
           (names_other s.names.now v _ w _ (s.hashed c.loop-j.j (omega (arith, c.requires, c.loop-j-test.true))) (s.hashed c.args.k (omega (arith, c.requires))) b.if-self-j.false) c.loop-j.invariant refl
     ]
