@@ -1,11 +1,11 @@
 -- An entry by itself: `TYPE` and digits, and what makes the entry good.
-use Prim.Native.Nat.{ℕ, ◌+◌, ◌-◌, ◌≤◌}
+use Prim.Native.Nat.{ℕ, ◌+◌, ◌-◌, ◌≤◌, ◌<◌}
 use mathlib.Core.Path.{◌≡◌, refl, ap, ◌∙◌}
-use mathlib.Core.Bool.{Bool, true, false, not, cond, ◌&&◌}
+use mathlib.Core.Bool.{Bool, true, false, not, cond, ◌&&◌, and-false}
 use mathlib.Core.List.{List}
 use Rattle.std.specs.Prelude.{Option, None}
 use native.Mathlib.Omega.{arith}
-use lib.ListN.{length, take, drop, length-drop}
+use lib.ListN.{length, take, drop, length-drop, drop_of_length-le}
 use lib.Dec.{leb, eqb}
 use borrow.Author.Tests.{le-leb}
 use Rattle.format.specs.Lists.{null, all_of, span}
@@ -20,6 +20,9 @@ use Rattle.catalogue_judge.specs.Judging.{word_from, good_at}
 use Rattle.catalogue_judge.proofs.Words.{word_none}
 
 -- `TYPE` and one or more digits
+pub typed_short : (t : List ℕ) → length t < 5 → false ≡ is_type_number t
+typed_short t h = let n : length t ≤ 4 = omega arith in rw (drop_of_length-le t n, and-false)
+
 pub typed_long : (t : List ℕ) → 5 ≤ length t → is_type_number t ≡ same_word (take 4 t) (ascii "TYPE") && eqb (length (span digit (drop 4 t)).front) (length t - 4)
 typed_long t h =
     by (same_word (take 4 t) (ascii "TYPE")) some_octet

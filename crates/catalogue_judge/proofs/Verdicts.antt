@@ -116,7 +116,7 @@ Settled-count names ws m n r e s = rw (← e) s
 
 -- what the two passes over the entries say together
 module _ (names ws hashes : List ℕ) (n r : ℕ) (f : Front names ws hashes (min (length ws) 512) n) (s : Settled names ws n r) where
-  few_good : r ≤ 512
+  pub few_good : r ≤ 512
   few_good = omega (arith, f.within, s.within)
 
   inside : r ≤ length ws

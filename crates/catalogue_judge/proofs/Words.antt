@@ -1,11 +1,12 @@
 -- The number of a word: by the table it is found octet by octet, and words that are the same but for case have the same one.
 use Prim.Native.Nat.{ℕ, ◌+◌, ◌*◌, ◌%◌, ◌<◌}
-use mathlib.Core.Path.{◌≡◌, refl, sym, ap, ◌∙◌}
+use mathlib.Core.Path.{◌≡◌, refl, sym, ap, subst, ◌∙◌}
 use mathlib.Core.Bool.{Bool, true, false, not, cond, ◌&&◌, ◌||◌}
 use mathlib.Core.List.{List, [], ◌∷◌}
 use native.Mathlib.Omega.{arith}
+use native.Mathlib.Nat.{mod-lt}
 use lib.ListN.{length, drop, get_or}
-use Rattle.std.specs.Prelude.{None}
+use Rattle.std.specs.Prelude.{None, Some}
 use lib.Dec.{eqb}
 use borrow.Author.Tests.{eqb-true, eq-eqb}
 use Rattle.format.specs.Lists.{all_of}
@@ -42,6 +43,15 @@ module _ (t : List ℕ) (i h f : ℕ) (l : i < length t) (o : get_or t i 0 < 256
   word_on z =
       let (a, b) = name_octet_lem (get_or t i 0) (λ y. z (folded ∙ y)) in
       ap (λ x. word_from (mixed h x) (drop (i + 1) t)) (folded ∙ b) ∙ rw (drop_next t i l, a)
+
+-- the number of a name is below 2^56
+pub word_below : (h : ℕ) (t : List ℕ) (v : ℕ) → h < 72057594037927936 → word_from h t ≡ Some v → v < 72057594037927936
+word_below h [] v l e = let z : h ≡ v = cc in subst (λ x. x < 72057594037927936) z l
+word_below h (x ∷ t) v l e = by (name_octet x) (word_below (mixed h (lowered x)) t v (mod-lt _ (omega arith))) e
+  where
+    by : (b : Bool) → (word_from (mixed h (lowered x)) t ≡ Some v → v < 72057594037927936) → cond b (word_from (mixed h (lowered x)) t) None ≡ Some v → v < 72057594037927936
+    by true ih q = ih q
+    by false ih q = let z : ◌≡◌ {A = ℕ} 0 1 = cc in absurd (omega arith)
 
 -- a name has a number, and other words have none
 pub word_named : (h : ℕ) (t : List ℕ) → all_of name_octet t ≡ true → word_from h t ≡ None → ⊥
