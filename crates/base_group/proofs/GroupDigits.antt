@@ -1,5 +1,5 @@
 -- Digits taken from a text by an alphabet, and their octets, group by group.
-use Rattle.std.proofs.Common.{ℕ, suc, ◌+◌, ◌*◌, ◌/◌, ◌^◌, ◌≤◌, ◌<◌, ◌≡◌, refl, sym, ap, subst, ◌∙◌, Bool, true, false, List, [], ◌∷◌, ◌++◌, append_assoc, Option, None, Some, arith, length, drop, get_or, length-append, length-drop}
+use Rattle.std.proofs.Common.{ℕ, suc, ◌+◌, ◌*◌, ◌/◌, ◌^◌, ◌≤◌, ◌<◌, ◌≡◌, refl, sym, ap, subst, ◌∙◌, Bool, true, false, cond, List, [], ◌∷◌, ◌++◌, append_assoc, Option, None, Some, arith, length, drop, get_or, length-append, length-drop}
 use mathlib.Core.List.{append-nil}
 use native.Mathlib.Nat.{lt_of_lt_of_le, pow-le-pow_right, pow-le-pow_left, le_trans, mul-suc, mul-le-mul_left}
 use lib.Seq.{drop-drop}
@@ -24,6 +24,14 @@ few_digits w q v h k l =
     lt_of_lt_of_le l (le_trans a c)
 
 module _ (f : ℕ → Bool) where
+  pub without_append : (xs ys : List ℕ) → without f (xs ++ ys) ≡ without f xs ++ without f ys
+  without_append [] ys = refl
+  without_append (x ∷ xs) ys = by (f x) (without_append xs ys)
+    where
+      by : (b : Bool) → without f (xs ++ ys) ≡ without f xs ++ without f ys → cond b (without f (xs ++ ys)) (x ∷ without f (xs ++ ys)) ≡ cond b (without f xs) (x ∷ without f xs) ++ without f ys
+      by true ih = ih
+      by false ih = ap (λ zs. x ∷ zs) ih
+
   pub without_on : (t : List ℕ) (n : ℕ) → n < length t → f (get_or t n 0) ≡ true → without f (drop n t) ≡ without f (drop (n + 1) t)
   without_on t n h p = rw (drop_next t n h, p)
 
