@@ -4,6 +4,7 @@ use mathlib.Core.Path.{◌≡◌, refl, sym, ap, ◌∙◌}
 use mathlib.Core.List.{List, [], ◌∷◌, ◌++◌, map, append_assoc}
 use native.Mathlib.Omega.{arith}
 use lib.ListN.{length, get_or, take, drop, take-append-drop, length-take}
+use lib.Seq.{take_all}
 use Rattle.format.specs.Digits.{digits, upper_digit}
 use Rattle.format.specs.Octets.{same_octets}
 use Rattle.format.specs.Hex.{hex_text, counted_hex_text}
@@ -33,6 +34,10 @@ table_length t (x ∷ xs) = omega (arith, table_length t xs)
 module _ (t s : List ℕ) (c : ℕ) where
   pub table_count : c ≤ length s → length (table_text t (take c s)) ≡ 2 * c
   table_count h = omega (arith, table_length t (take c s), length-take c s)
+
+  -- all octets are among the first c
+  pub table_all : length s ≤ c → table_text t (take c s) ≡ table_text t s
+  table_all h = ap (table_text t) (take_all c s h)
 
   -- the first c octets, the first digit of the next one, and the rest
   pub table_parts : c < length s

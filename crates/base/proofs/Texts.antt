@@ -107,7 +107,7 @@ module _ (w g n : ℕ) (t : List ℕ) (grouped : Grouped w g n) where
   next_group xs ys l =
       two_texts (8 * g / w) xs ys (omega (arith, grouped.whole)) ∙ ap (λ s. s ++ chars t (to_digits w ys)) (group_whole xs l)
 
-  digits_fit : (r : ℕ) → r ≤ g → (8 * r + w - 1) / w ≤ 8 * g / w
+  pub digits_fit : (r : ℕ) → r ≤ g → (8 * r + w - 1) / w ≤ 8 * g / w
   digits_fit r h =
       let m : (8 * r + w - 1) / w < 8 * g / w + 1 = (div-lt_iff_lt-mul grouped.some_bits).1 (omega (arith, grouped.whole, grouped.some_bits)) in
       omega arith
