@@ -181,6 +181,13 @@ front (x ∷ xs) = by x (without_last_zeros xs) (front xs)
 pub front_length : (xs : List ℕ) → length (without_last_zeros xs) ≤ length xs
 front_length xs = omega (arith, length-take (length (without_last_zeros xs)) xs, ap length (front xs))
 
+pub block_length : (w : ℕ) (xs : List ℕ) → length (block_of w (without_last_zeros xs)) ≤ 2 + length xs
+block_length w xs = by (without_last_zeros xs) (front_length xs)
+  where
+    by : (l : List ℕ) → length l ≤ length xs → length (block_of w l) ≤ 2 + length xs
+    by [] h = omega arith
+    by (x ∷ l) h = omega arith
+
 -- a window with an octet that is not zero has a block
 not_zeros : (r : List ℕ) → all_of zero_octet r ≡ false → (without_last_zeros r ≡ [] → ⊥)
 not_zeros [] h e = cc
