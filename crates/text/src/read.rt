@@ -1,9 +1,9 @@
 // Reads strings of octets.
-ghost use Rattle.std.specs.Prelude.{◌+◌, ◌^◌, ◌<◌, ◌≤◌, ◌≡◌, length};
+ghost use Rattle.std.specs.Prelude.{◌+◌, ◌^◌, ◌<◌, ◌≤◌, ◌≡◌, length, take, drop};
 ghost use Rattle.format.specs.Lists.{span};
 ghost use Rattle.format.specs.Token.{quoted};
 ghost use Rattle.format.specs.Text.{string_value, read_string, read_raw};
-ghost use Rattle.buffer.specs.Writing.{Values};
+ghost use Rattle.buffer.specs.Writing.{Wrote, Values};
 ghost use Rattle.escape.specs.Escapes.{no_escape};
 ghost use Rattle.text.specs.Text.{token_of};
 
@@ -25,6 +25,20 @@ impl Plain for Unescaped {
     }
 }
 
+// Writes the run of octets from j on that begin no escape, and returns how many there are. Where the next escape follows at
+// once, as it often does after an escape, nothing is searched or copied.
+fn copy_run(out: &mut [u8], at: usize, t: &[u8], j: usize) -> usize
+    requires place { at < 2 ^ 32 }
+    requires octets { length t.now < 2 ^ 32 }
+    ensures count { result ≡ length (span no_escape (drop j t.now)).front }
+    ensures wrote { Wrote out.old out.new at (at + result) (take result (drop j t.now)) }
+{
+    if t.len() <= j || t[j] == b'\\' {
+        return 0;
+    }
+    copy_near::<Unescaped>(out, at, &t[j..])
+}
+
 // Reads the value of a quoted token's octets, of which the first begins an escape.
 fn escaped(out: &mut [u8], at: usize, t: &[u8]) -> Option<usize>
     requires place { at + length t.now < 2 ^ 31 }
@@ -36,7 +50,7 @@ fn escaped(out: &mut [u8], at: usize, t: &[u8]) -> Option<usize>
     while j < t.len() {
         let (b, k) = escape::read::read(&t[j + 1..])?;
         put(out, m, b);
-        let n = copy_near::<Unescaped>(out, m + 1, &t[j + 1 + k..]);
+        let n = copy_run(out, m + 1, t, j + 1 + k);
         m += 1 + n;
         j += 1 + k + n;
     }

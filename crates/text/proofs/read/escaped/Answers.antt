@@ -19,11 +19,11 @@ pub loop-j-preserved : goal.loop-j-preserved
 loop-j-preserved c =
     let t = c.args.t.now in
     let i = c.loop-j.j + 1 + c.in_ok-b.k in
-    let n = c.copy_near-n.result in
+    let n = c.copy_run-n.result in
     let r = rw (lent_rest t (c.loop-j.j + 1), c.in_ok-b.was) at c.read.ensures.items in
     let k = rw (lent_rest t (c.loop-j.j + 1), c.in_ok-b.was) at c.read.ensures.within in
-    let q = rw (lent_rest t i) at c.copy_near-n.ensures.count in
-    let w = rw (lent_rest t i) at c.copy_near-n.ensures.wrote in
+    let q = c.copy_run-n.ensures.count in
+    let w = c.copy_run-n.ensures.wrote in
     let e : drop n (drop i t) ≡ drop (c.loop-j.j + (1 + c.in_ok-b.k + n)) t = drop-drop n i t ∙ ap (λ m. drop m t) (omega arith) in
     let m : c.loop-j.m + (1 + n) ≡ c.loop-j.m + 1 + n = omega arith in
     let h : i + n ≤ length t = omega (arith, run_within no_escape n (drop i t) q, k.1, length-drop (c.loop-j.j + 1) t, length-drop i t) in
