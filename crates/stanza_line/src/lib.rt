@@ -202,7 +202,12 @@ fn field_verdict(
 fn name_again(s: &[u8], names: &[Span], t: &[u8]) -> bool
     ensures { result ≡ list_any (λ x. same_text (slice x.at x.end s.now) t.now) names.now }
 {
-    names.iter().any(|x| same_name(s, *x, t))
+    for x in names {
+        if same_name(s, *x, t) {
+            return true;
+        }
+    }
+    false
 }
 
 // Whether a name is not empty and is the same as a text, letters' case ignored.
