@@ -9,13 +9,13 @@ use native.Mathlib.Numerals.{add-one}
 use native.Mathlib.Nat.{pow-suc, pow-le-pow_right}
 use lib.ListN.{length, drop, get_or, length-append, length-map, replicate, length-replicate}
 use lib.Dec.{leb, ltb, eqb, lit<}
-use borrow.Author.Tests.{leb-true, lt-ltb, ltb-true, eqb-true, ne_eqb}
+use borrow.Author.Tests.{lt-leb, leb-true, lt-ltb, ltb-true, eqb-true, ne_eqb}
 use Rattle.format.specs.Lists.{◌>>=◌, provided, cons_both, each_of}
 use Rattle.format.specs.Octets.{Below, digit, letter, lowered, in_range, same_octets}
 use Rattle.format.specs.Digits.{digits, number_from, number, without_zeros, upper_digit, digit_value}
 use Rattle.format.specs.Number.{decimal, decimal_of, below}
 use Rattle.format.specs.Hex.{hex_pair}
-use Rattle.format.specs.Address.{small_number}
+use Rattle.format.specs.Address.{small_number, group_of}
 use Rattle.format.proofs.Lists.{and_left, and_right, bind_some, provided_some, drop_next, drop_none, same_octets_lem, octets_same}
 use Rattle.format.proofs.Digits.{digits_length, digits_number, zeros_length, number_bound}
 use Rattle.octets.proofs.Numbers.{value_in, value_each}
@@ -51,6 +51,10 @@ hex_more v n d h k = rw (add-one, pow-suc 16 n) (omega arith)
 
 pub hex_fits : (v n : ℕ) → n < 4 → v < 16 ^ n → v < 4096
 hex_fits v n h k = omega (arith, pow-le-pow_right {n = 16} (lit< tt) {i = n} {j = 3} (omega arith))
+
+-- no octet is no group
+pub empty_group : (t : List ℕ) → length t < 1 → None ≡ group_of t
+empty_group t h = rw (lt-leb 1 (length t) h)
 
 -- digits that were read are below the base
 pub digit_below : (b x d : ℕ) → digit_value b x ≡ Some d → d < b
