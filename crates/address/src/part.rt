@@ -73,7 +73,7 @@ fn small(t: &[u8]) -> Option<u64>
 }
 
 // The place of the first mark, where the first part ends.
-fn part_end(t: &[u8], mark: u8) -> Option<usize>
+pub fn part_end(t: &[u8], mark: u8) -> Option<usize>
     ensures { result ≡ position (λ x. eqb x mark) t.now }
 {
     t.iter().position(|b| *b == mark)
