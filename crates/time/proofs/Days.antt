@@ -37,7 +37,7 @@ day_in f k d e l h i =
     let g : days_before 0 + d ≡ days_before (k + 0) + e = rw b (omega arith) in
     rw a (passed k (suc (f - suc k)) 0 d e g ∙ rw (b, lt-ltb e (month_length k) i))
 
-day_is : (k d e : ℕ) → k < 1644 → days_before k + e ≡ d → e < month_length k → day_of d ≡ record { month = k; day = e }
+pub day_is : (k d e : ℕ) → k < 1644 → days_before k + e ≡ d → e < month_length k → day_of d ≡ record { month = k; day = e }
 day_is k d e l h i = day_in 1644 k d e l h i
 
 -- a day in range is before 2107
@@ -98,7 +98,7 @@ cycle_days (suc c) h =
 
 -- the months of a year, one after another: b says whether it is a leap year, and n is how many days month m has
 module _ (y m n : ℕ) (b : Bool) (l : b ≡ leap (1970 + y)) (e : n ≡ month_days b m) (h : m < 12) where
-  month_here : month_length (y * 12 + m) ≡ n
+  pub month_here : month_length (y * 12 + m) ≡ n
   month_here = month_at y m h ∙ rw (← l, e)
 
   pub month_next : days_before (y * 12 + (m + 1)) ≡ days_before (y * 12 + m) + n

@@ -1,27 +1,27 @@
 -- Laws of a moment's days and seconds, and of its digits.
 use Prim.Native.Nat.{ℕ, zero, suc, ◌+◌, ◌*◌, ◌-◌, ◌/◌, ◌%◌, ◌^◌, ◌≤◌, ◌<◌}
 use mathlib.Core.Path.{◌≡◌, refl, sym, ap, ◌∙◌}
-use mathlib.Core.Bool.{Bool, true, false, cond}
+use mathlib.Core.Bool.{Bool, true, false, cond, ◌&&◌}
 use native.Mathlib.Nat.{add-zero, pow-zero, pow-suc, mul-add-div_right, mul-add-mod_self_right, div-eq_of_lt, mod-eq_of_lt}
 use native.Mathlib.Omega.{arith}
 use mathlib.Core.List.{List, [], ◌∷◌, ◌++◌}
 use Rattle.std.specs.Prelude.{Option, None, Some}
 use lib.ListN.{length, take, drop, length-append, length-take, length-drop, take-append-drop}
 use lib.Seq.{take-take, drop-drop, take_at, drop_at}
-use lib.Dec.{eqb, ltb}
-use borrow.Author.Tests.{lt-ltb, le-ltb, le-leb, eqb-true, ltb-true}
+use lib.Dec.{eqb, ltb, leb}
+use borrow.Author.Tests.{lt-ltb, le-ltb, le-leb, eqb-true, leb-true, ltb-true}
 use Rattle.format.specs.Lists.{◌>>=◌, provided, cons_both, each_of}
-use Rattle.format.specs.Octets.{Below, digit, letter, lowered}
+use Rattle.format.specs.Octets.{Below, in_range, digit, letter, lowered}
 use Rattle.format.specs.Digits.{number_from, number, digit_value}
 use Rattle.format.specs.Number.{decimal_of}
-use Rattle.format.specs.Time.{leap, days_before, moment, digits_at, moment_of}
-use Rattle.format.proofs.Lists.{provided_some, below_append, below_take, below_drop}
+use Rattle.format.specs.Time.{leap, month_days, month_length, days_before, moment, digits_at, moment_of}
+use Rattle.format.proofs.Lists.{and_left, and_right, provided_some, below_append, below_take, below_drop}
 use Rattle.format.proofs.Digits.{number_bound, number_append}
 use Rattle.format.proofs.Finite.{at_each}
 use Rattle.octets.proofs.Slices.{lent}
 use Rattle.time.specs.Years.{year_days, days_in}
-use Rattle.time.specs.Moments.{moment_read}
-use Rattle.time.proofs.Days.{in_year, year_next}
+use Rattle.time.specs.Moments.{real_day, moment_read}
+use Rattle.time.proofs.Days.{in_year, year_next, month_at}
 
 -- the days before a year: one fewer after 2100
 abbrev late : ℕ → ℕ
@@ -58,6 +58,45 @@ pub days_before_lem : (year month a b : ℕ) → 1970 ≤ year → 1 ≤ month �
 days_before_lem year month a b h k l p q =
     let y : 1970 + (year - 1970) ≡ year = omega arith in
     rw (in_year (year - 1970) (month - 1) (omega arith), y, p, q)
+
+-- a day of the calendar
+pub real_month : (year month : ℕ) → 1970 ≤ year → 1 ≤ month → month ≤ 12 → month_length ((year - 1970) * 12 + (month - 1)) ≡ month_days (leap year) (month - 1)
+real_month year month h k l =
+    let y : 1970 + (year - 1970) ≡ year = omega arith in
+    month_at (year - 1970) (month - 1) (omega arith) ∙ rw y
+
+month_31 : (b : Bool) (m : ℕ) → m < 12 → month_days b m ≤ 31
+month_31 true m h = leb-true _ _ (at_each (λ m. leb (month_days true m) 31) 12 refl m h)
+month_31 false m h = leb-true _ _ (at_each (λ m. leb (month_days false m) 31) 12 refl m h)
+
+pub record Real (year month day : ℕ) : Type 0 where
+  pub first : 1970 ≤ year
+  pub last : year ≤ 2106
+  pub january : 1 ≤ month
+  pub december : month ≤ 12
+  pub some_day : 1 ≤ day
+  pub in_month : day ≤ 31
+
+pub real : (year month day : ℕ) → real_day year month day ≡ true → Real year month day
+real year month day e = by (in_range 1970 2106 year && in_range 1 12 month) refl e
+  where
+    by : (b : Bool) → in_range 1970 2106 year && in_range 1 12 month ≡ b → cond b (in_range 1 (month_length ((year - 1970) * 12 + (month - 1))) day) false ≡ true → Real year month day
+    by true a d =
+        let y = and_left (in_range 1970 2106 year) (in_range 1 12 month) a in
+        let m = and_right (in_range 1970 2106 year) (in_range 1 12 month) a in
+        let k = (year - 1970) * 12 + (month - 1) in
+        let f = leb-true 1970 year (and_left (leb 1970 year) (leb year 2106) y) in
+        let g = leb-true 1 month (and_left (leb 1 month) (leb month 12) m) in
+        let h = leb-true month 12 (and_right (leb 1 month) (leb month 12) m) in
+        record {
+          first = f;
+          last = leb-true year 2106 (and_right (leb 1970 year) (leb year 2106) y);
+          january = g;
+          december = h;
+          some_day = leb-true 1 day (and_left (leb 1 day) (leb day (month_length k)) d);
+          in_month = omega (arith, leb-true day (month_length k) (and_right (leb 1 day) (leb day (month_length k)) d), real_month year month f g h, month_31 (leap year) (month - 1) (omega arith));
+        }
+    by false a d = let z : ◌≡◌ {A = ℕ} 0 1 = cc in absurd (omega arith)
 
 -- the numbers of the first and of the last digits
 module _ (b : ℕ) where
