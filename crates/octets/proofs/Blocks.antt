@@ -11,7 +11,7 @@ use borrow.Author.Tests.{leb-true, le-leb, eqb-true, eqb-false, eq-eqb, ne_eqb}
 use Rattle.format.specs.Lists.{all_of, spanning, span}
 use Rattle.format.proofs.Lists.{and_left, and_right}
 use Rattle.octets.specs.Octets.{front_end}
-use Rattle.octets.proofs.Slices.{next, none, lent}
+use Rattle.octets.proofs.Slices.{next, none, lent, part}
 
 -- a part is its first part and then the second
 pub slice_append : (t : List ℕ) (a i j : ℕ) → a ≤ i → i ≤ j → j ≤ length t → slice a j t ≡ slice a i t ++ slice i j t
@@ -86,16 +86,39 @@ module _ (f : ℕ → Bool) where
       by true q = sym (all_length (slice i e t) ∙ eq-eqb (length (span f (slice i e t)).front) (length (slice i e t)) (omega (arith, eqb-true (front_end f t i e) e q, length-slice i e t l)))
       by false q = sym (all_length (slice i e t) ∙ ne_eqb (length (span f (slice i e t)).front) (length (slice i e t)) (λ m. eqb-false (front_end f t i e) e q (omega (arith, length-slice i e t l))))
 
--- a block that fits into what is left and passes
+-- the first n octets of what is left from j on, tested at once
+module _ (n : ℕ) (f : ℕ → Bool) (t : List ℕ) (j : ℕ) (h : j ≤ length t) where
+  abbrev pub left : List ℕ
+  left = take (length t - j) (drop j t)
+
+  left_length : length left ≡ length t - j
+  left_length = rw (lent t j (length t) h) (length-slice j (length t) t (omega arith))
+
+  block : j + n ≤ length t → take n left ≡ slice j (j + n) t
+  block l = rw (lent t j (length t) h) (part t j n (length t) l)
+
+  pub block_there : leb n (length left) && all_of f (take n left) ≡ true → j + n ≤ length t
+  block_there b = omega (arith, left_length, leb-true n (length left) (and_left (leb n (length left)) (all_of f (take n left)) b), h)
+
+  pub block_passes : leb n (length left) && all_of f (take n left) ≡ true → all_of f (slice j (j + n) t) ≡ true
+  block_passes b = ap (all_of f) (sym (block (block_there b))) ∙ and_right (leb n (length left)) (all_of f (take n left)) b
+
+  pub block_broken : j + n ≤ length t → leb n (length left) && all_of f (take n left) ≡ false → all_of f (slice j (j + n) t) ≡ false
+  block_broken l b = ap (all_of f) (sym (block l)) ∙ rest (rw (le-leb n (length left) (omega (arith, left_length))) at b)
+    where
+      rest : all_of f (take n left) ≡ false → all_of f (take n left) ≡ false
+      rest r = r
+
+-- a block from a place on that fits into what is left there and passes
 module _ (n r : ℕ) (b : Bool) (h : leb n r && b ≡ true) where
-  pub block_there : n ≤ r
-  block_there = leb-true n r (and_left (leb n r) b h)
+  pub place_there : n ≤ r
+  place_there = leb-true n r (and_left (leb n r) b h)
 
-  pub block_passes : b ≡ true
-  block_passes = and_right (leb n r) b h
+  pub place_passes : b ≡ true
+  place_passes = and_right (leb n r) b h
 
-pub block_broken : (n r : ℕ) (b : Bool) → n ≤ r → leb n r && b ≡ false → b ≡ false
-block_broken n r b l h = rw (le-leb n r l) at h
+pub place_broken : (n r : ℕ) (b : Bool) → n ≤ r → leb n r && b ≡ false → b ≡ false
+place_broken n r b l h = rw (le-leb n r l) at h
 
 -- a part that ends the list
 pub last_part : (t : List ℕ) (i : ℕ) → i ≤ length t → take (length t - i) (drop i t) ≡ slice i (length t) t

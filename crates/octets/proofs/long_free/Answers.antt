@@ -6,7 +6,7 @@ use borrow.Author.Tests.{le-ltb}
 use Rattle.format.specs.Lists.{all_of}
 use Rattle.octets.specs.Octets.{in_class}
 use Rattle.octets.specs.declared.Class.TheVariants.{FreeText}
-use Rattle.octets.proofs.Blocks.{all_whole, all_over, all_off, block_there, block_passes, block_broken, last_part}
+use Rattle.octets.proofs.Blocks.{all_whole, all_over, all_off, place_there, place_passes, place_broken, last_part}
 use native.Mathlib.Omega.{arith}
 use Rattle.octets.proofs.long_free.Goals as goal
 
@@ -14,10 +14,10 @@ pub loop-j-preserved : goal.loop-j-preserved
 loop-j-preserved c =
     let a = all_of (in_class FreeText) (slice c.loop-j.j (c.loop-j.j + 16) c.args.xs.now) in
     let b = sym c.goes_on.ensures ∙ c.loop-j-test.true in
-    let n = block_there 16 (length c.args.xs.now - c.loop-j.j) a b in (
+    let n = place_there 16 (length c.args.xs.now - c.loop-j.j) a b in (
       omega (arith, n),
       all_whole (in_class FreeText) c.args.xs.now 0 c.loop-j.j (c.loop-j.j + 16) (omega arith) (omega arith) (omega (arith, n))
-          c.loop-j.invariant.1 (block_passes 16 (length c.args.xs.now - c.loop-j.j) a b),
+          c.loop-j.invariant.1 (place_passes 16 (length c.args.xs.now - c.loop-j.j) a b),
     )
 
 pub returns-then-xs-j-lt16 : goal.returns-then-xs-j-lt16
@@ -34,5 +34,5 @@ returns-else-xs-j-lt16 c =
     let f = in_class FreeText in
     le-ltb _ _ c.if-xs-j-lt16.false
     ∙ all_off f xs 0 c.loop-j.j (c.loop-j.j + 16) (length xs) (omega arith) (omega arith) (omega arith) (omega arith)
-    (block_broken 16 (length xs - c.loop-j.j) _ (omega arith) (sym c.goes_on.ensures ∙ c.loop-j-test.false))
+    (place_broken 16 (length xs - c.loop-j.j) _ (omega arith) (sym c.goes_on.ensures ∙ c.loop-j-test.false))
     ∙ ap (all_of f) (take_all (length xs) xs (omega arith))
