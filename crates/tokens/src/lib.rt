@@ -178,7 +178,7 @@ pub fn next_token(t: &[u8], i: usize) -> Option<Next>
     ensures tokens { tokens_by t.now result ≡ tokens (drop i t.now) }
     ensures within { Within t.now i result }
 {
-    let a = i + octets::skip(&t[i..], Class::Blank);
+    let a = i + octets::skip_far(&t[i..], Class::Blank);
     let b = *t.get(a)?;
     if b == b'"' {
         return Some(token(t, a + 1, b'"'));
