@@ -82,7 +82,9 @@ fn block_stands(t: &[u8], q: u8) -> bool
     all
 }
 
-// The end of the run of octets from i on that stand for themselves, found quickly if the run is long.
+// The end of the run of octets from i on that stand for themselves, found quickly if the run is long. It is kept out of `skip`,
+// so that what most runs need is compiled for each quote where it is called.
+#[inline(never)]
 fn skip_long(t: &[u8], i: usize, q: u8) -> usize
     requires { i ≤ length t.now }
     ensures { result ≡ front_end q t.now i (length t.now) }
@@ -104,6 +106,7 @@ fn near(t: &[u8], i: usize) -> usize
 }
 
 // The end of the run of octets from i on that stand for themselves.
+#[inline(always)]
 fn skip(t: &[u8], i: usize, q: u8) -> usize
     requires { i ≤ length t.now }
     ensures { result ≡ front_end q t.now i (length t.now) }
@@ -158,6 +161,7 @@ fn ended(t: &[u8], i: usize, j: usize, q: u8) -> Next
 }
 
 // The token whose octets start at i: after the quote q, or bare if q is 0.
+#[inline(always)]
 fn token(t: &[u8], i: usize, q: u8) -> Next
     requires place { i ≤ length t.now }
     requires quote { q < 92 }
