@@ -294,3 +294,12 @@ module _ (t : List ℕ) (i a : ℕ) (h : i ≤ length t) (p : a ≡ i + length (
       by false k = let s : e ≡ a = omega (arith, ltb-false a e k) in let g : blank (get_or t a 0) ≡ true = rw (s, next t a l) at v in let m : ◌≡◌ {A = Bool} true false = sym g ∙ not_blank l in let n : ◌≡◌ {A = ℕ} 0 1 = cc in absurd (omega arith)
   bare_within (Quoted b e) l f = absurd (omega arith)
   bare_within Broken l f = tt
+
+-- a backslash never stands for itself
+pub slash_stops : (q x : ℕ) → x ≡ 92 → standing q x ≡ false
+slash_stops zero x e = rw e
+slash_stops (suc q) x e = rw e (by (not (eqb 92 (suc q))))
+  where
+    by : (b : Bool) → b && false && true ≡ false
+    by true = refl
+    by false = refl

@@ -119,6 +119,17 @@ fn skip(t: &[u8], i: usize, q: u8) -> usize
     skip_long(t, e, q)
 }
 
+// The same after an escape, where the next one often follows at once.
+fn skip_after(t: &[u8], i: usize, q: u8) -> usize
+    requires { i ≤ length t.now }
+    ensures { result ≡ front_end q t.now i (length t.now) }
+{
+    if i < t.len() && t[i] == b'\\' {
+        return i;
+    }
+    skip(t, i, q)
+}
+
 // Whether a backslash stands at j, before an octet that it takes into the token.
 fn escape_at(t: &[u8], j: usize) -> bool
     requires { j ≤ length t.now }
@@ -170,7 +181,7 @@ fn token(t: &[u8], i: usize, q: u8) -> Next
 {
     let mut j = skip(t, i, q);
     while escape_at(t, j) {
-        j = skip(t, j + 2, q);
+        j = skip_after(t, j + 2, q);
     }
     ended(t, i, j, q)
 }
