@@ -132,17 +132,19 @@ fn eight_on(xs: &[u8], i: usize) -> usize
     i
 }
 
-// The place of the next LF from i on, or the end of the octets.
+// The place of the next LF from i on, or the end of the octets. Both exits answer j, so that it stays in one register.
 fn next_lf(xs: &[u8], i: usize) -> usize
     requires { i ≤ length xs.now }
     ensures { result ≡ line_end xs.now i }
 {
-    for j in i..xs.len() {
+    let mut j = i;
+    while j < xs.len() {
         if xs[j] == b'\n' {
             return j;
         }
+        j += 1;
     }
-    xs.len()
+    j
 }
 
 // The end of the line that i is in: the place of its LF, or the end of the octets. An empty line is seen at once.
