@@ -16,7 +16,8 @@ use Rattle.format.proofs.Lists.{and_left, and_right, not_true, drop_next as next
 use Rattle.format.proofs.Token.{in_bare_lem, onto_all, onto_bare, onto_quote}
 use Rattle.octets.proofs.Slices.{span_front, span_rest, span_length, lent}
 use Rattle.octets.proofs.Blocks.{slice_append}
-use Rattle.std.specs.Prelude.{Some}
+use Rattle.std.specs.Prelude.{Some, ◌⊎◌}
+use mathlib.Core.Logic.{inl, inr}
 use Rattle.tokens.specs.declared.Next.{Next}
 use Rattle.tokens.specs.declared.Next.TheVariants.{Bare, Quoted, Broken}
 use Rattle.tokens.specs.Tokens.{tokens_by, inside, standing, front_end, escapes, parted_off, closes, ended_at, From, Within}
@@ -294,6 +295,11 @@ module _ (t : List ℕ) (i a : ℕ) (h : i ≤ length t) (p : a ≡ i + length (
       by false k = let s : e ≡ a = omega (arith, ltb-false a e k) in let g : blank (get_or t a 0) ≡ true = rw (s, next t a l) at v in let m : ◌≡◌ {A = Bool} true false = sym g ∙ not_blank l in let n : ◌≡◌ {A = ℕ} 0 1 = cc in absurd (omega arith)
   bare_within (Quoted b e) l f = absurd (omega arith)
   bare_within Broken l f = tt
+
+-- either quote begins a quoted token
+pub a_quote : (q : ℕ) → (q ≡ 34) ⊎ ((q ≡ 34 → ⊥) × (q ≡ 39)) → scan_step between q ≡ skip (inside q)
+a_quote q (inl e) = rw e
+a_quote q (inr e) = rw (e.1)
 
 -- a backslash never stands for itself
 pub slash_stops : (q x : ℕ) → x ≡ 92 → standing q x ≡ false
